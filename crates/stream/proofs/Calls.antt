@@ -1,0 +1,144 @@
+-- What each call comes to, from the tests on its way. Assumes nothing.
+use mathlib.Core.Path.{_≡_, refl, sym}
+use mathlib.Core.Bool.{Bool, true, false, cond}
+use mathlib.Core.List.{List}
+use Prim.Native.Nat.{ℕ, _+_, _^_, _≤_, _<_}
+use native.Mathlib.Omega.{arith}
+use borrow.Author.Tests.{lt-ltb, le-ltb, ltb-false, eqb-true, ne-eqb}
+use lib.ListN.{length}
+use lib.Dec.{ltb, eqb}
+use Rattle.stream.specs.Format.{fit, unpackOf, packOf, wordAt}
+use Rattle.stream.specs.Calls.{badLength, badTail, checked, noRoom, over, Outcome, written, refused, outcome, unpacking, packing, told, entry, wordCount, wordEntry}
+use Rattle.stream.specs.declared.Coded.the-variants.{Done, BadWord, BadLength, BadTail, NoRoom}
+
+-- ---- the checks
+
+module _ (s : List ℕ) (next : ℕ) where
+  pub cut-told : badLength s ≡ true → checked s next ≡ 11
+  unfolding checked
+  cut-told a = rw a
+
+  pub tail-told : badLength s ≡ false → badTail s ≡ true → checked s next ≡ 12
+  unfolding checked
+  tail-told a b = rw (a, b)
+
+  pub next-told : badLength s ≡ false → badTail s ≡ false → checked s next ≡ next
+  unfolding checked
+  next-told a b = rw (a, b)
+
+-- what is wrong with a stream is told whatever the next check says
+pub flaw-told : (s : List ℕ) (next : ℕ) → (checked s 0 ≡ 0 → ⊥) → checked s next ≡ checked s 0
+unfolding checked
+flaw-told s next = go (badLength s) (badTail s)
+  where
+    go : (a b : Bool) → (_≡_ {A = ℕ} (cond a 11 (cond b 12 0)) 0 → ⊥) → cond a 11 (cond b 12 next) ≡ cond a 11 (cond b 12 0)
+    go true b e = refl
+    go false true e = refl
+    go false false e = absurd (e refl)
+
+-- nothing refused: the stream passes both tests, and the next check
+pub good : (s : List ℕ) (next : ℕ) → checked s next ≡ 0 → (badLength s ≡ false) × (badTail s ≡ false) × (next ≡ 0)
+unfolding checked
+good s next = go (badLength s) (badTail s)
+  where
+    go : (a b : Bool) → cond a 11 (cond b 12 next) ≡ 0 → (a ≡ false) × (b ≡ false) × (next ≡ 0)
+    go true b e = absurd (omega arith)
+    go false true e = absurd (omega arith)
+    go false false e = (refl, refl, e)
+
+pub good-told : (s : List ℕ) (next : ℕ) → checked s 0 ≡ 0 → checked s next ≡ next
+good-told s next e = let g = good s 0 e in next-told s next (g .0) (g .1)
+
+pub flaw-small : (s : List ℕ) → checked s 0 ≤ 12
+unfolding checked
+flaw-small s = go (badLength s) (badTail s)
+  where
+    go : (a b : Bool) → cond a 11 (cond b 12 0) ≤ 12
+    go true b = omega arith
+    go false true = omega arith
+    go false false = omega arith
+
+pub no-room : (result out : List ℕ) → length out < length result → noRoom result out ≡ 13
+unfolding noRoom
+no-room result out h = rw (lt-ltb _ _ h)
+
+pub room : (result out : List ℕ) → length result ≤ length out → noRoom result out ≡ 0
+unfolding noRoom
+room result out h = rw (le-ltb _ _ h)
+
+pub room-told : (result out : List ℕ) → noRoom result out ≡ 0 → length result ≤ length out
+unfolding noRoom
+room-told result out = go (ltb (length out) (length result)) refl
+  where
+    go : (b : Bool) → ltb (length out) (length result) ≡ b → _≡_ {A = ℕ} (cond b 13 0) 0 → length result ≤ length out
+    go true t e = absurd (omega arith)
+    go false t e = ltb-false (length out) (length result) t
+
+-- an outcome tells the number that it is refused with
+pub refusal-told : (number : ℕ) (result out : List ℕ) → outcome number result out .refusal ≡ number
+unfolding outcome
+refusal-told number result out = go (eqb number 0) refl
+  where
+    go : (b : Bool) → eqb number 0 ≡ b → (cond {A = Outcome} b (written result out) (refused number out)) .refusal ≡ number
+    go true t = sym (eqb-true number 0 t)
+    go false t = refl
+
+-- ---- unpacking
+
+module _ (s out : List ℕ) where
+  pub unpack-cut : badLength s ≡ true → told BadLength out ≡ unpacking s out
+  unfolding unpacking outcome
+  unpack-cut a = rw (cut-told s (noRoom (unpackOf s) out) a)
+
+  pub unpack-tail : badLength s ≡ false → badTail s ≡ true → told BadTail out ≡ unpacking s out
+  unfolding unpacking outcome
+  unpack-tail a b = rw (tail-told s (noRoom (unpackOf s) out) a b)
+
+  pub unpack-short : badLength s ≡ false → badTail s ≡ false → length out < length (unpackOf s) → told NoRoom out ≡ unpacking s out
+  unfolding unpacking outcome
+  unpack-short a b h = rw (next-told s (noRoom (unpackOf s) out) a b, no-room (unpackOf s) out h)
+
+  pub unpack-done : {n : ℕ} {left : List ℕ} → badLength s ≡ false → badTail s ≡ false → length (unpackOf s) ≤ length out
+      → n ≡ length (unpackOf s) → left ≡ over (unpackOf s) out → told (Done n) left ≡ unpacking s out
+  unfolding unpacking outcome
+  unpack-done a b h p q = rw (next-told s (noRoom (unpackOf s) out) a b, room (unpackOf s) out h, p, q)
+
+-- ---- packing
+
+module _ (ws out : List ℕ) where
+  pub pack-large : fit 20 ws ≡ false → told BadWord out ≡ packing ws out
+  unfolding packing outcome
+  pack-large a = rw a
+
+  pub pack-short : fit 20 ws ≡ true → length out < length (packOf ws) → told NoRoom out ≡ packing ws out
+  unfolding packing outcome
+  pack-short a h = rw (a, no-room (packOf ws) out h)
+
+  pub pack-done : {n : ℕ} {left : List ℕ} → fit 20 ws ≡ true → length (packOf ws) ≤ length out
+      → n ≡ length (packOf ws) → left ≡ over (packOf ws) out → told (Done n) left ≡ packing ws out
+  unfolding packing outcome
+  pack-done a h p q = rw (a, room (packOf ws) out h, p, q)
+
+-- ---- the entries for C
+
+module _ (s : List ℕ) where
+  pub count-good : checked s 0 ≡ 0 → wordCount s ≡ length (unpackOf s)
+  unfolding wordCount entry
+  count-good e = rw e
+
+  pub count-flaw : (checked s 0 ≡ 0 → ⊥) → wordCount s ≡ 2 ^ 63 + checked s 0
+  unfolding wordCount entry
+  count-flaw e = rw (ne-eqb (checked s 0) 0 e)
+
+  module _ (k : ℕ) where
+    pub word-good : checked s 0 ≡ 0 → k < length (unpackOf s) → wordEntry s k ≡ wordAt s k
+    unfolding wordEntry entry
+    word-good e h = rw (lt-ltb k (length (unpackOf s)) h, e)
+
+    pub word-past : checked s 0 ≡ 0 → length (unpackOf s) ≤ k → wordEntry s k ≡ 2 ^ 63 + 13
+    unfolding wordEntry entry
+    word-past e h = rw (le-ltb k (length (unpackOf s)) h, good-told s 13 e)
+
+    pub word-flaw : (checked s 0 ≡ 0 → ⊥) → wordEntry s k ≡ 2 ^ 63 + checked s 0
+    unfolding wordEntry entry
+    word-flaw e = rw (flaw-told s (cond (ltb k (length (unpackOf s))) 0 13) e, ne-eqb (checked s 0) 0 e)

@@ -1,0 +1,79 @@
+// Streams written.
+ghost use mathlib.Core.Path.{_≡_};
+ghost use Prim.Native.Nat.{_+_, _*_, _/_, _≤_};
+ghost use mathlib.Core.List.{[], _∷_};
+ghost use lib.ListN.{length};
+ghost use lib.Seq.{sets};
+ghost use Rattle.stream.specs.Format.{packOf, fit};
+ghost use Rattle.stream.specs.Calls.{over, told, packing};
+use crate::Coded;
+use crate::word::low_byte;
+use crate::word::seam;
+
+// Whether each word has at most 20 bits.
+fn all_fit(words: &[u32]) -> bool
+    ensures { λ r. ⌜ r ≡ fit 20 (now (words .entry)) ⌝ }
+{
+    let mut i = 0;
+    while i < words.len() {
+        if words[i] >= 1048576 {
+            return false;
+        }
+        i += 1;
+    }
+    true
+}
+
+// The bytes of two words, stored at place k.
+fn put_pair(v: u32, w: u32, out: &mut [u8], k: usize)
+    requires { ⌜ k + 5 ≤ length (now out) ⌝ }
+    ensures { λ _. ⌜ now (out .exit) ≡ sets (now (out .entry)) k (packOf (v ∷ w ∷ [])) ⌝ }
+{
+    out[k] = low_byte(v >> 12);
+    out[k + 1] = low_byte(v >> 4);
+    out[k + 2] = seam(v, w);
+    out[k + 3] = low_byte(w >> 8);
+    out[k + 4] = low_byte(w);
+}
+
+// The bytes of a last word, stored at place k.
+fn put_last(v: u32, out: &mut [u8], k: usize)
+    requires { ⌜ k + 3 ≤ length (now out) ⌝ }
+    ensures { λ _. ⌜ now (out .exit) ≡ sets (now (out .entry)) k (packOf (v ∷ [])) ⌝ }
+{
+    out[k] = low_byte(v >> 12);
+    out[k + 1] = low_byte(v >> 4);
+    out[k + 2] = seam(v, 0);
+}
+
+// The stream of the words, over the front of `out`.
+fn pack_all(words: &[u32], out: &mut [u8])
+    requires { ⌜ (length (now words) * 5 + 1) / 2 ≤ length (now out) ⌝ }
+    ensures { λ _. ⌜ now (out .exit) ≡ over (packOf (now (words .entry))) (now (out .entry)) ⌝ }
+{
+    let pairs = words.len() / 2;
+    let mut j = 0;
+    while j < pairs {
+        let i = 2 * j;
+        put_pair(words[i], words[i + 1], out, 5 * j);
+        j += 1;
+    }
+    if words.len() % 2 == 1 {
+        put_last(words[2 * j], out, 5 * j);
+    }
+}
+
+// Packs words into `out`, or refuses: a word of more than 20 bits, then the room.
+pub fn pack(words: &[u32], out: &mut [u8]) -> Coded
+    ensures { λ r. ⌜ told r (now (out .exit)) ≡ packing (now (words .entry)) (now (out .entry)) ⌝ }
+{
+    if all_fit(words) {
+        let n = (words.len() * 5 + 1) / 2;
+        if out.len() < n {
+            return Coded::NoRoom;
+        }
+        pack_all(words, out);
+        return Coded::Done(n);
+    }
+    Coded::BadWord
+}
