@@ -1,14 +1,12 @@
 -- All starred examples of document 01 hold. Assumes nothing.
 use mathlib.Core.Path.{_≡_, refl, sym, ap, _∙_}
 use mathlib.Core.Bool.{true}
-use mathlib.Core.List.{List}
-use Prim.Native.Nat.{ℕ, _+_, _*_, _/_, _^_}
-use lib.ListN.{length, replicate, length-replicate}
-use Rattle.stream.specs.Format.{unpackOf}
+use Prim.Native.Nat.{ℕ, _*_, _/_}
+use lib.ListN.{replicate, length-replicate}
 use Rattle.stream.specs.Calls.{badLength, badTail, checked, wordCount, entry}
 use Rattle.stream.proofs.Stream.{length-unpack}
 use Rattle.stream.proofs.Calls.{cut-told, count-good}
-use Rattle.examples.specs.Examples.{Row, holds, gives, Says, table, All, done, _also_, Claim}
+use Rattle.examples.specs.Examples.{holds, gives, Says, table, done, _also_, Claim}
 
 -- two words for each five bytes; a stream of zeros is good where its length is
 held : (n : ℕ) → checked (replicate n 0) 0 ≡ 0 → Says (holds n (n * 2 / 5))

@@ -1,7 +1,7 @@
 -- The round trips, over the definitions: bits that are cut into numbers and joined again are the same bits, and numbers that are
 -- joined and cut the same numbers (proofs/Cut), so what is left is where a stream ends. Assumes nothing.
 use mathlib.Core.Path.{_≡_, refl, sym, ap, ap₂, _∙_}
-use mathlib.Core.Bool.{Bool, true, false, cond, not, _&&_, _||_, true≢false}
+use mathlib.Core.Bool.{Bool, true, false, not, _&&_, _||_, true≢false}
 use mathlib.Core.Logic.{_⊎_, inl, inr, ⊎-elim}
 use mathlib.Core.List.{List, [], _∷_, _++_, append-nil}
 use Prim.Native.Nat.{ℕ, zero, suc, _+_, _-_, _*_, _/_, _%_, _^_, _≤_, _<_}
@@ -16,7 +16,7 @@ use Rattle.stream.specs.Format.{bits, number, joined, cut, whole, closin
 use Rattle.stream.specs.Calls.{badLength, badTail, checked}
 use Rattle.stream.proofs.Bits.{Fits, none, more, fits-append, fits-drop, fits-take, number-lt, bits-low}
 use Rattle.stream.proofs.Cut.{length-joined, joined-fit, drop-joined, length-cut, cut-joined, joined-cut}
-use Rattle.stream.proofs.Stream.{length-pack, length-row, pack-end, pack-one}
+use Rattle.stream.proofs.Stream.{parity, closing-same, length-pack, length-row, pack-end, pack-one}
 use Rattle.stream.proofs.Masks.{seam-number}
 use Rattle.stream.proofs.Calls.{next-told, good}
 
@@ -28,16 +28,12 @@ cut-fits k (suc n) {bs} f =
     let short : length (take k bs) ≤ k = omega (arith, length-take k bs) in
     more (lt-of-lt-of-le (number-lt (fits-take k f)) (pow-mono short)) (cut-fits k n (fits-drop k f))
 
+zero-bit : 0 < 2 ^ 1
+zero-bit = omega arith
+
 closing-fits : (n : ℕ) → Fits 1 (closing n)
 unfolding closing
-closing-fits n = go (eqb (n % 2) 1)
-  where
-    bit : 0 < 2 ^ 1
-    bit = omega arith
-
-    go : (b : Bool) → Fits 1 (cond b (0 ∷ 0 ∷ 0 ∷ 0 ∷ []) [])
-    go true = more bit (more bit (more bit (more bit none)))
-    go false = none
+closing-fits n = ⊎-elim (λ e. rw (closing-same n 0 e) none) (λ e. rw (closing-same n 1 e) (more zero-bit (more zero-bit (more zero-bit (more zero-bit none))))) (parity n)
 
 -- a stream's words have at most 20 bits, and what is packed is bytes
 pub unpack-fits : (s : List ℕ) → Fits 20 (unpackOf s)
@@ -143,18 +139,18 @@ pack-unpack {s} f g =
 
 packed-length : (ws : List ℕ) → badLength (packOf ws) ≡ false
 unfolding badLength
-packed-length ws = go (eqb (length ws % 2) 1) refl
+packed-length ws = ⊎-elim even odd (parity (length ws))
   where
-    go : (b : Bool) → eqb (length ws % 2) 1 ≡ b → (eqb (length (packOf ws) % 5) 1 || eqb (length (packOf ws) % 5) 2 || eqb (length (packOf ws) % 5) 4) ≡ false
-    go true t =
-        let q : length ws ≡ 2 * (length ws / 2) + 1 = omega (arith, eqb-true (length ws % 2) 1 t) in
-        let p : length (packOf ws) ≡ 5 * (length ws / 2) + 3 = omega (arith, length-pack ws) in
-        let e : length (packOf ws) % 5 ≡ 3 = omega arith in
-        rw e
-    go false t =
-        let q : length ws ≡ 2 * (length ws / 2) = omega (arith, eqb-false (length ws % 2) 1 t) in
+    even : length ws % 2 ≡ 0 → badLength (packOf ws) ≡ false
+    even t =
         let p : length (packOf ws) ≡ 5 * (length ws / 2) = omega (arith, length-pack ws) in
         let e : length (packOf ws) % 5 ≡ 0 = omega arith in
+        rw e
+
+    odd : length ws % 2 ≡ 1 → badLength (packOf ws) ≡ false
+    odd t =
+        let p : length (packOf ws) ≡ 5 * (length ws / 2) + 3 = omega (arith, length-pack ws) in
+        let e : length (packOf ws) % 5 ≡ 3 = omega arith in
         rw e
 
 -- the last byte of an odd number of words ends with the four closing bits

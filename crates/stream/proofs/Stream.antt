@@ -1,6 +1,7 @@
 -- Streams by five bytes and two words, which is how the code goes through them. Assumes nothing.
 use mathlib.Core.Path.{_≡_, refl, sym, ap, ap₂, _∙_}
-use mathlib.Core.Bool.{Bool, true, false, cond}
+use mathlib.Core.Bool.{Bool, true, false}
+use mathlib.Core.Logic.{_⊎_, inl, inr, ⊎-elim}
 use mathlib.Core.List.{List, [], _∷_, _++_}
 use Prim.Native.Nat.{ℕ, suc, _+_, _-_, _*_, _/_, _%_, _≤_}
 use native.Mathlib.Nat.{add-zero}
@@ -19,13 +20,22 @@ pub length-unpack : (s : List ℕ) → length (unpackOf s) ≡ length s * 2 / 5
 unfolding unpackOf whole
 length-unpack s = length-cut 20 (length (joined 8 s) / 20) (joined 8 s) ∙ omega (arith, length-joined 8 s)
 
-pub length-closing : (n : ℕ) → length (closing n) ≡ n % 2 * 4
-unfolding closing
-length-closing n = go (eqb (n % 2) 1) refl
+pub parity : (n : ℕ) → (n % 2 ≡ 0) ⊎ (n % 2 ≡ 1)
+parity n = go (eqb (n % 2) 1) refl
   where
-    go : (b : Bool) → eqb (n % 2) 1 ≡ b → length {A = ℕ} (cond b (0 ∷ 0 ∷ 0 ∷ 0 ∷ []) []) ≡ n % 2 * 4
-    go true e = omega (arith, eqb-true (n % 2) 1 e)
-    go false e = omega (arith, eqb-false (n % 2) 1 e)
+    go : (b : Bool) → eqb (n % 2) 1 ≡ b → (n % 2 ≡ 0) ⊎ (n % 2 ≡ 1)
+    go true t = inr (eqb-true (n % 2) 1 t)
+    go false t = inl (omega (arith, eqb-false (n % 2) 1 t))
+
+-- the closing bits go by whether the number is odd
+pub closing-same : (m n : ℕ) → m % 2 ≡ n % 2 → closing m ≡ closing n
+unfolding closing
+closing-same m n e = rw e
+
+length-closing : (n : ℕ) → length (closing n) ≡ n % 2 * 4
+unfolding closing
+length-closing n =
+    ⊎-elim (λ e. ap length (closing-same n 0 e) ∙ ap (λ (b : ℕ). b * 4) (sym e)) (λ e. ap length (closing-same n 1 e) ∙ ap (λ (b : ℕ). b * 4) (sym e)) (parity n)
 
 pub length-row : (ws : List ℕ) → length (joined 20 ws ++ closing (length ws)) ≡ length ws * 20 + length ws % 2 * 4
 length-row ws = length-append (joined 20 ws) (closing (length ws)) ∙ ap₂ (λ (i j : ℕ). i + j) (length-joined 20 ws) (length-closing (length ws))
@@ -35,11 +45,6 @@ unfolding packOf whole
 length-pack ws = length-cut 8 (length (joined 20 ws ++ closing (length ws)) / 8) (joined 20 ws ++ closing (length ws)) ∙ omega (arith, length-row ws)
 
 -- ---- past so many pairs
-
--- the closing bits go by whether the number is odd
-closing-same : (m n : ℕ) → m % 2 ≡ n % 2 → closing m ≡ closing n
-unfolding closing
-closing-same m n e = rw e
 
 -- past 2 j words stand the words past 5 j bytes
 pub drop-unpack : (j : ℕ) (s : List ℕ) → drop (2 * j) (unpackOf s) ≡ unpackOf (drop (5 * j) s)
