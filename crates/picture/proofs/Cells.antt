@@ -1,0 +1,55 @@
+-- What a place sees of a fold: its own offers, and no others. Nothing here knows what an offer does. Assumes nothing.
+use mathlib.Core.Path.{_≡_, refl, sym, ap, _∙_}
+use mathlib.Core.Logic.{_≢_}
+use mathlib.Core.Bool.{Bool, true, false, cond}
+use mathlib.Core.List.{List, [], _∷_, foldl}
+use Prim.Native.Nat.{ℕ, _+_, _<_}
+use lib.ListN.{length, getD, set}
+use lib.Seq.{getD-set-same, getD-set-other}
+use lib.Dec.{eqb}
+use borrow.Author.Tests.{eqb-true, eqb-false}
+use Rattle.picture.specs.declared.Pen.{Pen}
+use Rattle.picture.specs.Place.{placeOf}
+use Rattle.picture.specs.Offer.{Offer}
+use Rattle.picture.specs.Picture.{passes, newI, newZ, Picture, picture, stepAt, step, drawn}
+use Rattle.picture.specs.Cell.{Cell, cell, cellAt, after, there}
+use Rattle.picture.proofs.Fold.{step-i, step-z}
+
+-- at its own place an offer does what it does to the two numbers there
+pub step-here : (pen : Pen) (p : Picture) (o : Offer) (at : ℕ) → placeOf (pen .frame) (o .x) (o .y) ≡ at → at < length (p .i) → at < length (p .z)
+    → cellAt (step pen p o) at ≡ after pen (cellAt p at) o
+unfolding step stepAt after
+step-here pen p o at e hi hz = rw e (go (passes pen (o .kind) (o .z) (getD (p .z) at 0)))
+  where
+    i′ : ℕ
+    i′ = newI pen (o .i) (getD (p .i) at 0)
+
+    z′ : ℕ
+    z′ = newZ pen (o .kind) (o .z) (getD (p .z) at 0)
+
+    go : (b : Bool) → cellAt (cond b (picture (set (p .i) at i′) (set (p .z) at z′) (p .passed + 1)) p) at ≡ cond b (cell i′ z′) (cellAt p at)
+    go true = rw (getD-set-same (p .i), getD-set-same (p .z))
+    go false = refl
+
+-- at every other place it does nothing
+pub step-away : (pen : Pen) (p : Picture) (o : Offer) (at : ℕ) → at ≢ placeOf (pen .frame) (o .x) (o .y) → cellAt (step pen p o) at ≡ cellAt p at
+unfolding step stepAt
+step-away pen p o at h = go (passes pen (o .kind) (o .z) (getD (p .z) (placeOf (pen .frame) (o .x) (o .y)) 0)) _ _
+  where
+    go : (b : Bool) (i′ z′ : ℕ)
+        → cellAt (cond b (picture (set (p .i) (placeOf (pen .frame) (o .x) (o .y)) i′) (set (p .z) (placeOf (pen .frame) (o .x) (o .y)) z′) (p .passed + 1)) p) at ≡ cellAt p at
+    go true i′ z′ = rw (getD-set-other (p .i), getD-set-other (p .z))
+    go false i′ z′ = refl
+
+-- what a fold leaves at a place is what the offers made there leave of the two numbers that stood there
+pub drawn-cell : (pen : Pen) (os : List Offer) (p : Picture) (at : ℕ) → at < length (p .i) → at < length (p .z)
+    → cellAt (drawn pen os p) at ≡ foldl (after pen) (cellAt p at) (there (pen .frame) at os)
+unfolding drawn there
+drawn-cell pen [] p at hi hz = refl
+drawn-cell pen (o ∷ os) p at hi hz = drawn-cell pen os (step pen p o) at (rw (step-i pen p o) hi) (rw (step-z pen p o) hz) ∙ go (eqb (placeOf (pen .frame) (o .x) (o .y)) at) refl
+  where
+    go : (b : Bool) → eqb (placeOf (pen .frame) (o .x) (o .y)) at ≡ b
+        → foldl (after pen) (cellAt (step pen p o) at) (there (pen .frame) at os)
+        ≡ foldl (after pen) (cellAt p at) (cond b (o ∷ there (pen .frame) at os) (there (pen .frame) at os))
+    go true e = ap (λ (c : Cell). foldl (after pen) c (there (pen .frame) at os)) (step-here pen p o at (eqb-true _ _ e) hi hz)
+    go false e = ap (λ (c : Cell). foldl (after pen) c (there (pen .frame) at os)) (step-away pen p o at (λ q. eqb-false _ _ e (sym q)))

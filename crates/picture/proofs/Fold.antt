@@ -1,0 +1,92 @@
+-- The laws of the fold: offers in two parts, the count apart from the memories, lengths kept. Assumes nothing.
+use mathlib.Core.Path.{_≡_, refl, sym, ap, _∙_}
+use mathlib.Core.Bool.{Bool, true, false, cond}
+use mathlib.Core.List.{List, [], _∷_, _++_, foldl-append}
+use Prim.Native.Nat.{ℕ, _+_}
+use native.Mathlib.Nat.{add-assoc, add-zero}
+use lib.ListN.{length, getD, set, length-set}
+use Rattle.picture.specs.declared.Pen.{Pen}
+use Rattle.picture.specs.declared.Kind.{Kind}
+use Rattle.picture.specs.Place.{placeOf}
+use Rattle.picture.specs.Offer.{Offer}
+use Rattle.picture.specs.Picture.{passes, newI, newZ, Picture, picture, stepAt, step, drawn}
+
+pub drawn-nil : (pen : Pen) (p : Picture) → drawn pen [] p ≡ p
+unfolding drawn
+drawn-nil pen p = refl
+
+pub drawn-one : (pen : Pen) (o : Offer) (p : Picture) → drawn pen (o ∷ []) p ≡ step pen p o
+unfolding drawn
+drawn-one pen o p = refl
+
+pub drawn-append : (pen : Pen) (os ps : List Offer) (p : Picture) → drawn pen (os ++ ps) p ≡ drawn pen ps (drawn pen os p)
+unfolding drawn
+drawn-append pen os ps p = foldl-append (step pen) p os ps
+
+-- ---- what one offer does goes by whether it passes
+
+module _ (pen : Pen) (kind : Kind) (at i z : ℕ) (p : Picture) where
+  pub step-pass : passes pen kind z (getD (p .z) at 0) ≡ true
+      → stepAt pen kind at i z p ≡ picture (set (p .i) at (newI pen i (getD (p .i) at 0))) (set (p .z) at (newZ pen kind z (getD (p .z) at 0))) (p .passed + 1)
+  unfolding stepAt
+  step-pass e = rw e
+
+  pub step-fail : passes pen kind z (getD (p .z) at 0) ≡ false → stepAt pen kind at i z p ≡ p
+  unfolding stepAt
+  step-fail e = rw e
+
+-- ---- the count apart
+
+-- a picture with n counted before
+abbrev pub counted : ℕ → Picture → Picture
+counted n p = picture (p .i) (p .z) (n + p .passed)
+
+step-counted : (pen : Pen) (n : ℕ) (p : Picture) (o : Offer) → step pen (counted n p) o ≡ counted n (step pen p o)
+unfolding step stepAt
+step-counted pen n p o = go (passes pen (o .kind) (o .z) (getD (p .z) (placeOf (pen .frame) (o .x) (o .y)) 0))
+  where
+    i : List ℕ
+    i = set (p .i) (placeOf (pen .frame) (o .x) (o .y)) (newI pen (o .i) (getD (p .i) (placeOf (pen .frame) (o .x) (o .y)) 0))
+
+    z : List ℕ
+    z = set (p .z) (placeOf (pen .frame) (o .x) (o .y)) (newZ pen (o .kind) (o .z) (getD (p .z) (placeOf (pen .frame) (o .x) (o .y)) 0))
+
+    go : (b : Bool) → cond b (picture i z (n + p .passed + 1)) (counted n p) ≡ counted n (cond b (picture i z (p .passed + 1)) p)
+    go true = ap (picture i z) (add-assoc n (p .passed) 1)
+    go false = refl
+
+drawn-counted : (pen : Pen) (n : ℕ) (os : List Offer) (p : Picture) → drawn pen os (counted n p) ≡ counted n (drawn pen os p)
+unfolding drawn
+drawn-counted pen n [] p = refl
+drawn-counted pen n (o ∷ os) p = ap (drawn pen os) (step-counted pen n p o) ∙ drawn-counted pen n os (step pen p o)
+
+pub drawn-from : (pen : Pen) (os : List Offer) (i z : List ℕ) (n : ℕ) → drawn pen os (picture i z n) ≡ counted n (drawn pen os (picture i z 0))
+drawn-from pen os i z n = ap (λ (m : ℕ). drawn pen os (picture i z m)) (sym (add-zero n)) ∙ drawn-counted pen n os (picture i z 0)
+
+-- ---- lengths kept
+
+kept-i : (b : Bool) (q p : Picture) → length (q .i) ≡ length (p .i) → length (cond b q p .i) ≡ length (p .i)
+kept-i true q p e = e
+kept-i false q p e = refl
+
+kept-z : (b : Bool) (q p : Picture) → length (q .z) ≡ length (p .z) → length (cond b q p .z) ≡ length (p .z)
+kept-z true q p e = e
+kept-z false q p e = refl
+
+pub step-i : (pen : Pen) (p : Picture) (o : Offer) → length (step pen p o .i) ≡ length (p .i)
+unfolding step stepAt
+step-i pen p o = kept-i (passes pen (o .kind) (o .z) (getD (p .z) (placeOf (pen .frame) (o .x) (o .y)) 0)) _ p (length-set (p .i) _ _)
+
+pub step-z : (pen : Pen) (p : Picture) (o : Offer) → length (step pen p o .z) ≡ length (p .z)
+unfolding step stepAt
+step-z pen p o = kept-z (passes pen (o .kind) (o .z) (getD (p .z) (placeOf (pen .frame) (o .x) (o .y)) 0)) _ p (length-set (p .z) _ _)
+
+pub drawn-i : (pen : Pen) (os : List Offer) (p : Picture) → length (drawn pen os p .i) ≡ length (p .i)
+unfolding drawn
+drawn-i pen [] p = refl
+drawn-i pen (o ∷ os) p = drawn-i pen os (step pen p o) ∙ step-i pen p o
+
+pub drawn-z : (pen : Pen) (os : List Offer) (p : Picture) → length (drawn pen os p .z) ≡ length (p .z)
+unfolding drawn
+drawn-z pen [] p = refl
+drawn-z pen (o ∷ os) p = drawn-z pen os (step pen p o) ∙ step-z pen p o

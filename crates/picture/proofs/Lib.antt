@@ -1,0 +1,5 @@
+pub mod Places
+pub mod Fold
+pub mod Spans
+pub mod Cells
+pub mod Offers

@@ -1,0 +1,85 @@
+-- Offers laid end to end: where nothing is offered, and how a loop goes through them. Assumes nothing.
+use mathlib.Core.Path.{_≡_, refl, sym, ap, ap₂, _∙_}
+use mathlib.Core.List.{List, [], _++_, append-nil, append-assoc}
+use Prim.Native.Nat.{ℕ, zero, suc, _+_, _-_, _≤_, _<_, zero-le}
+use native.Mathlib.Nat.{add-zero, add-suc, add-sub-of-le}
+use native.Mathlib.Numerals.{add-one}
+use native.Mathlib.Omega.{arith}
+use lib.ListN.{length}
+use Rattle.picture.specs.declared.Pen.{Pen}
+use Rattle.picture.specs.Offer.{Offer}
+use Rattle.picture.specs.Picture.{Picture, picture, drawn}
+use Rattle.picture.specs.Draw.{spans}
+use Rattle.picture.proofs.Fold.{drawn-nil, drawn-append, drawn-from, drawn-i, drawn-z}
+
+pub spans-zero : (f : ℕ → List Offer) → spans f 0 ≡ []
+unfolding spans
+spans-zero f = refl
+
+pub spans-suc : (f : ℕ → List Offer) (n : ℕ) → spans f (suc n) ≡ spans f n ++ f n
+unfolding spans
+spans-suc f n = refl
+
+-- where f has nothing from lo up to lo + k, the offers end at lo
+spans-quiet : (f : ℕ → List Offer) (lo k : ℕ) → ((n : ℕ) → lo ≤ n → n < lo + k → f n ≡ []) → spans f (lo + k) ≡ spans f lo
+spans-quiet f lo zero h = rw add-zero
+spans-quiet f lo (suc k) h =
+    rw (add-suc, spans-suc)
+    (ap (λ (os : List Offer). spans f (lo + k) ++ os) (h (lo + k) (omega arith) (omega arith))
+    ∙ append-nil (spans f (lo + k))
+    ∙ spans-quiet f lo k (λ n a b. h n a (omega arith)))
+
+pub spans-stop : (f : ℕ → List Offer) (lo hi : ℕ) → lo ≤ hi → ((n : ℕ) → lo ≤ n → n < hi → f n ≡ []) → spans f hi ≡ spans f lo
+spans-stop f lo hi l h = ap (spans f) (sym (add-sub-of-le l)) ∙ spans-quiet f lo (hi - lo) (λ n a b. h n a (omega arith))
+
+pub spans-none : (f : ℕ → List Offer) (n : ℕ) → ((k : ℕ) → k < n → f k ≡ []) → spans f n ≡ []
+spans-none f n h = spans-stop f 0 n zero-le (λ k a b. h k b) ∙ spans-zero f
+
+-- the same offers at each place
+pub spans-same : (f g : ℕ → List Offer) (n : ℕ) → ((k : ℕ) → k < n → f k ≡ g k) → spans f n ≡ spans g n
+spans-same f g zero h = spans-zero f ∙ sym (spans-zero g)
+spans-same f g (suc n) h = rw (spans-suc, spans-suc) (ap₂ (λ (a b : List Offer). a ++ b) (spans-same f g n (λ k l. h k (omega arith))) (h n (omega arith)))
+
+-- offers that begin at lo
+pub spans-from : (f : ℕ → List Offer) (lo k : ℕ) → spans f (lo + k) ≡ spans f lo ++ spans (λ j. f (lo + j)) k
+spans-from f lo zero = rw (add-zero, spans-zero (λ j. f (lo + j))) (sym (append-nil (spans f lo)))
+spans-from f lo (suc k) =
+    rw (add-suc, spans-suc f, spans-suc (λ j. f (lo + j)))
+    (ap (λ (os : List Offer). os ++ f (lo + k)) (spans-from f lo k) ∙ append-assoc (spans f lo) (spans (λ j. f (lo + j)) k) (f (lo + k)))
+
+-- of a row of n, only those from lo up to and without hi offer anything
+pub spans-part : (f : ℕ → List Offer) (lo hi n : ℕ) → lo ≤ hi → hi ≤ n → ((k : ℕ) → k < lo → f k ≡ []) → ((k : ℕ) → hi ≤ k → k < n → f k ≡ [])
+    → spans f n ≡ spans (λ j. f (lo + j)) (hi - lo)
+spans-part f lo hi n l h a b =
+    spans-stop f hi n h b
+    ∙ ap (spans f) (sym (add-sub-of-le l))
+    ∙ spans-from f lo (hi - lo)
+    ∙ ap (λ (os : List Offer). os ++ spans (λ j. f (lo + j)) (hi - lo)) (spans-none f lo a)
+
+-- ---- a loop that has drawn the offers of f below x, and counted n of them
+
+pub record Reached (pen : Pen) (f : ℕ → List Offer) (i₀ z₀ i z : List ℕ) (n x : ℕ) : Type 0 where
+  pub so : picture i z n ≡ drawn pen (spans f x) (picture i₀ z₀ 0)
+
+module _ {pen : Pen} {f : ℕ → List Offer} {i₀ z₀ : List ℕ} {x : ℕ} where
+  pub reached-start : ((k : ℕ) → k < x → f k ≡ []) → Reached pen f i₀ z₀ i₀ z₀ 0 x
+  reached-start h = record { so = rw (spans-none f x h) (sym (drawn-nil pen _)) }
+
+  -- one more: the count carried through, or counted from 0 and added
+  pub reached-more : {i z j w : List ℕ} {n m : ℕ} → Reached pen f i₀ z₀ i z n x → picture j w m ≡ drawn pen (f x) (picture i z n)
+      → Reached pen f i₀ z₀ j w m (x + 1)
+  reached-more r h = record { so = rw (add-one, spans-suc, drawn-append, ← r .so) h }
+
+  pub reached-add : {i z j w : List ℕ} {n m : ℕ} → Reached pen f i₀ z₀ i z n x → picture j w m ≡ drawn pen (f x) (picture i z 0)
+      → Reached pen f i₀ z₀ j w (n + m) (x + 1)
+  reached-add {i} {z} {j} {w} {n} {m} r h = reached-more r (ap (λ (p : Picture). picture (p .i) (p .z) (n + p .passed)) h ∙ sym (drawn-from pen (f x) i z n))
+
+  pub reached-end : {i z : List ℕ} {n : ℕ} (end : ℕ) → Reached pen f i₀ z₀ i z n x → x ≤ end → ((k : ℕ) → x ≤ k → k < end → f k ≡ [])
+      → picture i z n ≡ drawn pen (spans f end) (picture i₀ z₀ 0)
+  reached-end end r h k = rw (spans-stop f x end h k) (r .so)
+
+  pub reached-i : {i z : List ℕ} {n : ℕ} → Reached pen f i₀ z₀ i z n x → length i ≡ length i₀
+  reached-i r = ap (λ (p : Picture). length (p .i)) (r .so) ∙ drawn-i pen (spans f x) _
+
+  pub reached-z : {i z : List ℕ} {n : ℕ} → Reached pen f i₀ z₀ i z n x → length z ≡ length z₀
+  reached-z r = ap (λ (p : Picture). length (p .z)) (r .so) ∙ drawn-z pen (spans f x) _

@@ -1,0 +1,5 @@
+pub mod Place
+pub mod Offer
+pub mod Picture
+pub mod Cell
+pub mod Draw

@@ -1,0 +1,48 @@
+// The two lent memories, and what an offered pixel does to them. specs/ says where pixels lie (Place), what is offered (Offer) and what
+// passes and is stored (Picture).
+pub mod draw;
+mod pixel;
+pub mod place;
+
+// Where pixels lie: the line length.
+pub struct Frame {
+    pub line: u16,
+}
+
+// What the modes say of drawing. The window's borders belong to it.
+pub struct Pen {
+    pub frame: Frame,
+    pub left: u16,
+    pub right: u16,
+    pub bottom: u16,
+    pub top: u16,
+    pub transparency: u16,
+    pub planes: u16,
+    pub depth: bool,
+    pub ienable: bool,
+    pub zenable: bool,
+}
+
+// The figures that pixels belong to: Gouraud and constant triangles, lines of the modes 0, 1 and 2.
+pub enum Kind {
+    Gouraud,
+    Constant,
+    Line0,
+    Line1,
+    Line2,
+}
+
+// A point of a figure, with its two numbers.
+pub struct Vertex {
+    pub x: u16,
+    pub y: u16,
+    pub i: u16,
+    pub z: u16,
+}
+
+// A number carried along a row, as 2^48 times itself and a part: what it is at the row's first pixel, and what each pixel adds, modulo
+// 2^64.
+pub struct Carried {
+    pub first: u64,
+    pub add: u64,
+}

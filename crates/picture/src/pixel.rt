@@ -1,0 +1,115 @@
+// One pixel: whether it is offered, whether it passes, and what it then stores.
+ghost use mathlib.Core.Path.{_≡_};
+ghost use Prim.Native.Nat.{_+_, _<_, _≤_};
+ghost use lib.ListN.{length, set, getD};
+ghost use Rattle.picture.specs.Offer.{isMasked, inWindow, shows, offered, offer};
+ghost use Rattle.picture.specs.Place.{rowsOf};
+ghost use Rattle.picture.specs.Picture.{isDeep, inPlanes, passes, newI, newZ, picture, stepAt};
+use crate::Kind;
+use crate::Pen;
+use crate::place::is_inside;
+
+// Whether the transparency pattern concerns figures of this kind.
+pub(crate) fn is_masked(kind: Kind) -> bool
+    ensures { λ r. ⌜ r ≡ isMasked kind ⌝ }
+{
+    match kind {
+        Kind::Gouraud => false,
+        Kind::Constant => true,
+        Kind::Line0 => true,
+        Kind::Line1 => true,
+        Kind::Line2 => false,
+    }
+}
+
+// Whether the depth test and the Z memory concern figures of this kind.
+pub(crate) fn is_deep(kind: Kind) -> bool
+    ensures { λ r. ⌜ r ≡ isDeep kind ⌝ }
+{
+    match kind {
+        Kind::Gouraud => true,
+        Kind::Constant => true,
+        Kind::Line0 => false,
+        Kind::Line1 => false,
+        Kind::Line2 => true,
+    }
+}
+
+// Whether the transparency pattern keeps pixel (x, y).
+pub(crate) fn is_shown(pen: Pen, x: u16, y: u16) -> bool
+    ensures { λ r. ⌜ r ≡ shows pen x y ⌝ }
+{
+    (pen.transparency >> (4 * (y % 4) + x % 4)) & 1 == 1
+}
+
+// Whether pixel (x, y) is inside the window.
+fn is_in_window(pen: Pen, x: u16, y: u16) -> bool
+    ensures { λ r. ⌜ r ≡ inWindow pen x y ⌝ }
+{
+    (pen.left <= x) & (x <= pen.right) & (pen.bottom <= y) & (y <= pen.top)
+}
+
+// Whether a pixel of a figure is offered, with memories of these lengths.
+pub(crate) fn is_offered(pen: Pen, kind: Kind, x: u16, y: u16, ni: usize, nz: usize) -> bool
+    ensures { λ r. ⌜ r ≡ offered pen (rowsOf (pen .frame) ni nz) (offer kind x y 0 0) ⌝ }
+{
+    let frame = pen.frame;
+    let inside = is_inside(frame, x, y, ni, nz);
+    is_in_window(pen, x, y) & inside & (!is_masked(kind) | is_shown(pen, x, y))
+}
+
+// The new number in the set planes, the old one in the others.
+fn in_planes(planes: u16, old: u16, new: u16) -> u16
+    ensures { λ r. ⌜ r ≡ inPlanes planes old new ⌝ }
+{
+    (old & !planes) | (new & planes)
+}
+
+// Whether a pixel passes where this depth stands.
+fn is_passed(pen: Pen, kind: Kind, z: u16, old: u16) -> bool
+    ensures { λ r. ⌜ r ≡ passes pen kind z old ⌝ }
+{
+    !(pen.depth & is_deep(kind)) | (z < old)
+}
+
+// The passed number I, stored at a place.
+fn store_i(pen: Pen, at: usize, i: u16, im: &mut [u16])
+    requires { ⌜ at < length (now im) ⌝ }
+    ensures { λ _. ⌜ now (im .exit) ≡ set (now (im .entry)) at (newI pen i (getD (now (im .entry)) at 0)) ⌝ }
+{
+    if pen.ienable {
+        im[at] = in_planes(pen.planes, im[at], i);
+    }
+}
+
+// The passed depth, stored at a place.
+fn store_z(pen: Pen, kind: Kind, at: usize, z: u16, zm: &mut [u16])
+    requires { ⌜ at < length (now zm) ⌝ }
+    ensures { λ _. ⌜ now (zm .exit) ≡ set (now (zm .entry)) at (newZ pen kind z (getD (now (zm .entry)) at 0)) ⌝ }
+{
+    if pen.zenable & is_deep(kind) {
+        zm[at] = z;
+    }
+}
+
+// One offer at a place; n is the count so far, and the next count is the answer.
+pub(crate) fn put_at(
+    pen: Pen,
+    kind: Kind,
+    at: usize,
+    i: u16,
+    z: u16,
+    im: &mut [u16],
+    zm: &mut [u16],
+    n: u64,
+) -> u64
+    requires { ⌜ (at < length (now im)) × (at < length (now zm)) × (n ≤ 65535) ⌝ }
+    ensures { λ r. ⌜ (picture (now (im .exit)) (now (zm .exit)) r ≡ stepAt pen kind at i z (picture (now (im .entry)) (now (zm .entry)) n)) × (r ≤ n + 1) ⌝ }
+{
+    if is_passed(pen, kind, z, zm[at]) {
+        store_i(pen, at, i, im);
+        store_z(pen, kind, at, z, zm);
+        return n + 1;
+    }
+    n
+}
