@@ -3,3 +3,4 @@ pub mod Fold
 pub mod Spans
 pub mod Cells
 pub mod Offers
+pub mod Rows

@@ -1,7 +1,7 @@
 -- What is offered of a pixel. Assumes nothing.
-use mathlib.Core.Path.{_≡_, sym}
-use mathlib.Core.Bool.{true, false, not, _&&_, _||_}
-use mathlib.Core.List.{List, []}
+use mathlib.Core.Path.{_≡_, refl, sym}
+use mathlib.Core.Bool.{Bool, true, false, cond, not, _&&_, _||_}
+use mathlib.Core.List.{List, [], _∷_}
 use Prim.Native.Nat.{ℕ, _≤_}
 use lib.ListN.{getD, set}
 use lib.Seq.{set-getD}
@@ -12,13 +12,17 @@ use Rattle.picture.specs.declared.Kind.{Kind}
 use Rattle.picture.specs.Place.{placeOf, inMemory}
 use Rattle.picture.specs.Offer.{Offer, offer, isMasked, inWindow, shows, offered, keep}
 use Rattle.picture.specs.Picture.{isDeep, inPlanes, newI, newZ, Picture, stepAt, step, drawn}
-use Rattle.picture.specs.Draw.{seen}
+use Rattle.picture.specs.Draw.{shown, seen}
 use Rattle.picture.proofs.Places.{both}
 
 -- inside the window, the window asks nothing more
 pub keep-seen : (pen : Pen) (rows : ℕ) (o : Offer) → inWindow pen (o .x) (o .y) ≡ true → keep pen rows o ≡ seen pen rows o
-unfolding keep offered seen
-keep-seen pen rows o h = rw h
+unfolding keep offered seen shown
+keep-seen pen rows o h = rw h (go (inMemory (pen .frame) rows (o .x) (o .y)) (not (isMasked (o .kind)) || shows pen (o .x) (o .y)))
+  where
+    go : (m s : Bool) → cond (m && s) (o ∷ []) [] ≡ cond m (cond s (o ∷ []) []) []
+    go true s = refl
+    go false s = refl
 
 -- outside, nothing is offered
 pub keep-out : (pen : Pen) (rows : ℕ) (o : Offer) → inWindow pen (o .x) (o .y) ≡ false → keep pen rows o ≡ []

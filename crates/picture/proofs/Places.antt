@@ -2,7 +2,7 @@
 use mathlib.Core.Path.{_≡_, refl, sym, ap, _∙_}
 use mathlib.Core.Bool.{Bool, true, false, cond, _&&_, true≢false}
 use Prim.Native.Nat.{ℕ, _+_, _*_, _/_, _%_, _≤_, _<_, zero-le, min}
-use native.Mathlib.Nat.{min-le-right, le-div-iff-mul-le, suc-mul, mul-le-mul}
+use native.Mathlib.Nat.{add-assoc, min-le-right, le-div-iff-mul-le, suc-mul, mul-le-mul}
 use native.Mathlib.Numerals.{add-one}
 use native.Mathlib.Omega.{arith}
 use lib.Arith.{digits-div, digits-mod}
@@ -85,3 +85,12 @@ place-apart frame x y x′ y′ h h′ e = (
 -- a place of 16-bit coordinates fits
 pub place-fits : (a b : ℕ) → a ≤ 65536 → b ≤ 65535 → a * b ≤ 4294901760
 place-fits a b h k = mul-le-mul {n₁ = a} {m₁ = b} {n₂ = 65536} {m₂ = 65535} h k
+
+-- pixels of a row lie side by side
+pub place-beside : (frame : Frame) (x y j : ℕ) → placeOf frame x y + j ≡ placeOf frame (x + j) y
+unfolding placeOf
+place-beside frame x y j = add-assoc (y * frame .line) x j
+
+pub inside-of : (frame : Frame) (rows x y : ℕ) → x < frame .line → y < rows → inMemory frame rows x y ≡ true
+unfolding inMemory
+inside-of frame rows x y h k = rw (lt-ltb _ _ h, lt-ltb _ _ k)

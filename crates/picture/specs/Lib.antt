@@ -3,3 +3,4 @@ pub mod Offer
 pub mod Picture
 pub mod Cell
 pub mod Draw
+pub mod Loops

@@ -1,13 +1,23 @@
 // What figures are drawn with: a pixel, and a run of pixels of one row.
 ghost use mathlib.Core.Path.{_≡_};
+ghost use mathlib.Core.Bool.{true};
+ghost use Prim.Native.Nat.{_+_, _/_, _^_, _≤_, _<_, min};
 ghost use lib.ListN.{length};
-ghost use Rattle.picture.specs.Place.{rowsOf};
+ghost use Rattle.picture.specs.Draw.{shown, spanOffers};
+ghost use Rattle.picture.specs.Loops.{Plain};
+ghost use Rattle.picture.specs.Place.{placeOf, rowsOf};
 ghost use Rattle.picture.specs.Offer.{keep, offer};
 ghost use Rattle.picture.specs.Picture.{picture, drawn};
+use crate::Carried;
 use crate::Kind;
 use crate::Pen;
+use crate::pixel::is_masked;
 use crate::pixel::is_offered;
+use crate::pixel::is_plain;
+use crate::pixel::is_shown;
 use crate::pixel::put_at;
+use crate::pixel::put_nearer;
+use crate::place::has_row;
 use crate::place::place;
 
 // A pixel of a figure, drawn where it is offered. Answers how many pixels passed.
@@ -27,6 +37,115 @@ pub fn put(
         let frame = pen.frame;
         let at = place(frame, x, y);
         return put_at(pen, kind, at, i, z, im, zm, 0);
+    }
+    0
+}
+
+// The whole part of a carried number.
+fn whole(k: u64) -> u16
+    ensures { λ r. ⌜ r ≡ k / 2 ^ 48 ⌝ }
+{
+    (k >> 48) as u16
+}
+
+// A pixel inside the memory, at its place, as the transparency pattern lets it through; n is the count so far.
+fn draw_one(
+    pen: Pen,
+    kind: Kind,
+    plain: bool,
+    x: u16,
+    y: u16,
+    at: usize,
+    i: u16,
+    z: u16,
+    im: &mut [u16],
+    zm: &mut [u16],
+    n: u64,
+) -> u64
+    requires { ⌜ (plain ≡ true → Plain pen kind) ⌝ }
+    requires { ⌜ (at ≡ placeOf (pen .frame) x y) × (at < length (now im)) × (at < length (now zm)) × (n ≤ 65535) ⌝ }
+    ensures { λ r. ⌜ (picture (now (im .exit)) (now (zm .exit)) r ≡ drawn pen (shown pen (offer kind x y i z)) (picture (now (im .entry)) (now (zm .entry)) n)) × (r ≤ n + 1) ⌝ }
+{
+    if plain {
+        return put_nearer(at, i, z, im, zm, n);
+    }
+    if !is_masked(kind) | is_shown(pen, x, y) {
+        return put_at(pen, kind, at, i, z, im, zm, n);
+    }
+    n
+}
+
+// The pixels of a row in use from column lo up to and without hi, which is no more than the line length.
+fn fill(
+    pen: Pen,
+    kind: Kind,
+    lo: u16,
+    hi: u16,
+    y: u16,
+    i: Carried,
+    z: Carried,
+    im: &mut [u16],
+    zm: &mut [u16],
+) -> u64
+    requires { ⌜ (lo < hi) × (hi ≤ pen .frame .line) × (y < rowsOf (pen .frame) (length (now im)) (length (now zm))) ⌝ }
+    ensures { λ r. ⌜ picture (now (im .exit)) (now (zm .exit)) r ≡ drawn pen (spanOffers pen (rowsOf (pen .frame) (length (now (im .entry))) (length (now (zm .entry)))) kind lo hi y i z) (picture (now (im .entry)) (now (zm .entry)) 0) ⌝ }
+{
+    let plain = is_plain(pen, kind);
+    let frame = pen.frame;
+    let base = place(frame, lo, y);
+    let count = hi - lo;
+    let mut ki = i.first;
+    let mut kz = z.first;
+    let mut j: u16 = 0;
+    let mut n: u64 = 0;
+    while j < count {
+        n = draw_one(
+            pen,
+            kind,
+            plain,
+            lo + j,
+            y,
+            base + (j as usize),
+            whole(ki),
+            whole(kz),
+            im,
+            zm,
+            n,
+        );
+        ki = std::num::wrapping_add_u64(ki, i.add);
+        kz = std::num::wrapping_add_u64(kz, z.add);
+        j += 1;
+    }
+    n
+}
+
+// The smaller of two columns.
+fn shorter(a: u16, b: u16) -> u16
+    ensures { λ r. ⌜ r ≡ min a b ⌝ }
+{
+    if a < b { a } else { b }
+}
+
+// The pixels of row y from column lo up to and without hi, their numbers carried; the window is not asked about. Answers how many passed.
+pub fn span(
+    pen: Pen,
+    kind: Kind,
+    lo: u16,
+    hi: u16,
+    y: u16,
+    i: Carried,
+    z: Carried,
+    im: &mut [u16],
+    zm: &mut [u16],
+) -> u64
+    ensures { λ r. ⌜ picture (now (im .exit)) (now (zm .exit)) r ≡ drawn pen (spanOffers pen (rowsOf (pen .frame) (length (now (im .entry))) (length (now (zm .entry)))) kind lo hi y i z) (picture (now (im .entry)) (now (zm .entry)) 0) ⌝ }
+{
+    let frame = pen.frame;
+    if has_row(frame, y, im.len(), zm.len()) {
+        let end = shorter(hi, frame.line);
+        if lo < end {
+            return fill(pen, kind, lo, end, y, i, z, im, zm);
+        }
     }
     0
 }

@@ -1,9 +1,11 @@
 // One pixel: whether it is offered, whether it passes, and what it then stores.
 ghost use mathlib.Core.Path.{_≡_};
+ghost use mathlib.Core.Bool.{true};
 ghost use Prim.Native.Nat.{_+_, _<_, _≤_};
 ghost use lib.ListN.{length, set, getD};
 ghost use Rattle.picture.specs.Offer.{isMasked, inWindow, shows, offered, offer};
 ghost use Rattle.picture.specs.Place.{rowsOf};
+ghost use Rattle.picture.specs.Loops.{Plain, nearerAt};
 ghost use Rattle.picture.specs.Picture.{isDeep, inPlanes, passes, newI, newZ, picture, stepAt};
 use crate::Kind;
 use crate::Pen;
@@ -109,6 +111,27 @@ pub(crate) fn put_at(
     if is_passed(pen, kind, z, zm[at]) {
         store_i(pen, at, i, im);
         store_z(pen, kind, at, z, zm);
+        return n + 1;
+    }
+    n
+}
+
+// Whether nothing but the depth decides of a figure's pixels, and both numbers are stored whole.
+pub(crate) fn is_plain(pen: Pen, kind: Kind) -> bool
+    ensures { λ r. ⌜ (r ≡ true → Plain pen kind) ⌝ }
+{
+    let open = !is_masked(kind) | (pen.transparency == 65535);
+    open & is_deep(kind) & pen.depth & pen.ienable & pen.zenable & (pen.planes == 65535)
+}
+
+// One offer at a place, of the sort that `is_plain` finds.
+pub(crate) fn put_nearer(at: usize, i: u16, z: u16, im: &mut [u16], zm: &mut [u16], n: u64) -> u64
+    requires { ⌜ (at < length (now im)) × (at < length (now zm)) × (n ≤ 65535) ⌝ }
+    ensures { λ r. ⌜ (picture (now (im .exit)) (now (zm .exit)) r ≡ nearerAt at i z (picture (now (im .entry)) (now (zm .entry)) n)) × (r ≤ n + 1) ⌝ }
+{
+    if z < zm[at] {
+        im[at] = i;
+        zm[at] = z;
         return n + 1;
     }
     n

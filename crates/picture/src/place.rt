@@ -1,6 +1,6 @@
 // Where pixels lie in the lent memories.
 ghost use mathlib.Core.Path.{_≡_};
-ghost use Prim.Native.Nat.{_<_, min, max};
+ghost use Prim.Native.Nat.{_≤_, min, max};
 ghost use lib.Dec.{ltb};
 ghost use Rattle.picture.specs.Place.{placeOf, rowsOf, inMemory};
 use crate::Frame;
@@ -49,7 +49,7 @@ pub(crate) fn is_inside(frame: Frame, x: u16, y: u16, ni: usize, nz: usize) -> b
 
 // The place of pixel (x, y).
 pub(crate) fn place(frame: Frame, x: u16, y: u16) -> usize
-    ensures { λ r. ⌜ r ≡ placeOf frame x y ⌝ }
+    ensures { λ r. ⌜ (r ≡ placeOf frame x y) × (r ≤ 4294967295) ⌝ }
 {
     (y as usize) * (frame.line as usize) + (x as usize)
 }

@@ -25,7 +25,7 @@ put-at-requires c κs =
     let rows = rowsOf (a .pen .frame) (length (a .im .now)) (length (a .zm .now)) in
     let below = place-below (a .pen .frame) (length (a .im .now)) (length (a .zm .now)) (a .x) (a .y)
     (offered-inside (a .pen) rows (a .kind) (a .x) (a .y) (sym (o .is-offered .ensures) ∙ c .before .before .before .before .if1 .taken)) in
-    (omega (arith, c .before .before .place .ensures, below .0), omega (arith, c .before .before .place .ensures, below .1), omega arith)
+    (omega (arith, c .before .before .place .ensures .0, below .0), omega (arith, c .before .before .place .ensures .0, below .1), omega arith)
 
 same-length : tie.Need-same-length
 same-length c = search needs
@@ -40,7 +40,7 @@ returns c =
     let a = o .before .before .before .args in
     keep-drawn (a .pen) (rowsOf (a .pen .frame) (length (a .im .now)) (length (a .zm .now))) (a .kind) (a .x) (a .y) (a .i) (a .z) (picture (a .im .now) (a .zm .now) 0) _
     (sym (o .is-offered .ensures) ∙ c .before .before .before .before .before .before .before .before .before .if1 .taken)
-    (p .put-at .ensures .0 ∙ ap (λ (at : ℕ). stepAt (a .pen) (a .kind) at (a .i) (a .z) (picture (a .im .now) (a .zm .now) 0)) (c .before .before .before .before .before .before .before .place .ensures))
+    (p .put-at .ensures .0 ∙ ap (λ (at : ℕ). stepAt (a .pen) (a .kind) at (a .i) (a .z) (picture (a .im .now) (a .zm .now) 0)) (c .before .before .before .before .before .before .before .place .ensures .0))
 
 returns-2 : tie.Need-returns-2
 returns-2 c =

@@ -18,7 +18,7 @@ add-result c = let a = c .before .args in omega (arith, place-fits (a .y) (a .fr
 
 returns : tie.Need-returns
 unfolding placeOf
-returns c = refl
+returns c = let a = c .before .args in (refl, omega (arith, place-fits (a .y) (a .frame .line) (omega arith) (omega arith)))
 
 pub place-spec : {M : Type 1} → statement M
 place-spec = tie.close (tie.spec cast-result mul-result add-result returns)

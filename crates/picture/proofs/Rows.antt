@@ -1,0 +1,156 @@
+-- A run of pixels of one row: what is offered of it, and how its numbers are carried. Assumes nothing.
+use mathlib.Core.Path.{_≡_, refl, sym, ap, ap₂, _∙_}
+use mathlib.Core.Bool.{Bool, true, false, cond, not, _&&_, _||_}
+use mathlib.Core.List.{List, []}
+use Prim.Native.Nat.{ℕ, zero, suc, _+_, _-_, _*_, _/_, _%_, _^_, _≤_, _<_, min}
+use native.Mathlib.Nat.{add-assoc, zero-mul, add-zero, mod-eq-of-lt, suc-mul, mod-add-mod}
+use native.Mathlib.Numerals.{add-one}
+use native.Mathlib.Omega.{arith}
+use lib.Bits.{and-zero-r, or-zero-l, and-mask}
+use lib.ListN.{getD, set}
+use lib.Dec.{ltb, eqb}
+use borrow.Author.Tests.{lt-ltb, le-ltb, ltb-true, ltb-false, eqb-true}
+use Rattle.picture.specs.declared.Pen.{Pen}
+use Rattle.picture.specs.declared.Kind.{Kind}
+use Rattle.picture.specs.declared.Carried.{Carried}
+use Rattle.picture.specs.Place.{placeOf, inMemory}
+use Rattle.picture.specs.Offer.{Offer, offer, isMasked, shows}
+use Rattle.picture.specs.Picture.{isDeep, passes, inPlanes, newI, newZ, Picture, picture, stepAt, step, drawn}
+use Rattle.picture.specs.Draw.{shown, seen, carriedTo, spanPixel, spanOffers}
+use Rattle.picture.specs.Loops.{Plain, nearerAt}
+use Rattle.picture.proofs.Places.{both}
+use Rattle.picture.proofs.Spans.{spans-stop, spans-none}
+
+-- ---- one pixel
+
+pub shown-drawn : (pen : Pen) (kind : Kind) (x y i z : ℕ) (p q : Picture) → (not (isMasked kind) || shows pen x y) ≡ true
+    → q ≡ stepAt pen kind (placeOf (pen .frame) x y) i z p → q ≡ drawn pen (shown pen (offer kind x y i z)) p
+unfolding shown drawn step
+shown-drawn pen kind x y i z p q h e = rw h e
+
+pub shown-left : (pen : Pen) (kind : Kind) (x y i z : ℕ) (p : Picture) → (not (isMasked kind) || shows pen x y) ≡ false
+    → p ≡ drawn pen (shown pen (offer kind x y i z)) p
+unfolding shown drawn
+shown-left pen kind x y i z p h = rw h
+
+-- all planes store the number whole
+in-all-planes : (old new : ℕ) → new ≤ 65535 → inPlanes 65535 old new ≡ new
+unfolding inPlanes
+in-all-planes old new h = rw (and-zero-r old, or-zero-l) (and-mask new 16 ∙ mod-eq-of-lt (omega arith))
+
+pub step-nearer : (pen : Pen) (kind : Kind) → Plain pen kind → (at i z : ℕ) → i ≤ 65535 → (p : Picture) → stepAt pen kind at i z p ≡ nearerAt at i z p
+unfolding stepAt nearerAt passes newI newZ
+step-nearer pen kind k at i z h p = rw (k .depth, k .deep, k .ienable, k .zenable, k .planes, in-all-planes (getD (p .i) at 0) i h)
+
+module _ (at i z : ℕ) (im zm : List ℕ) (n : ℕ) where
+  pub nearer-pass : z < getD zm at 0 → nearerAt at i z (picture im zm n) ≡ picture (set im at i) (set zm at z) (n + 1)
+  unfolding nearerAt
+  nearer-pass h = rw (lt-ltb _ _ h)
+
+  pub nearer-fail : getD zm at 0 ≤ z → nearerAt at i z (picture im zm n) ≡ picture im zm n
+  unfolding nearerAt
+  nearer-fail h = rw (le-ltb _ _ h)
+
+-- a test that holds below n, computed
+every : (ℕ → Bool) → ℕ → Bool
+every f zero = true
+every f (suc n) = every f n && f n
+
+each : (f : ℕ → Bool) (n : ℕ) → every f n ≡ true → (j : ℕ) → j < n → f j ≡ true
+unfolding every
+each f zero e j h = absurd (omega arith)
+each f (suc n) e j h = go (ltb j n) refl (each f n (both (every f n) (f n) e .0) j)
+  where
+    go : (b : Bool) → ltb j n ≡ b → (j < n → f j ≡ true) → f j ≡ true
+    go true t below = below (ltb-true j n t)
+    go false t below =
+        let same : j ≡ n = omega (arith, ltb-false j n t) in
+        ap f same ∙ both (every f n) (f n) e .1
+
+-- a pattern of all ones shows every pixel
+ones-show : (j : ℕ) → j < 16 → eqb (65535 / 2 ^ j % 2) 1 ≡ true
+unfolding every
+ones-show = each (λ j. eqb (65535 / 2 ^ j % 2) 1) 16 refl
+
+pub shows-all : (pen : Pen) (x y : ℕ) → pen .transparency ≡ 65535 → shows pen x y ≡ true
+unfolding shows
+shows-all pen x y e = rw e (ones-show (4 * (y % 4) + x % 4) (omega arith))
+
+pub plain-of : (pen : Pen) (kind : Kind)
+    → (not (isMasked kind) || eqb (pen .transparency) 65535) && isDeep kind && pen .depth && pen .ienable && pen .zenable && eqb (pen .planes) 65535 ≡ true
+    → Plain pen kind
+plain-of pen kind e =
+    let f = both _ (eqb (pen .planes) 65535) e in
+    let d = both _ (pen .zenable) (f .0) in
+    let c = both _ (pen .ienable) (d .0) in
+    let b = both _ (pen .depth) (c .0) in
+    let a = both (not (isMasked kind) || eqb (pen .transparency) 65535) (isDeep kind) (b .0) in
+    record {
+      shows-all = λ x y. go (not (isMasked kind)) (eqb (pen .transparency) 65535) (shows pen x y) (a .0) (λ t. shows-all pen x y (eqb-true _ _ t));
+      deep = a .1;
+      depth = b .1;
+      ienable = c .1;
+      zenable = d .1;
+      planes = eqb-true _ _ (f .1);
+    }
+  where
+    go : (p q r : Bool) → p || q ≡ true → (q ≡ true → r ≡ true) → p || r ≡ true
+    go true q r e f = refl
+    go false q r e f = f e
+
+-- ---- a run
+
+pub seen-inside : (pen : Pen) (rows : ℕ) (o : Offer) → o .x < pen .frame .line → o .y < rows → seen pen rows o ≡ shown pen o
+unfolding seen inMemory
+seen-inside pen rows o h k = rw (lt-ltb _ _ h, lt-ltb _ _ k)
+
+pub seen-right : (pen : Pen) (rows : ℕ) (o : Offer) → pen .frame .line ≤ o .x → seen pen rows o ≡ []
+unfolding seen inMemory
+seen-right pen rows o h = rw (le-ltb _ _ h)
+
+pub seen-above : (pen : Pen) (rows : ℕ) (o : Offer) → ltb (o .y) rows ≡ false → seen pen rows o ≡ []
+unfolding seen inMemory
+seen-above pen rows o h = go (ltb (o .x) (pen .frame .line))
+  where
+    go : (b : Bool) → cond (b && ltb (o .y) rows) (shown pen o) [] ≡ []
+    go true = rw h
+    go false = refl
+
+module _ (pen : Pen) (rows : ℕ) (kind : Kind) (lo y : ℕ) (i z : Carried) where
+  -- nothing is seen of a row that is not in use, nor from the line length on
+  pub span-above : (hi : ℕ) → ltb y rows ≡ false → spanOffers pen rows kind lo hi y i z ≡ []
+  unfolding spanOffers
+  span-above hi h = spans-none _ (hi - lo) (λ j k. seen-above pen rows (spanPixel kind lo y i z j) h)
+
+  pub span-right : (hi : ℕ) → spanOffers pen rows kind lo hi y i z ≡ spanOffers pen rows kind lo (min hi (pen .frame .line)) y i z
+  unfolding spanOffers
+  span-right hi =
+      spans-stop _ (min hi (pen .frame .line) - lo) (hi - lo) (omega arith) (λ j a b. seen-right pen rows (spanPixel kind lo y i z j) (omega arith))
+
+  pub span-empty : (hi : ℕ) → hi ≤ lo → spanOffers pen rows kind lo hi y i z ≡ []
+  unfolding spanOffers
+  span-empty hi h = spans-none _ (hi - lo) (λ j k. absurd (omega arith))
+
+-- ---- a number carried, modulo 2 ^ 64
+
+pub carried-start : (c : Carried) → c .first < 2 ^ 64 → c .first ≡ (c .first + 0 * c .add) % 2 ^ 64
+carried-start c h = rw (zero-mul, add-zero) (sym (mod-eq-of-lt h))
+
+pub carried-next : (k g j r m : ℕ) → m ≡ (k + j * g) % 2 ^ 64 → r ≡ (m + g) % 2 ^ 64 → r ≡ (k + (j + 1) * g) % 2 ^ 64
+carried-next k g j r m e h =
+    h ∙ ap (λ (a : ℕ). (a + g) % 2 ^ 64) e ∙ mod-add-mod (k + j * g) (2 ^ 64) g
+    ∙ ap (λ (a : ℕ). a % 2 ^ 64) (add-assoc k (j * g) g ∙ ap (λ (a : ℕ). k + a) (sym (ap (λ (b : ℕ). b * g) (add-one j) ∙ suc-mul j g)))
+
+pub carried-at : (c : Carried) (j m : ℕ) → m ≡ (c .first + j * c .add) % 2 ^ 64 → m / 2 ^ 48 ≡ carriedTo c j
+unfolding carriedTo
+carried-at c j m e = ap (λ (a : ℕ). a / 2 ^ 48) e
+
+-- ---- a turn of the loop over a row
+
+module _ (pen : Pen) (rows : ℕ) (kind : Kind) (lo y : ℕ) (i z : Carried) (j : ℕ) where
+  pub row-turn : (p : Picture) {q : Picture} {iw zw : ℕ} → lo + j < pen .frame .line → y < rows → iw ≡ carriedTo i j → zw ≡ carriedTo z j
+      → q ≡ drawn pen (shown pen (offer kind (lo + j) y iw zw)) p → q ≡ drawn pen (seen pen rows (spanPixel kind lo y i z j)) p
+  row-turn p h k ei ez e =
+      e
+      ∙ ap₂ (λ (a b : ℕ). drawn pen (shown pen (offer kind (lo + j) y a b)) p) ei ez
+      ∙ ap (λ (os : List Offer). drawn pen os p) (sym (seen-inside pen rows (spanPixel kind lo y i z j) h k))

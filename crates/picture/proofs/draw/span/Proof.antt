@@ -1,0 +1,76 @@
+-- `draw::span` meets its contract: nothing is seen outside the row's part of the memory. Assumes nothing.
+use mathlib.Core.Path.{sym, ap, _∙_}
+use mathlib.Core.List.{List}
+use Prim.Native.Nat.{ℕ, min}
+use native.Mathlib.Omega.{arith}
+use lib.ListN.{length}
+use borrow.Author.Tests.{ltb-true}
+use Rattle.picture.specs.Place.{rowsOf}
+use Rattle.picture.specs.Offer.{Offer}
+use Rattle.picture.specs.Picture.{picture, drawn}
+use Rattle.picture.specs.Draw.{spanOffers}
+use Rattle.picture.proofs.Fold.{drawn-nil}
+use Rattle.picture.proofs.Rows.{span-right, span-empty, span-above}
+use borrow.Author.Needs.{needs}
+use Rattle.picture.proofs.draw.span.Statement.{statement}
+use Rattle.picture.proofs.draw.span.Tie as tie
+
+has-row-requires : tie.Need-has-row-requires
+has-row-requires c κs = search needs
+
+shorter-requires : tie.Need-shorter-requires
+shorter-requires c κs = search needs
+
+fill-requires : tie.Need-fill-requires
+fill-requires c κs =
+    let h = c .before .before .before .before .before in
+    (c .before .before .if2 .taken, omega (arith, c .before .before .before .shorter .ensures), ltb-true _ _ (sym (h .has-row .ensures) ∙ c .before .before .before .before .if1 .taken))
+
+same-length : tie.Need-same-length
+same-length c = search needs
+
+same-length-2 : tie.Need-same-length-2
+same-length-2 c = search needs
+
+returns : tie.Need-returns
+returns c =
+    let a = c .before .before .before .before .before .before .before .before .before .before .before .before .before .before .args in
+    let rows = rowsOf (a .pen .frame) (length (a .im .now)) (length (a .zm .now)) in
+    let p = picture (a .im .now) (a .zm .now) 0 in
+    c .before .before .before .before .fill .ensures
+    ∙ ap (λ (h : ℕ). drawn (a .pen) (spanOffers (a .pen) rows (a .kind) (a .lo) h (a .y) (a .i) (a .z)) p) (c .before .before .before .before .before .before .before .before .shorter .ensures)
+    ∙ ap (λ (os : List Offer). drawn (a .pen) os p) (sym (span-right (a .pen) rows (a .kind) (a .lo) (a .y) (a .i) (a .z) (a .hi)))
+
+returns-2 : tie.Need-returns-2
+returns-2 c =
+    let a = c .before .before .before .before .before .before .before .args in
+    let rows = rowsOf (a .pen .frame) (length (a .im .now)) (length (a .zm .now)) in
+    let p = picture (a .im .now) (a .zm .now) 0 in
+    sym
+    (ap (λ (os : List Offer). drawn (a .pen) os p)
+    (span-right (a .pen) rows (a .kind) (a .lo) (a .y) (a .i) (a .z) (a .hi)
+    ∙ span-empty (a .pen) rows (a .kind) (a .lo) (a .y) (a .i) (a .z) (min (a .hi) (a .pen .frame .line)) (omega (arith, c .before .shorter .ensures, c .if2 .left)))
+    ∙ drawn-nil (a .pen) p)
+
+returns-3 : tie.Need-returns-3
+returns-3 c =
+    let a = c .before .before .before .before .before .args in
+    let rows = rowsOf (a .pen .frame) (length (a .im .now)) (length (a .zm .now)) in
+    let p = picture (a .im .now) (a .zm .now) 0 in
+    sym
+    (ap (λ (os : List Offer). drawn (a .pen) os p)
+    (span-above (a .pen) rows (a .kind) (a .lo) (a .y) (a .i) (a .z) (a .hi) (sym (c .before .has-row .ensures) ∙ c .if1 .left))
+    ∙ drawn-nil (a .pen) p)
+
+pub span-spec : {M : Type 1} → statement M
+span-spec =
+    tie.close
+    (tie.spec
+    has-row-requires
+    shorter-requires
+    fill-requires
+    same-length
+    same-length-2
+    returns
+    returns-2
+    returns-3)

@@ -1,0 +1,17 @@
+-- `pixel::is_plain` meets its contract. Assumes nothing.
+use Rattle.picture.proofs.Rows.{plain-of}
+use borrow.Author.Needs.{needs}
+use Rattle.picture.proofs.pixel.is_plain.Statement.{statement}
+use Rattle.picture.proofs.pixel.is_plain.Tie as tie
+
+is-masked-requires : tie.Need-is-masked-requires
+is-masked-requires c κs = search needs
+
+is-deep-requires : tie.Need-is-deep-requires
+is-deep-requires c κs = search needs
+
+returns : tie.Need-returns
+returns c = let a = c .before .before .before .before .before .before .before .args in (λ e. plain-of (a .pen) (a .kind) (rw (c .before .before .before .before .before .before .is-masked .ensures, c .before .before .before .before .is-deep .ensures) at e))
+
+pub is-plain-spec : {M : Type 1} → statement M
+is-plain-spec = tie.close (tie.spec is-masked-requires is-deep-requires returns)
