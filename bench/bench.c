@@ -1,0 +1,283 @@
+// The driver: draws the same pseudo-random figures, and packs and unpacks the same stream, with the proved code and with two
+// implementations in C, by turns. Every run starts from the same memories and must leave the same ones and tell the same counts, else the
+// program says so and exits with 1. One line a row: the best rate of each, and ours over the better C.
+// usage: bench RUNS
+#include "rivals.h"
+
+struct timespec {
+    long tv_sec, tv_nsec;
+};
+int atoi(const char *);
+int clock_gettime(int, struct timespec *);
+void exit(int);
+int fflush(void *);
+int memcmp(const void *, const void *, size_t);
+void *memcpy(void *, const void *, size_t);
+void *memset(void *, int, size_t);
+int printf(const char *, ...);
+
+// ---- the sides
+
+enum { OURS, PLAIN, SPAN, SIDES };
+
+typedef struct {
+    const char *name;
+    TriangleCall *triangle;
+    SegmentCall *segment;
+    PackCall *pack;
+    UnpackCall *unpack;
+} Side;
+
+static const Side sides[SIDES] = {
+    {"ours", dextolumen_bench_triangle, dextolumen_bench_segment, dextolumen_bench_pack, dextolumen_bench_unpack},
+    {"plain", plain_triangle, plain_segment, plain_pack, plain_unpack},
+    {"span", span_triangle, span_segment, span_pack, span_unpack},
+};
+
+// ---- the rows
+
+typedef enum { TRIANGLES, SEGMENTS, PACK, UNPACK } Kind;
+
+// `size` is a triangle's pixels or a segment's steps, 0 for odd figures: tiny ones, many across the picture's far borders, some
+// without an inside. `mode` is 1 for constant triangles, and a segment's line mode.
+typedef struct {
+    const char *name;
+    Kind kind;
+    int size;
+    uint8_t mode;
+} Row;
+
+static const Row timed[] = {
+    {"gouraud 30", TRIANGLES, 30, 0},      {"gouraud 100", TRIANGLES, 100, 0},    {"gouraud 1000", TRIANGLES, 1000, 0},
+    {"gouraud 10000", TRIANGLES, 10000, 0}, {"constant 1000", TRIANGLES, 1000, 1}, {"mode 2 lines 100", SEGMENTS, 100, 2},
+    {"mode 0 lines 100", SEGMENTS, 100, 0}, {"pack 1 MiB", PACK, 0, 0},            {"unpack 1 MiB", UNPACK, 0, 0},
+};
+
+// Odd figures take no time worth telling, but the three sides must agree on them too.
+static const Row odd[] = {
+    {"odd gouraud", TRIANGLES, 0, 0},    {"odd constant", TRIANGLES, 0, 1},   {"odd mode 0 lines", SEGMENTS, 0, 0},
+    {"odd mode 1 lines", SEGMENTS, 0, 1}, {"odd mode 2 lines", SEGMENTS, 0, 2},
+};
+
+// ---- what is drawn
+
+enum {
+    LINE = 1024,
+    PLACES = LINE * LINE,
+    PIXELS = 4 * PLACES, // a row covers the picture about four times, whatever the figures' size: the depth test meets the same mixture
+    ODD = 50000,
+    MOST = PIXELS / 30,
+    BYTES = 1048575, // a packed stream of 1 MiB would hold no whole number of words, so it has a byte less
+    WORDS = BYTES / 5 * 2,
+};
+
+typedef struct {
+    uint16_t x, y, i, z;
+} Point;
+
+// A segment is from the first corner to the second.
+static struct {
+    Point corner[3];
+} figures[MOST];
+static size_t drawn;
+static uint32_t words[WORDS];
+static uint8_t bytes[BYTES];
+
+static const uint32_t PATTERN = 0xF0CCAA1D;
+static const uint16_t FOREGROUND = 0xBEEF, BACKGROUND = 0x1234;
+
+static uint64_t seed;
+
+// Splitmix64, below `limit`.
+static unsigned any(unsigned limit) {
+    uint64_t v = seed += 0x9E3779B97F4A7C15;
+    v = (v ^ v >> 30) * 0xBF58476D1CE4E5B9;
+    v = (v ^ v >> 27) * 0x94D049BB133111EB;
+    return (unsigned)((v ^ v >> 31) % limit);
+}
+
+static Point point(unsigned x, unsigned y) { return (Point){(uint16_t)x, (uint16_t)y, (uint16_t)any(65536), (uint16_t)any(65536)}; }
+
+// A figure in a box of its own, turned over and on its side as it comes, and the box anywhere in the picture.
+static void place(Point *corner, unsigned box) {
+    unsigned x = any(LINE - box), y = any(LINE - box), mirror = any(2), aside = any(2);
+    for (int k = 0; k < 3; k++) {
+        unsigned across = mirror ? box - corner[k].x : corner[k].x, up = corner[k].y;
+        corner[k].x = (uint16_t)(x + (aside ? up : across));
+        corner[k].y = (uint16_t)(y + (aside ? across : up));
+    }
+}
+
+// The corners come in every order, and so turn either way.
+static void draw_up_triangle(Point *corner, unsigned size) {
+    unsigned side = 1, first = any(3);
+    while (side * side / 2 < size) side++;
+    corner[first] = point(any(4), any(4));
+    corner[(first + 1) % 3] = point(side + any(4), any(4));
+    corner[(first + 2) % 3] = point(any(side), side + 1);
+    place(corner, side + 3);
+}
+
+static void draw_up_segment(Point *corner, unsigned size) {
+    unsigned first = any(2);
+    corner[first] = point(0, any(size + 1));
+    corner[1 - first] = point(size, any(size + 1));
+    corner[2] = corner[0];
+    place(corner, size);
+}
+
+static void draw_up_odd(Point *corner) {
+    unsigned side = 2 + any(14), x = any(2) ? any(LINE) : LINE - any(2 * side), y = any(2) ? any(LINE) : LINE - any(2 * side);
+    for (int k = 0; k < 3; k++) corner[k] = point(x + any(side), y + any(side));
+}
+
+static void draw_up_stream(void) {
+    for (size_t k = 0; k < WORDS; k++) words[k] = any(1048576);
+    plain_pack(words, WORDS, bytes, BYTES);
+}
+
+// Makes a row's figures, the same on every machine.
+static void draw_up(const Row *row) {
+    seed = 8512;
+    if (row->kind == PACK || row->kind == UNPACK) {
+        draw_up_stream();
+        return;
+    }
+    drawn = row->size == 0 ? ODD : PIXELS / (size_t)row->size;
+    for (size_t k = 0; k < drawn; k++) {
+        Point *corner = figures[k].corner;
+        if (row->size == 0) draw_up_odd(corner);
+        else if (row->kind == TRIANGLES) draw_up_triangle(corner, (unsigned)row->size);
+        else draw_up_segment(corner, (unsigned)row->size);
+    }
+}
+
+// ---- the memories
+
+// What a run writes, and what the first run wrote. The codec's output lies in the picture's memory: whatever a side writes, one comparison
+// sees it, and what it must leave alone too.
+static union Memory {
+    uint16_t picture[2][PLACES];
+    uint8_t packed[4 * PLACES];
+    uint32_t unpacked[PLACES];
+} memory, wanted;
+
+static void clear(void) {
+    memset(memory.picture[0], 0, sizeof memory.picture[0]);
+    memset(memory.picture[1], 255, sizeof memory.picture[1]);
+}
+
+#define OF(p) (p).x, (p).y, (p).i, (p).z
+#define LENT memory.picture[0], PLACES, memory.picture[1], PLACES
+
+static uint64_t triangles(TriangleCall *call, uint8_t constant) {
+    uint64_t count = 0;
+    for (size_t k = 0; k < drawn; k++) {
+        const Point *c = figures[k].corner;
+        count += call(LINE, constant, OF(c[0]), OF(c[1]), OF(c[2]), LENT);
+    }
+    return count;
+}
+
+static uint64_t segments(SegmentCall *call, uint8_t mode) {
+    uint64_t count = 0;
+    for (size_t k = 0; k < drawn; k++) {
+        const Point *c = figures[k].corner;
+        count += call(LINE, mode, PATTERN, FOREGROUND, BACKGROUND, OF(c[0]), OF(c[1]), LENT);
+    }
+    return count;
+}
+
+// One side does a row once. Answers the passed pixels, or the length written.
+static uint64_t once(const Row *row, const Side *side) {
+    switch (row->kind) {
+    case TRIANGLES: return triangles(side->triangle, row->mode);
+    case SEGMENTS: return segments(side->segment, row->mode);
+    case PACK: return side->pack(words, WORDS, memory.packed, sizeof memory.packed);
+    case UNPACK: return side->unpack(bytes, BYTES, memory.unpacked, PLACES);
+    }
+    return 0;
+}
+
+// What one pass over a row is worth: its offered pixels, or the bytes of the packed stream.
+static uint64_t worth(const Row *row) {
+    switch (row->kind) {
+    case TRIANGLES: return triangles(plain_offered, 0);
+    case SEGMENTS: return drawn * ((uint64_t)row->size + 1);
+    default: return BYTES;
+    }
+}
+
+// ---- the runs
+
+static double now(void) {
+    struct timespec t;
+    clock_gettime(1, &t); // CLOCK_MONOTONIC
+    return (double)t.tv_sec + (double)t.tv_nsec * 1e-9;
+}
+
+static void agree(const Row *row, const Side *side, uint64_t count, uint64_t expected) {
+    int alike = memcmp(&memory, &wanted, sizeof memory) == 0;
+    if (count == expected && alike) return;
+    printf("%s: %s tells %lu, plain %lu, and the memories %s\n", row->name, side->name, (unsigned long)count, (unsigned long)expected,
+           alike ? "are alike" : "differ");
+    exit(1);
+}
+
+// The plain side's outcome of a row is the one that all runs are held to. It does something, or nothing would be measured.
+static uint64_t settle(const Row *row) {
+    draw_up(row);
+    clear();
+    uint64_t count = once(row, &sides[PLAIN]);
+    memcpy(&wanted, &memory, sizeof memory);
+    if (count == 0) {
+        printf("%s: nothing was done\n", row->name);
+        exit(1);
+    }
+    return count;
+}
+
+// Seconds a pass, over passes of 30 ms together. Clearing and comparing are not timed.
+static double run(const Row *row, const Side *side, uint64_t expected) {
+    double spent = 0;
+    int passes = 0;
+    while (spent < 0.03) {
+        clear();
+        double begun = now();
+        uint64_t count = once(row, side);
+        spent += now() - begun;
+        passes++;
+        agree(row, side, count, expected);
+    }
+    return spent / passes;
+}
+
+static void measure(const Row *row, int runs) {
+    uint64_t expected = settle(row);
+    double amount = (double)worth(row) * 1e-6, rate[SIDES] = {0};
+    for (int k = 0; k < runs; k++)
+        for (int s = 0; s < SIDES; s++) {
+            double reached = amount / run(row, &sides[s], expected);
+            if (reached > rate[s]) rate[s] = reached;
+        }
+    double better = rate[PLAIN] > rate[SPAN] ? rate[PLAIN] : rate[SPAN];
+    printf("%-16s ", row->name);
+    for (int s = 0; s < SIDES; s++) printf(" %s %.1f ", sides[s].name, rate[s]);
+    printf(" %s  ratio %.2f\n", row->kind == PACK || row->kind == UNPACK ? "MB/s" : "Mpixel/s", rate[OURS] / better);
+    fflush(0);
+}
+
+static void check(const Row *row) {
+    uint64_t expected = settle(row);
+    for (int s = 0; s < SIDES; s++) {
+        clear();
+        agree(row, &sides[s], once(row, &sides[s]), expected);
+    }
+}
+
+int main(int argc, char **argv) {
+    int runs = argc > 1 ? atoi(argv[1]) : 1;
+    for (size_t k = 0; k < sizeof odd / sizeof odd[0]; k++) check(&odd[k]);
+    for (size_t k = 0; k < sizeof timed / sizeof timed[0]; k++) measure(&timed[k], runs);
+    return 0;
+}
