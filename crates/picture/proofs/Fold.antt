@@ -2,8 +2,9 @@
 use mathlib.Core.Path.{_≡_, refl, sym, ap, _∙_}
 use mathlib.Core.Bool.{Bool, true, false, cond}
 use mathlib.Core.List.{List, [], _∷_, _++_, foldl-append}
-use Prim.Native.Nat.{ℕ, _+_}
-use native.Mathlib.Nat.{add-assoc, add-zero}
+use Prim.Native.Nat.{ℕ, _+_, _≤_}
+use native.Mathlib.Nat.{add-assoc, add-zero, le-refl}
+use native.Mathlib.Omega.{arith}
 use lib.ListN.{length, getD, set, length-set}
 use Rattle.picture.specs.declared.Pen.{Pen}
 use Rattle.picture.specs.declared.Kind.{Kind}
@@ -90,3 +91,18 @@ pub drawn-z : (pen : Pen) (os : List Offer) (p : Picture) → length (drawn pen 
 unfolding drawn
 drawn-z pen [] p = refl
 drawn-z pen (o ∷ os) p = drawn-z pen os (step pen p o) ∙ step-z pen p o
+
+-- ---- no more pass than are offered
+
+step-passed : (pen : Pen) (p : Picture) (o : Offer) → step pen p o .passed ≤ p .passed + 1
+unfolding step stepAt
+step-passed pen p o = go (passes pen (o .kind) (o .z) (getD (p .z) (placeOf (pen .frame) (o .x) (o .y)) 0)) _ _
+  where
+    go : (b : Bool) (i z : List ℕ) → cond b (picture i z (p .passed + 1)) p .passed ≤ p .passed + 1
+    go true i z = le-refl _
+    go false i z = omega arith
+
+pub drawn-passed : (pen : Pen) (os : List Offer) (p : Picture) → drawn pen os p .passed ≤ p .passed + length os
+unfolding drawn
+drawn-passed pen [] p = omega arith
+drawn-passed pen (o ∷ os) p = omega (arith, drawn-passed pen os (step pen p o), step-passed pen p o)

@@ -3,7 +3,8 @@ use mathlib.Core.Path.{_≡_, refl, sym}
 use mathlib.Core.Bool.{Bool, true, false, cond, not, _&&_, _||_}
 use mathlib.Core.List.{List, [], _∷_}
 use Prim.Native.Nat.{ℕ, _≤_}
-use lib.ListN.{getD, set}
+use native.Mathlib.Omega.{arith}
+use lib.ListN.{length, getD, set}
 use lib.Seq.{set-getD}
 use lib.Dec.{leb}
 use borrow.Author.Tests.{le-leb, leb-true}
@@ -28,6 +29,15 @@ keep-seen pen rows o h = rw h (go (inMemory (pen .frame) rows (o .x) (o .y)) (no
 pub keep-out : (pen : Pen) (rows : ℕ) (o : Offer) → inWindow pen (o .x) (o .y) ≡ false → keep pen rows o ≡ []
 unfolding keep offered
 keep-out pen rows o h = rw h
+
+-- at most one
+pub keep-length : (pen : Pen) (rows : ℕ) (o : Offer) → length (keep pen rows o) ≤ 1
+unfolding keep
+keep-length pen rows o = go (offered pen rows o)
+  where
+    go : (b : Bool) → length (cond b (o ∷ []) []) ≤ 1
+    go true = omega arith
+    go false = omega arith
 
 module _ (pen : Pen) (x y : ℕ) where
   pub window-in : pen .left ≤ x → x ≤ pen .right → pen .bottom ≤ y → y ≤ pen .top → inWindow pen x y ≡ true

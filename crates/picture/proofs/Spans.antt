@@ -1,16 +1,16 @@
 -- Offers laid end to end: where nothing is offered, and how a loop goes through them. Assumes nothing.
 use mathlib.Core.Path.{_≡_, refl, sym, ap, ap₂, _∙_}
 use mathlib.Core.List.{List, [], _++_, append-nil, append-assoc}
-use Prim.Native.Nat.{ℕ, zero, suc, _+_, _-_, _≤_, _<_, zero-le}
-use native.Mathlib.Nat.{add-zero, add-suc, add-sub-of-le}
+use Prim.Native.Nat.{ℕ, zero, suc, _+_, _-_, _*_, _≤_, _<_, zero-le}
+use native.Mathlib.Nat.{add-zero, add-suc, add-sub-of-le, suc-mul}
 use native.Mathlib.Numerals.{add-one}
 use native.Mathlib.Omega.{arith}
-use lib.ListN.{length}
+use lib.ListN.{length, length-append}
 use Rattle.picture.specs.declared.Pen.{Pen}
 use Rattle.picture.specs.Offer.{Offer}
 use Rattle.picture.specs.Picture.{Picture, picture, drawn}
 use Rattle.picture.specs.Draw.{spans}
-use Rattle.picture.proofs.Fold.{drawn-nil, drawn-append, drawn-from, drawn-i, drawn-z}
+use Rattle.picture.proofs.Fold.{drawn-nil, drawn-append, drawn-from, drawn-i, drawn-z, drawn-passed}
 
 pub spans-zero : (f : ℕ → List Offer) → spans f 0 ≡ []
 unfolding spans
@@ -56,6 +56,11 @@ spans-part f lo hi n l h a b =
     ∙ spans-from f lo (hi - lo)
     ∙ ap (λ (os : List Offer). os ++ spans (λ j. f (lo + j)) (hi - lo)) (spans-none f lo a)
 
+-- no more than m at each place
+pub spans-length : (f : ℕ → List Offer) (m n : ℕ) → ((k : ℕ) → length (f k) ≤ m) → length (spans f n) ≤ n * m
+spans-length f m zero h = rw spans-zero (omega arith)
+spans-length f m (suc n) h = rw (spans-suc, length-append, suc-mul) (omega (arith, spans-length f m n h, h n))
+
 -- ---- a loop that has drawn the offers of f below x, and counted n of them
 
 pub record Reached (pen : Pen) (f : ℕ → List Offer) (i₀ z₀ i z : List ℕ) (n x : ℕ) : Type 0 where
@@ -83,3 +88,7 @@ module _ {pen : Pen} {f : ℕ → List Offer} {i₀ z₀ : List ℕ} {x : ℕ} w
 
   pub reached-z : {i z : List ℕ} {n : ℕ} → Reached pen f i₀ z₀ i z n x → length z ≡ length z₀
   reached-z r = ap (λ (p : Picture). length (p .z)) (r .so) ∙ drawn-z pen (spans f x) _
+
+  -- the count is bounded by what was offered
+  pub reached-count : {i z : List ℕ} {n : ℕ} (m : ℕ) → Reached pen f i₀ z₀ i z n x → ((k : ℕ) → length (f k) ≤ m) → n ≤ x * m
+  reached-count m r h = omega (arith, ap (λ (p : Picture). p .passed) (r .so), drawn-passed pen (spans f x) (picture i₀ z₀ 0), spans-length f m x h)

@@ -1,0 +1,343 @@
+-- Numbers carried along a row as 2 ^ 48 times themselves and a part: by a factor f near 2 ^ 48 / 2 D where the triangle is small, by a
+-- quotient rounded up where it is not. One law, `near-told`, says that both tell the number. Assumes nothing.
+use mathlib.Core.Path.{_≡_, refl, sym, ap, _∙_}
+use mathlib.Core.Bool.{Bool, true, false}
+use Prim.Native.Nat.{ℕ, zero, suc, _+_, _*_, _-_, _/_, _%_, _^_, _≤_, _<_, min}
+use native.Mathlib.Nat.{mul-comm, mul-assoc, mul-left-comm, mul-add, add-mul, suc-mul, mul-le-mul, mul-le-mul-left, mul-le-mul-right, lt-of-mul-lt-mul-right, le-div-iff-mul-le, div-lt-iff-lt-mul, lt-div-mul-add, mul-div-le, mod-eq-of-lt, mod-lt, div-add-mod', zero-mul, add-zero, le-refl, le-of-mul-le-mul-right, le-of-suc-le-suc}
+use native.Mathlib.Omega.{arith}
+use native.Mathlib.Numerals.{add-one}
+use Rattle.triangle.specs.declared.Corners.{Corners}
+use Rattle.triangle.specs.declared.Edges.{Edges}
+use Rattle.triangle.specs.Edge.{edgeAt, covers, amount, areaOf}
+use Rattle.triangle.specs.Number.{massOf, mixed, shade}
+use Rattle.triangle.specs.Loops.{edgesAt, Turned, Ready, massBy, scaled, Paces, Near, Drifts, Runs}
+use Rattle.triangle.proofs.Plane.{mean-most, mixed-most, right-plus, right-minus}
+use Rattle.triangle.proofs.Covers.{covered-ready, covered-within}
+
+-- ---- bare numbers
+
+-- a quotient by a number near: k is 2 ^ 48 times n over d, and less than 2 ^ 48 over d more
+module _ (n d k : ℕ) (pos : 0 < d) (least : n * 281474976710656 ≤ k * d) (most : k * d < n * 281474976710656 + 281474976710656) where
+  low : n / d * 281474976710656 ≤ k
+  low =
+      le-of-mul-le-mul-right {k = d}
+      (omega (
+        arith,
+        least,
+        (le-div-iff-mul-le {k = d} {x = n / d} {y = n} pos) .0 (le-refl _),
+        mul-assoc (n / d) 281474976710656 d,
+        mul-left-comm (n / d) 281474976710656 d,
+      ))
+      pos
+
+  high : k < (n / d + 1) * 281474976710656
+  high =
+      lt-of-mul-lt-mul-right d {m = k} {n = (n / d + 1) * 281474976710656}
+      (omega (
+        arith,
+        most,
+        lt-div-mul-add {a = n} {b = d} pos,
+        add-mul (n / d * 281474976710656) 281474976710656 d,
+        add-mul (n / d) 1 281474976710656,
+        mul-assoc (n / d) 281474976710656 d,
+        mul-left-comm (n / d) 281474976710656 d,
+      ))
+
+  pub near-told : k / 281474976710656 ≡ n / d
+  near-told =
+      let a : n / d ≤ k / 281474976710656 = (le-div-iff-mul-le {k = 281474976710656} {x = n / d} {y = k} (omega arith)) .1 low in
+      let b : k / 281474976710656 < n / d + 1 = (div-lt-iff-lt-mul {k = 281474976710656} {x = k} {y = n / d + 1} (omega arith)) .1 high in
+      omega arith
+
+-- by a product: f is 2 ^ 48 over d, and a little more
+pub told : (n d f : ℕ) → 0 < d → 281474976710656 ≤ f * d → f * d ≤ 281474976710656 + d → n * d < 281474976710656 → n * f / 281474976710656 ≡ n / d
+told n d f pos least most small =
+    near-told n d (n * f) pos
+    (omega (arith, mul-assoc n f d, mul-le-mul-left n least))
+    (omega (arith, mul-assoc n f d, mul-le-mul-left n most, mul-add n 281474976710656 d))
+
+-- ---- a part of 2 ^ 48, by two divisions
+
+module _ (r m : ℕ) (pos : 0 < m) where
+  abbrev twice : ℕ
+  twice = r * 4294967296 / m * 65536 + r * 4294967296 % m * 65536 / m
+
+  whole-of : twice * m + r * 4294967296 % m * 65536 % m ≡ r * 281474976710656
+  whole-of =
+      omega (
+        arith,
+        div-add-mod' (r * 4294967296) m,
+        div-add-mod' (r * 4294967296 % m * 65536) m,
+        add-mul (r * 4294967296 / m * 65536) (r * 4294967296 % m * 65536 / m) m,
+        mul-assoc (r * 4294967296 / m) 65536 m,
+        mul-left-comm (r * 4294967296 / m) 65536 m,
+      )
+
+  pub part-low : twice * m ≤ r * 281474976710656
+  part-low = omega (arith, whole-of)
+
+  pub part-high : r * 281474976710656 < twice * m + m
+  part-high = omega (arith, whole-of, mod-lt (r * 4294967296 % m * 65536) pos)
+
+  pub part-small : r < m → twice < 281474976710656
+  part-small h = lt-of-mul-lt-mul-right m {m = twice} {n = 281474976710656} (omega (arith, part-low))
+
+pub quotient-small : (n m : ℕ) → 0 < m → 2 * n ≤ 131071 * m → n / m ≤ 65535
+quotient-small n m p h = le-of-suc-le-suc ((div-lt-iff-lt-mul {k = m} {x = n} {y = 65536} p) .1 (omega arith))
+
+-- the whole part before it
+module _ (n m k : ℕ) (low : k * m ≤ n % m * 281474976710656) (high : n % m * 281474976710656 < k * m + m) where
+  parts : (n / m * 281474976710656 + k) * m ≡ n / m * m * 281474976710656 + k * m
+  parts =
+      omega (
+        arith,
+        add-mul (n / m * 281474976710656) k m,
+        mul-assoc (n / m) 281474976710656 m,
+        mul-left-comm (n / m) 281474976710656 m,
+      )
+
+  pub fixed-low : (n / m * 281474976710656 + k) * m ≤ n * 281474976710656
+  fixed-low = omega (arith, parts, div-add-mod' n m)
+
+  pub fixed-high : n * 281474976710656 < (n / m * 281474976710656 + k) * m + m
+  fixed-high = omega (arith, parts, div-add-mod' n m)
+
+  pub fixed-fits : 0 < m → 2 * n ≤ 131071 * m → n / m * 281474976710656 + k ≤ 18446603336221196288
+  fixed-fits p h = le-of-mul-le-mul-right {k = m} (omega (arith, fixed-low)) p
+
+module _ (d f : ℕ) (few : 2 * d ≤ 65536) (most : f * (2 * d) ≤ 281474976710656 + 2 * d) where
+  unit : d * f ≤ 140737488388096
+  unit = omega (arith, mul-left-comm f 2 d, mul-comm f d)
+
+  pub factor-small : 0 < d → f ≤ 281474976776192
+  factor-small p = omega (arith, mul-le-mul-left {m = 1} {n = 2 * d} f (omega arith))
+
+  pub sum-fits : (n : ℕ) → n ≤ 131071 * d → n * f < 18446744073709551616
+  sum-fits n h = omega (arith, unit, mul-le-mul-right f h, mul-assoc 131071 d f)
+
+  pub step-fits : (k : ℕ) → k ≤ 65535 * d → k * (2 * f) < 18446744073709551616
+  step-fits k h = omega (arith, unit, mul-le-mul-right f h, mul-assoc 65535 d f, mul-left-comm k 2 f)
+
+  pub sum-small : (n : ℕ) → n ≤ 131071 * d → n * (2 * d) < 281474976710656
+  sum-small n h = omega (arith, mul-le-mul {n₁ = n} {m₁ = 2 * d} {n₂ = 4294934528} {m₂ = 65536} (omega arith) few)
+
+pub factor-least : (d : ℕ) → 0 < d → 281474976710656 ≤ (281474976710656 / d + 1) * d
+factor-least d h = omega (arith, add-mul (281474976710656 / d) 1 d, lt-div-mul-add {a = 281474976710656} {b = d} h)
+
+pub factor-most : (d : ℕ) → (281474976710656 / d + 1) * d ≤ 281474976710656 + d
+factor-most d = omega (arith, add-mul (281474976710656 / d) 1 d, mul-div-le 281474976710656 d, mul-comm d (281474976710656 / d))
+
+pub mass-most : (u v w d p q r : ℕ) → u + v + w ≡ d → p ≤ 65535 → q ≤ 65535 → r ≤ 65535 → massOf u v w d p q r ≤ 131071 * d
+mass-most u v w d p q r e hp hq hr = omega (arith, mean-most u v w d p q r e 65535 hp hq hr)
+
+scale-up : (n m k f : ℕ) → m ≡ n + 2 * k → m * f ≡ n * f + k * (2 * f)
+scale-up n m k f e = ap (λ (j : ℕ). j * f) e ∙ simp (add-mul, mul-assoc, mul-comm, mul-left-comm)
+
+up-mod : (n m v : ℕ) → m ≡ n + v → m < 18446744073709551616 → (n + v) % 2 ^ 64 ≡ m
+up-mod n m v e h = rw (← e) (mod-eq-of-lt h)
+
+down-mod : (n m w v : ℕ) → n ≡ m + w → m < 18446744073709551616 → (v + w) % 2 ^ 64 ≡ 0 → (n + v) % 2 ^ 64 ≡ m
+down-mod n m w v e h z = omega arith
+
+-- ---- a number added a step, modulo 2 ^ 64
+
+run-zero : (k g : ℕ) → k < 18446744073709551616 → (k + 0 * g) % 2 ^ 64 ≡ k
+run-zero k g h = rw (zero-mul, add-zero) (mod-eq-of-lt h)
+
+run-suc : (k g j : ℕ) → (k + suc j * g) % 2 ^ 64 ≡ ((k + j * g) % 2 ^ 64 + g) % 2 ^ 64
+run-suc k g j = omega (arith, suc-mul j g)
+
+run-next : (lo j : ℕ) → lo + suc j ≡ lo + j + 1
+run-next lo j = omega arith
+
+-- ---- a step to the right
+
+module _ (t : Corners) (k : Turned t) (x y p q r : ℕ) (h : covers t x y ≡ true) (g : covers t (x + 1) y ≡ true) where
+  mass-step : massBy t p q r (x + 1) y + 2 * (p * t .c .y + q * t .a .y + r * t .b .y)
+      ≡ massBy t p q r x y + 2 * (p * t .b .y + q * t .c .y + r * t .a .y)
+  mass-step =
+      omega (
+        arith,
+        line p (amount (edgesAt t x y .bc)) (amount (edgesAt t (x + 1) y .bc)) (t .b .y) (t .c .y)
+            (omega (arith, (covered-within t x y h) .bc, (covered-within t (x + 1) y g) .bc, right-plus (t .b .x) (t .b .y) (t .c .x) (t .c .y) x y, right-minus (t .b .x) (t .b .y) (t .c .x) (t .c .y) x y)),
+        line q (amount (edgesAt t x y .ca)) (amount (edgesAt t (x + 1) y .ca)) (t .c .y) (t .a .y)
+            (omega (arith, (covered-within t x y h) .ca, (covered-within t (x + 1) y g) .ca, right-plus (t .c .x) (t .c .y) (t .a .x) (t .a .y) x y, right-minus (t .c .x) (t .c .y) (t .a .x) (t .a .y) x y)),
+        line r (amount (edgesAt t x y .ab)) (amount (edgesAt t (x + 1) y .ab)) (t .a .y) (t .b .y)
+            (omega (arith, (covered-within t x y h) .ab, (covered-within t (x + 1) y g) .ab, right-plus (t .a .x) (t .a .y) (t .b .x) (t .b .y) x y, right-minus (t .a .x) (t .a .y) (t .b .x) (t .b .y) x y)),
+      )
+    where
+      line : (p u v a b : ℕ) → v + b ≡ u + a → p * v + p * b ≡ p * u + p * a
+      line p u v a b e = sym (mul-add p v b) ∙ ap (λ (j : ℕ). p * j) e ∙ mul-add p u a
+
+module _ (t : Corners) (k : Turned t) (f : ℕ) (few : 2 * areaOf t ≤ 65536) (most : f * (2 * areaOf t) ≤ 281474976710656 + 2 * areaOf t)
+    (p q r : ℕ) (hp : p ≤ 65535) (hq : q ≤ 65535) (hr : r ≤ 65535) where
+  ready : (x y : ℕ) → covers t x y ≡ true → Ready t (areaOf t) (edgesAt t x y)
+  ready x y h = covered-ready t k x y h (omega arith)
+
+  pub mass-at : (x y : ℕ) → covers t x y ≡ true → massBy t p q r x y ≤ 131071 * areaOf t
+  mass-at x y h = mass-most _ _ _ _ p q r (ready x y h .whole) hp hq hr
+
+  pub scaled-fits : (x y : ℕ) → covers t x y ≡ true → scaled t f p q r x y < 18446744073709551616
+  unfolding scaled
+  scaled-fits x y h = sum-fits (areaOf t) f few most _ (mass-at x y h)
+
+  -- the rise and the fall of a step, and what they make
+  module _ (rise fall : ℕ) (er : rise ≡ p * t .b .y + q * t .c .y + r * t .a .y) (ef : fall ≡ p * t .c .y + q * t .a .y + r * t .b .y) where
+    pub paces-up : fall ≤ rise → Paces t f p q r (min (rise - fall) (65535 * areaOf t) * (2 * f))
+    unfolding scaled
+    paces-up l =
+        record {
+          go = λ x y h g.
+            let a = mass-step t k x y p q r h g in
+            let b = mass-at x y h in
+            let c = mass-at (x + 1) y g in
+            let e : massBy t p q r (x + 1) y ≡ massBy t p q r x y + 2 * min (rise - fall) (65535 * areaOf t) = omega arith in
+            up-mod _ _ _ (scale-up (massBy t p q r x y) _ (min (rise - fall) (65535 * areaOf t)) f e) (sum-fits (areaOf t) f few most _ c);
+        }
+
+    pub paces-down : (v : ℕ) → rise ≤ fall → (v + min (fall - rise) (65535 * areaOf t) * (2 * f)) % 2 ^ 64 ≡ 0 → Paces t f p q r v
+    unfolding scaled
+    paces-down v l n =
+        record {
+          go = λ x y h g.
+            let a = mass-step t k x y p q r h g in
+            let b = mass-at x y h in
+            let c = mass-at (x + 1) y g in
+            let e : massBy t p q r x y ≡ massBy t p q r (x + 1) y + 2 * min (fall - rise) (65535 * areaOf t) = omega arith in
+            down-mod _ _ _ v (scale-up (massBy t p q r (x + 1) y) _ (min (fall - rise) (65535 * areaOf t)) f e) (sum-fits (areaOf t) f few most _ c) n;
+        }
+
+  pub number : 281474976710656 ≤ f * (2 * areaOf t) → (x y : ℕ) → covers t x y ≡ true
+      → scaled t f p q r x y / 281474976710656 ≡ mixed (amount (edgesAt t x y .bc)) (amount (edgesAt t x y .ca)) (amount (edgesAt t x y .ab)) (areaOf t) p q r
+  unfolding scaled mixed
+  number least x y h = told _ (2 * areaOf t) f (omega (arith, ready x y h .some)) least most (sum-small (areaOf t) f few most _ (mass-at x y h))
+
+  pub number-fits : 281474976710656 ≤ f * (2 * areaOf t) → (x y : ℕ) → covers t x y ≡ true → scaled t f p q r x y / 281474976710656 ≤ 65535
+  number-fits least x y h = rw (number least x y h) (mixed-most _ _ _ _ p q r (ready x y h .whole) (ready x y h .some) 65535 hp hq hr)
+
+-- ---- a long sum, one pixel to the right
+
+-- the sum m is n and 2 * k; v is 2 ^ 48 times 2 * k over d, rounded
+module _ (n m k d a b v : ℕ) (pos : 0 < d) (fits : 2 * m ≤ 131071 * d) (low : n * 281474976710656 ≤ a * d) (high : a * d ≤ n * 281474976710656 + b * d)
+    (small : b ≤ 65535) where
+  rise-low : m ≡ n + 2 * k → 2 * k * 281474976710656 < v * d + d → m * 281474976710656 ≤ (a + (v + 1)) * d
+  rise-low e h = omega (arith, add-mul a (v + 1) d, add-mul v 1 d)
+
+  rise-high : m ≡ n + 2 * k → v * d ≤ 2 * k * 281474976710656 → (a + (v + 1)) * d ≤ m * 281474976710656 + (b + 1) * d
+  rise-high e h = omega (arith, add-mul a (v + 1) d, add-mul v 1 d, add-mul b 1 d)
+
+  top : (j : ℕ) → j * d ≤ m * 281474976710656 + (b + 1) * d → j < 18446744073709551616
+  top j h =
+      let l : j ≤ 18446603336221196288 + (b + 1) = le-of-mul-le-mul-right {k = d} (omega (arith, add-mul 18446603336221196288 (b + 1) d)) pos in
+      omega arith
+
+  fall-le : n ≡ m + 2 * k → v * d ≤ 2 * k * 281474976710656 → v ≤ a
+  fall-le e h = le-of-mul-le-mul-right {k = d} (omega arith) pos
+
+  fall-split : v ≤ a → a * d ≡ (a - v) * d + v * d
+  fall-split l = ap (λ (j : ℕ). j * d) (omega arith) ∙ add-mul (a - v) v d
+
+  fall-low : n ≡ m + 2 * k → v * d ≤ 2 * k * 281474976710656 → m * 281474976710656 ≤ (a - v) * d
+  fall-low e h = omega (arith, fall-split (fall-le e h))
+
+  fall-high : n ≡ m + 2 * k → v * d ≤ 2 * k * 281474976710656 → 2 * k * 281474976710656 < v * d + d → (a - v) * d ≤ m * 281474976710656 + (b + 1) * d
+  fall-high e h l = omega (arith, fall-split (fall-le e h), add-mul b 1 d)
+
+module _ (t : Corners) (k : Turned t) (fits : areaOf t ≤ 2147483648) (p q r : ℕ) (hp : p ≤ 65535) (hq : q ≤ 65535) (hr : r ≤ 65535) where
+  ready-long : (x y : ℕ) → covers t x y ≡ true → Ready t (areaOf t) (edgesAt t x y)
+  ready-long x y h = covered-ready t k x y h (omega arith)
+
+  mass-long : (x y : ℕ) → covers t x y ≡ true → massBy t p q r x y ≤ 131071 * areaOf t
+  mass-long x y h = mass-most _ _ _ _ p q r (ready-long x y h .whole) hp hq hr
+
+  module _ (rise fall : ℕ) (er : rise ≡ p * t .b .y + q * t .c .y + r * t .a .y) (ef : fall ≡ p * t .c .y + q * t .a .y + r * t .b .y) where
+    pub drifts-up : (v : ℕ) → fall ≤ rise
+        → v * (2 * areaOf t) ≤ 2 * min (rise - fall) (65535 * areaOf t) * 281474976710656
+        → 2 * min (rise - fall) (65535 * areaOf t) * 281474976710656 < v * (2 * areaOf t) + 2 * areaOf t
+        → Drifts t p q r (v + 1)
+    drifts-up v l lo hi =
+        record {
+          go = λ x y b a h g s n.
+            let z : 0 < 2 * areaOf t = omega (arith, ready-long x y h .some) in
+            let c = mass-long x y h in
+            let e = mass-long (x + 1) y g in
+            let j : massBy t p q r (x + 1) y ≡ massBy t p q r x y + 2 * min (rise - fall) (65535 * areaOf t) = omega (arith, mass-step t k x y p q r h g) in
+            let m : 2 * massBy t p q r (x + 1) y ≤ 131071 * (2 * areaOf t) = omega (arith, e) in
+            let u = rise-low _ _ (min (rise - fall) (65535 * areaOf t)) (2 * areaOf t) a b v z m (n .low) (n .high) s j hi in
+            let w = rise-high _ _ (min (rise - fall) (65535 * areaOf t)) (2 * areaOf t) a b v z m (n .low) (n .high) s j lo in
+            let f = top _ _ (min (rise - fall) (65535 * areaOf t)) (2 * areaOf t) a b v z m (n .low) (n .high) s _ w in
+            rw (mod-eq-of-lt f) (record { low = u; high = w });
+        }
+
+    pub drifts-down : (v g : ℕ) → rise ≤ fall → (g + v) % 2 ^ 64 ≡ 0
+        → v * (2 * areaOf t) ≤ 2 * min (fall - rise) (65535 * areaOf t) * 281474976710656
+        → 2 * min (fall - rise) (65535 * areaOf t) * 281474976710656 < v * (2 * areaOf t) + 2 * areaOf t
+        → Drifts t p q r g
+    drifts-down v g₀ l nil lo hi =
+        record {
+          go = λ x y b a h g s n.
+            let z : 0 < 2 * areaOf t = omega (arith, ready-long x y h .some) in
+            let c = mass-long x y h in
+            let e = mass-long (x + 1) y g in
+            let j : massBy t p q r x y ≡ massBy t p q r (x + 1) y + 2 * min (fall - rise) (65535 * areaOf t) = omega (arith, mass-step t k x y p q r h g) in
+            let m : 2 * massBy t p q r (x + 1) y ≤ 131071 * (2 * areaOf t) = omega (arith, e) in
+            let i = fall-le _ _ (min (fall - rise) (65535 * areaOf t)) (2 * areaOf t) a b v z m (n .low) (n .high) s j lo in
+            let u = fall-low _ _ (min (fall - rise) (65535 * areaOf t)) (2 * areaOf t) a b v z m (n .low) (n .high) s j lo in
+            let w = fall-high _ _ (min (fall - rise) (65535 * areaOf t)) (2 * areaOf t) a b v z m (n .low) (n .high) s j lo hi in
+            let f = top _ _ (min (fall - rise) (65535 * areaOf t)) (2 * areaOf t) a b v z m (n .low) (n .high) s _ w in
+            rw (down-mod a (a - v) v g₀ (omega (arith, i)) f nil) (record { low = u; high = w });
+        }
+
+  number-long : (x y b a : ℕ) → covers t x y ≡ true → b ≤ 65535 → Near t p q r x y b a → a / 281474976710656 ≡ shade t p q r x y
+  unfolding shade mixed
+  number-long x y b a h s n =
+      near-told _ (2 * areaOf t) a (omega (arith, ready-long x y h .some)) (n .low)
+      (omega (arith, n .high, mul-le-mul {n₁ = b} {m₁ = 2 * areaOf t} {n₂ = 65535} {m₂ = 4294967296} s (omega arith)))
+
+  -- ---- the numbers of a row
+
+  pub runs-long : (lo hi y a g : ℕ) → ((j : ℕ) → lo + j < hi → covers t (lo + j) y ≡ true) → hi ≤ 65535 → a < 18446744073709551616
+      → Near t p q r lo y 1 a → Drifts t p q r g → Runs t p q r lo hi y a g
+  runs-long lo hi y a g cov wide low n h = record { tells = λ j l. number-long (lo + j) y (j + 1) _ (cov j l) (omega arith) (at j l) }
+    where
+      at : (j : ℕ) → lo + j < hi → Near t p q r (lo + j) y (j + 1) ((a + j * g) % 2 ^ 64)
+      at zero l = rw (run-zero a g low, add-zero lo) n
+      at (suc j) l =
+          rw (run-suc a g j, run-next lo j, ← add-one j)
+          (h .go (lo + j) y (j + 1) _ (cov j (omega arith)) (rw (run-next lo j) at (cov (suc j) l)) (omega arith) (at j (omega arith)))
+
+pub runs-short : (t : Corners) (k : Turned t) (f : ℕ) (few : 2 * areaOf t ≤ 65536) (least : 281474976710656 ≤ f * (2 * areaOf t)) (most : f * (2 * areaOf t) ≤ 281474976710656 + 2 * areaOf t)
+    (p q r : ℕ) (hp : p ≤ 65535) (hq : q ≤ 65535) (hr : r ≤ 65535) (lo hi y a g : ℕ)
+    → ((j : ℕ) → lo + j < hi → covers t (lo + j) y ≡ true) → a < 18446744073709551616
+    → a ≡ scaled t f p q r lo y → Paces t f p q r g → Runs t p q r lo hi y a g
+unfolding shade
+runs-short t k f few least most p q r hp hq hr lo hi y a g cov low n h =
+    record { tells = λ j l. ap (λ (n : ℕ). n / 281474976710656) (at j l) ∙ number t k f few most p q r hp hq hr least (lo + j) y (cov j l) }
+  where
+    at : (j : ℕ) → lo + j < hi → (a + j * g) % 2 ^ 64 ≡ scaled t f p q r (lo + j) y
+    at zero l = rw (run-zero a g low, add-zero lo) n
+    at (suc j) l =
+        rw (run-suc a g j, run-next lo j, at j (omega arith)) (h .go (lo + j) y (cov j (omega arith)) (rw (run-next lo j) at (cov (suc j) l)))
+
+pub scaled-of : (t : Corners) (f p q r x y d : ℕ) (e : Edges) → d ≡ areaOf t → e ≡ edgesAt t x y
+    → massOf (amount (e .bc)) (amount (e .ca)) (amount (e .ab)) d p q r * f ≡ scaled t f p q r x y
+unfolding scaled
+scaled-of t f p q r x y d e hd he = rw (hd, he)
+
+-- ---- either way
+
+pub runs-of : (t : Corners) → Turned t → areaOf t ≤ 2147483648 → (p q r : ℕ) → p ≤ 65535 → q ≤ 65535 → r ≤ 65535 → (f g lo hi y a d : ℕ) (e : Edges) (long : Bool)
+    → (long ≡ false → (2 * areaOf t ≤ 65536) × (281474976710656 ≤ f * (2 * areaOf t)) × (f * (2 * areaOf t) ≤ 281474976710656 + 2 * areaOf t) × (Paces t f p q r g))
+    → (long ≡ true → Drifts t p q r g)
+    → ((j : ℕ) → lo + j < hi → covers t (lo + j) y ≡ true) → hi ≤ 65535 → a < 18446744073709551616
+    → d ≡ areaOf t → e ≡ edgesAt t lo y
+    → (long ≡ false → a ≡ massOf (amount (e .bc)) (amount (e .ca)) (amount (e .ab)) d p q r * f)
+    → (long ≡ true → (massOf (amount (e .bc)) (amount (e .ca)) (amount (e .ab)) d p q r * 281474976710656 ≤ a * (2 * d)) × (a * (2 * d) ≤ massOf (amount (e .bc)) (amount (e .ca)) (amount (e .ab)) d p q r * 281474976710656 + 1 * (2 * d)))
+    → Runs t p q r lo hi y a g
+runs-of t k fits p q r hp hq hr f g lo hi y a d e false s l cov wide low hd he ss ll =
+    let b = s refl in
+    runs-short t k f (b .0) (b .1) (b .2) p q r hp hq hr lo hi y a g cov low (ss refl ∙ scaled-of t f p q r lo y d e hd he) (b .3)
+runs-of t k fits p q r hp hq hr f g lo hi y a d e true s l cov wide low hd he ss ll =
+    let b = rw (hd, he) at (ll refl) in
+    runs-long t k fits p q r hp hq hr lo hi y a g cov wide low (record { low = b .0; high = b .1 }) (l refl)
+

@@ -1,0 +1,4 @@
+pub mod Plane
+pub mod Covers
+pub mod Carry
+pub mod Rows

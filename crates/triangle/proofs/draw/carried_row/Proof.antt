@@ -1,0 +1,94 @@
+-- `draw::carried_row` meets its contract: the row is one run, and the carried sums tell its numbers. Assumes nothing.
+use Rattle.triangle.specs.Edge.{covers}
+use mathlib.Core.Path.{_≡_, refl, sym, ap, ap₂, _∙_}
+use native.Mathlib.Omega.{arith}
+use lib.ListN.{length}
+use mathlib.Core.Bool.{true, false}
+use mathlib.Core.List.{List}
+use Prim.Native.Nat.{ℕ, _+_, _-_, _*_, _≤_, _<_}
+use Rattle.picture.specs.Place.{rowsOf}
+use Rattle.picture.specs.Offer.{Offer}
+use Rattle.picture.specs.Picture.{picture, drawn}
+use Rattle.triangle.specs.Offers.{pixelAt}
+use Rattle.triangle.proofs.Covers.{ready-of}
+use Rattle.triangle.proofs.Carry.{runs-of}
+use Rattle.triangle.proofs.Rows.{row-span, carried-told}
+use borrow.Author.Needs.{needs}
+use Rattle.triangle.proofs.draw.carried_row.Statement.{statement}
+use Rattle.triangle.proofs.draw.carried_row.Tie as tie
+
+edges-at-requires : tie.Need-edges-at-requires
+edges-at-requires c κs = search needs
+
+begin-requires : tie.Need-begin-requires
+begin-requires c κs =
+    let s = c .before .before .before in
+    let a = s .args in
+    let k = s .pre .3 in (
+      ready-of (a .t) (a .s .lo) (a .y) (a .d) _ (s .pre .0) (s .pre .1) (omega (arith, s .pre .1, s .pre .2 .fits)) (k .columns (a .s .lo) (omega arith) (s .pre .5) .2) (c .edges-at .ensures),
+      omega (arith, s .pre .1, s .pre .2 .fits),
+      (λ e. let g = s .pre .2 .short e in (omega (arith, s .pre .1, g .few), rw (s .pre .1) (g .most))),
+    )
+
+begin-requires-2 : tie.Need-begin-requires-2
+begin-requires-2 c κs =
+    let s = c .before .before .before .before in
+    let a = s .args in
+    let k = s .pre .3 in (
+      ready-of (a .t) (a .s .lo) (a .y) (a .d) _ (s .pre .0) (s .pre .1) (omega (arith, s .pre .1, s .pre .2 .fits)) (k .columns (a .s .lo) (omega arith) (s .pre .5) .2) (c .before .edges-at .ensures),
+      omega (arith, s .pre .1, s .pre .2 .fits),
+      (λ e. let g = s .pre .2 .short e in (omega (arith, s .pre .1, g .few), rw (s .pre .1) (g .most))),
+    )
+
+cast-span : tie.Need-cast-span
+cast-span c = let s = c .before .before .before .before .before .before in omega (arith, s .pre .3 .wide, s .pre .5, s .good .0)
+
+cast-span-2 : tie.Need-cast-span-2
+cast-span-2 c = let s = c .before .before .before .before .before .before .before in omega (arith, s .pre .3 .wide, s .good .0)
+
+span-requires : tie.Need-span-requires
+span-requires c κs = search needs
+
+same-length : tie.Need-same-length
+same-length c = search needs
+
+same-length-2 : tie.Need-same-length-2
+same-length-2 c = search needs
+
+returns : tie.Need-returns
+unfolding pixelAt
+returns c =
+    let s = c .before .before .before .before .before .before .before .before .before .before .before .before .before .before in
+    let a = s .args in
+    let t = a .t in
+    let k = s .pre .3 in
+    let g = s .pre .2 in
+    let e = c .before .before .before .before .before .before .before .before .before .before .before .edges-at .ensures in
+    let cov : (j : ℕ) → a .s .lo + j < a .s .hi → covers t (a .s .lo + j) (a .y) ≡ true = λ j l. k .columns (a .s .lo + j) (omega arith) l .2 in
+    c .before .before .before .before .span .ensures
+    ∙ ap (λ (os : List Offer). drawn (a .pen) os (picture (a .im .now) (a .zm .now) 0))
+    (row-span (a .pen) (rowsOf (a .pen .frame) (length (a .im .now)) (length (a .zm .now))) false t (a .y) (a .s) k (s .pre .4) (s .pre .5) _ _
+    (λ j l. (
+      carried-told t (t .a .i) (t .b .i) (t .c .i) (a .s .lo) (a .s .hi) (a .y) _ (a .g .i) j
+      (runs-of t (s .pre .0) (g .fits) (t .a .i) (t .b .i) (t .c .i) (omega (arith, s .good .1 .0)) (omega (arith, s .good .1 .0)) (omega (arith, s .good .1 .0)) (a .g .f) (a .g .i) (a .s .lo) (a .s .hi) (a .y) _ (a .d) _ (a .g .long)
+      (λ h. let m = g .short h in (m .few, m .least, m .most, m .i)) (λ h. g .long h .0) cov (omega (arith, k .wide, s .good .0)) (omega arith) (s .pre .1) e
+      (c .before .before .before .before .before .before .before .before .before .before .begin .ensures .0) (c .before .before .before .before .before .before .before .before .before .before .begin .ensures .1)) l,
+      carried-told t (t .a .z) (t .b .z) (t .c .z) (a .s .lo) (a .s .hi) (a .y) _ (a .g .z) j
+      (runs-of t (s .pre .0) (g .fits) (t .a .z) (t .b .z) (t .c .z) (omega (arith, s .good .1 .0)) (omega (arith, s .good .1 .0)) (omega (arith, s .good .1 .0)) (a .g .f) (a .g .z) (a .s .lo) (a .s .hi) (a .y) _ (a .d) _ (a .g .long)
+      (λ h. let m = g .short h in (m .few, m .least, m .most, m .z)) (λ h. g .long h .1) cov (omega (arith, k .wide, s .good .0)) (omega arith) (s .pre .1) e
+      (c .before .before .before .before .before .before .before .before .before .begin2 .ensures .0) (c .before .before .before .before .before .before .before .before .before .begin2 .ensures .1)) l,
+    )))
+
+pub carried-row-spec : {M : Type 1} → statement M
+carried-row-spec =
+    tie.close
+    (tie.spec
+    edges-at-requires
+    begin-requires
+    begin-requires-2
+    cast-span
+    cast-span-2
+    span-requires
+    same-length
+    same-length-2
+    returns)

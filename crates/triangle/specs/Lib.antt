@@ -1,0 +1,4 @@
+pub mod Edge
+pub mod Number
+pub mod Offers
+pub mod Loops

@@ -1,0 +1,118 @@
+-- What the code of a triangle leans on. No promise of a public call cites anything here.
+use Prim.Native.Nat.{ℕ, _+_, _*_, _-_, _/_, _%_, _^_, _≤_, _<_, min, max}
+use mathlib.Core.Path.{_≡_}
+use mathlib.Core.Bool.{Bool, true, false}
+use mathlib.Core.List.{[]}
+use Rattle.picture.specs.declared.Vertex.{Vertex}
+use Rattle.picture.specs.declared.Pen.{Pen}
+use Rattle.triangle.specs.declared.Corners.{Corners}
+use Rattle.triangle.specs.declared.Edge.{Edge}
+use Rattle.triangle.specs.declared.Edges.{Edges}
+use Rattle.triangle.specs.declared.Span.{Span}
+use Rattle.triangle.specs.declared.Slopes.{Slopes}
+use Rattle.triangle.specs.declared.Shades.{Shades}
+use Rattle.triangle.specs.declared.Shades.the-variants.{Flat, Carried, Divided}
+use Rattle.triangle.specs.Edge.{plusOf, minusOf, edgeAt, closed, covers, amount, areaOf}
+use Rattle.triangle.specs.Number.{massOf, shade}
+
+-- the three edges at a pixel
+abbrev pub edgesAt : Corners → ℕ → ℕ → Edges
+edgesAt t x y = record { ab = edgeAt (t .a) (t .b) x y; bc = edgeAt (t .b) (t .c) x y; ca = edgeAt (t .c) (t .a) x y }
+
+-- the corners turn anticlockwise
+pub record Turned (t : Corners) : Type 0 where
+  pub turns : edgeAt (t .a) (t .b) (t .c .x) (t .c .y) .minus < edgeAt (t .a) (t .b) (t .c .x) (t .c .y) .plus
+
+-- what the numbers of a covered pixel lean on
+pub record Ready (t : Corners) (d : ℕ) (e : Edges) : Type 0 where
+  pub area : d ≡ areaOf t
+  pub some : 0 < d
+  pub small : d ≤ 12884508675
+  pub ab : e .ab .minus ≤ e .ab .plus
+  pub bc : e .bc .minus ≤ e .bc .plus
+  pub ca : e .ca .minus ≤ e .ca .plus
+  pub whole : amount (e .bc) + amount (e .ca) + amount (e .ab) ≡ d
+
+-- ---- the columns of a row
+
+-- what an edge must exceed the other side by
+abbrev pub short : Bool → ℕ
+short true = 0
+short false = 1
+
+-- the edge from a to b leaves the pixel inside
+pub record Keeps (a b : Vertex) (x y : ℕ) : Type 0 where
+  pub so : minusOf (a .x) (a .y) (b .x) (b .y) x y + short (closed a b) ≤ plusOf (a .x) (a .y) (b .x) (b .y) x y
+
+-- r is what the edge keeps of s
+pub record Cuts (a b : Vertex) (y : ℕ) (s r : Span) : Type 0 where
+  pub shrinks : r .hi ≤ s .hi
+  pub inner : (x : ℕ) → r .lo ≤ x → x < r .hi → (s .lo ≤ x) × (x < s .hi) × (Keeps a b x y)
+  pub outer : (x : ℕ) → s .lo ≤ x → x < s .hi → Keeps a b x y → (r .lo ≤ x) × (x < r .hi)
+
+-- s is the row's covered pixels within the columns of the window and the memory
+pub record Spanned (pen : Pen) (t : Corners) (y : ℕ) (s : Span) : Type 0 where
+  pub wide : s .hi ≤ pen .frame .line
+  pub columns : (x : ℕ) → s .lo ≤ x → x < s .hi → (pen .left ≤ x) × (x ≤ pen .right) × (covers t x y ≡ true)
+  pub rest : (x : ℕ) → x < pen .frame .line → pen .left ≤ x → x ≤ pen .right → covers t x y ≡ true → (s .lo ≤ x) × (x < s .hi)
+
+-- ---- the rows of a triangle
+
+-- one past the last row, and the first, of the corners, the window and the memory
+abbrev pub endOf : ℕ → ℕ → ℕ → ℕ → ℕ → ℕ
+endOf size limit a b c = min size (min limit (max a (max b c)) + 1)
+
+abbrev pub startOf : ℕ → ℕ → ℕ → ℕ → ℕ
+startOf limit a b c = max limit (min a (min b c))
+
+-- ---- numbers carried along a row
+
+abbrev pub massBy : Corners → ℕ → ℕ → ℕ → ℕ → ℕ → ℕ
+massBy t p q r x y = massOf (amount (edgeAt (t .b) (t .c) x y)) (amount (edgeAt (t .c) (t .a) x y)) (amount (edgeAt (t .a) (t .b) x y)) (areaOf t) p q r
+
+-- a corner number's sum times f: 2 ^ 48 times the number, and less than 2 ^ 48 more
+unfoldable pub scaled : Corners → ℕ → ℕ → ℕ → ℕ → ℕ → ℕ → ℕ
+scaled t f p q r x y = massBy t p q r x y * f
+
+-- g is what one pixel to the right adds, modulo 2 ^ 64
+pub record Paces (t : Corners) (f p q r g : ℕ) : Type 0 where
+  pub go : (x y : ℕ) → covers t x y ≡ true → covers t (x + 1) y ≡ true → (scaled t f p q r x y + g) % 2 ^ 64 ≡ scaled t f p q r (x + 1) y
+
+-- k is 2 ^ 48 times the number, and at most b more
+pub record Near (t : Corners) (p q r x y b k : ℕ) : Type 0 where
+  pub low : massBy t p q r x y * 281474976710656 ≤ k * (2 * areaOf t)
+  pub high : k * (2 * areaOf t) ≤ massBy t p q r x y * 281474976710656 + b * (2 * areaOf t)
+
+-- one pixel to the right adds g, modulo 2 ^ 64, and at most 1 to what is too much
+pub record Drifts (t : Corners) (p q r g : ℕ) : Type 0 where
+  pub go : (x y b k : ℕ) → covers t x y ≡ true → covers t (x + 1) y ≡ true → b ≤ 65535
+      → Near t p q r x y b k → Near t p q r (x + 1) y (b + 1) ((k + g) % 2 ^ 64)
+
+-- the sums of a small triangle are carried exactly
+pub record Glides (t : Corners) (g : Slopes) : Type 0 where
+  pub few : 2 * areaOf t ≤ 65536
+  pub least : 281474976710656 ≤ g .f * (2 * areaOf t)
+  pub most : g .f * (2 * areaOf t) ≤ 281474976710656 + 2 * areaOf t
+  pub i : Paces t (g .f) (t .a .i) (t .b .i) (t .c .i) (g .i)
+  pub z : Paces t (g .f) (t .a .z) (t .b .z) (t .c .z) (g .z)
+
+-- how the numbers of a triangle are carried along its rows
+pub record Carries (t : Corners) (g : Slopes) : Type 0 where
+  pub fits : areaOf t ≤ 2147483648
+  pub short : g .long ≡ false → Glides t g
+  pub long : g .long ≡ true → (Drifts t (t .a .i) (t .b .i) (t .c .i) (g .i)) × (Drifts t (t .a .z) (t .b .z) (t .c .z) (g .z))
+
+-- k at lo, and g added a pixel modulo 2 ^ 64, carry the number along the columns from lo to hi of row y
+pub record Runs (t : Corners) (p q r lo hi y k g : ℕ) : Type 0 where
+  pub tells : (j : ℕ) → lo + j < hi → (k + j * g) % 2 ^ 64 / 2 ^ 48 ≡ shade t p q r (lo + j) y
+
+-- numbers that come to a triangle's pixels in a way that serves it
+abbrev pub Shaded : Bool → Corners → Shades → Type 0
+Shaded constant t Flat = constant ≡ true
+Shaded constant t (Carried g) = (constant ≡ false) × Carries t g
+Shaded constant t Divided = constant ≡ false
+
+-- a row of the window
+pub record InRows (pen : Pen) (y : ℕ) : Type 0 where
+  pub above : pen .bottom ≤ y
+  pub below : y ≤ pen .top

@@ -1,0 +1,174 @@
+// Triangles drawn: row by row, each row's covered pixels as one run.
+ghost use mathlib.Core.Path.{_≡_};
+ghost use mathlib.Core.Bool.{Bool, true, false};
+ghost use Prim.Native.Nat.{ℕ, _+_, _≤_, _<_};
+ghost use lib.ListN.{length};
+ghost use Rattle.picture.specs.Draw.{carriedTo};
+ghost use Rattle.picture.specs.Place.{rowsOf};
+ghost use Rattle.picture.specs.Picture.{picture, drawn};
+ghost use Rattle.triangle.specs.Edge.{covers, areaOf};
+ghost use Rattle.triangle.specs.Loops.{endOf, startOf, Turned, Spanned, Carries, Shaded, InRows};
+ghost use Rattle.triangle.specs.Offers.{offersAt, rowOffers, turnedOffers, triangleOffers};
+use crate::Corners;
+use crate::Shades;
+use crate::Slopes;
+use crate::Span;
+use crate::cover::edge_at;
+use crate::cover::edges_at;
+use crate::number::begin;
+use crate::number::number;
+use crate::number::slopes_of;
+use crate::row::spanned;
+use picture::Carried;
+use picture::Kind;
+use picture::Pen;
+use picture::Vertex;
+use picture::draw::put;
+use picture::draw::span;
+use picture::place::least;
+use picture::place::most;
+use picture::place::rows_of;
+
+// A number that stays the same along a row.
+fn steady(v: u16) -> Carried
+    ensures { λ r. ⌜ ((j : ℕ) → carriedTo r j ≡ v) ⌝ }
+{
+    Carried {
+        first: (v as u64) << 48,
+        add: 0,
+    }
+}
+
+// A row of a constant triangle.
+fn flat_row(pen: Pen, t: Corners, s: Span, y: u16, im: &mut [u16], zm: &mut [u16]) -> u64
+    requires { ⌜ (Spanned pen t y s) × (InRows pen y) × (s .lo < s .hi) ⌝ }
+    ensures { λ r. ⌜ picture (now (im .exit)) (now (zm .exit)) r ≡ drawn pen (rowOffers pen (rowsOf (pen .frame) (length (now (im .entry))) (length (now (zm .entry)))) true t y) (picture (now (im .entry)) (now (zm .entry)) 0) ⌝ }
+{
+    let i = steady(t.last.i);
+    let z = steady(t.last.z);
+    span(pen, Kind::Constant, s.lo as u16, s.hi as u16, y, i, z, im, zm)
+}
+
+// A row of a Gouraud triangle, its numbers carried.
+fn carried_row(pen: Pen, t: Corners, d: usize, g: Slopes, s: Span, y: u16, im: &mut [u16], zm: &mut [u16]) -> u64
+    requires { ⌜ (Turned t) × (d ≡ areaOf t) × (Carries t g) × (Spanned pen t y s) × (InRows pen y) × (s .lo < s .hi) ⌝ }
+    ensures { λ r. ⌜ picture (now (im .exit)) (now (zm .exit)) r ≡ drawn pen (rowOffers pen (rowsOf (pen .frame) (length (now (im .entry))) (length (now (zm .entry)))) false t y) (picture (now (im .entry)) (now (zm .entry)) 0) ⌝ }
+{
+    let e = edges_at(t, s.lo, y as usize);
+    let ki = begin(t, d, g, e, t.a.i, t.b.i, t.c.i);
+    let kz = begin(t, d, g, e, t.a.z, t.b.z, t.c.z);
+    let i = Carried {
+        first: ki as u64,
+        add: g.i as u64,
+    };
+    let z = Carried {
+        first: kz as u64,
+        add: g.z as u64,
+    };
+    span(pen, Kind::Gouraud, s.lo as u16, s.hi as u16, y, i, z, im, zm)
+}
+
+// One covered pixel of a Gouraud triangle.
+fn divided_pixel(pen: Pen, t: Corners, d: usize, x: usize, y: u16, im: &mut [u16], zm: &mut [u16]) -> u64
+    requires { ⌜ (Turned t) × (d ≡ areaOf t) × (d ≤ 12884508675) × (covers t x y ≡ true) × (x ≤ 65535) ⌝ }
+    ensures { λ r. ⌜ picture (now (im .exit)) (now (zm .exit)) r ≡ drawn pen (offersAt pen (rowsOf (pen .frame) (length (now (im .entry))) (length (now (zm .entry)))) false t x y) (picture (now (im .entry)) (now (zm .entry)) 0) ⌝ }
+{
+    let e = edges_at(t, x, y as usize);
+    let i = number(t, d, e, t.a.i, t.b.i, t.c.i);
+    let z = number(t, d, e, t.a.z, t.b.z, t.c.z);
+    put(pen, Kind::Gouraud, x as u16, y, i, z, im, zm)
+}
+
+// A row of a Gouraud triangle that is too large for carried numbers (doubled area above 2^31): two divisions a pixel.
+fn divided_row(pen: Pen, t: Corners, d: usize, s: Span, y: u16, im: &mut [u16], zm: &mut [u16]) -> u64
+    requires { ⌜ (Turned t) × (d ≡ areaOf t) × (d ≤ 12884508675) × (Spanned pen t y s) × (InRows pen y) × (s .lo < s .hi) ⌝ }
+    ensures { λ r. ⌜ picture (now (im .exit)) (now (zm .exit)) r ≡ drawn pen (rowOffers pen (rowsOf (pen .frame) (length (now (im .entry))) (length (now (zm .entry)))) false t y) (picture (now (im .entry)) (now (zm .entry)) 0) ⌝ }
+{
+    let hi = s.hi;
+    let mut x = s.lo;
+    let mut n: u64 = 0;
+    while x < hi {
+        n += divided_pixel(pen, t, d, x, y, im, zm);
+        x += 1;
+    }
+    n
+}
+
+// A row of a triangle.
+fn draw_row(pen: Pen, constant: bool, t: Corners, d: usize, shades: Shades, y: u16, im: &mut [u16], zm: &mut [u16]) -> u64
+    requires { ⌜ (Turned t) × (d ≡ areaOf t) × (d ≤ 12884508675) × (Shaded constant t shades) × (InRows pen y) ⌝ }
+    ensures { λ r. ⌜ picture (now (im .exit)) (now (zm .exit)) r ≡ drawn pen (rowOffers pen (rowsOf (pen .frame) (length (now (im .entry))) (length (now (zm .entry)))) constant t y) (picture (now (im .entry)) (now (zm .entry)) 0) ⌝ }
+{
+    let s = spanned(pen, t, y);
+    if s.lo < s.hi {
+        match shades {
+            Shades::Flat => return flat_row(pen, t, s, y, im, zm),
+            Shades::Carried(g) => return carried_row(pen, t, d, g, s, y, im, zm),
+            Shades::Divided => return divided_row(pen, t, d, s, y, im, zm),
+        }
+    }
+    0
+}
+
+// How the numbers of a triangle come to its pixels.
+fn shades_of(constant: bool, t: Corners, d: usize) -> Shades
+    requires { ⌜ (Turned t) × (d ≡ areaOf t) ⌝ }
+    ensures { λ r. ⌜ Shaded constant t r ⌝ }
+{
+    if constant {
+        return Shades::Flat;
+    }
+    if d <= 2147483648 {
+        return Shades::Carried(slopes_of(t, d));
+    }
+    Shades::Divided
+}
+
+// The first row of the corners and the window.
+fn start_of(limit: u16, a: u16, b: u16, c: u16) -> usize
+    ensures { λ r. ⌜ r ≡ startOf limit a b c ⌝ }
+{
+    most(limit as usize, least(a as usize, least(b as usize, c as usize)))
+}
+
+// One past the last row of the corners, the window and the memory.
+fn end_of(size: usize, limit: u16, a: u16, b: u16, c: u16) -> usize
+    ensures { λ r. ⌜ r ≡ endOf size limit a b c ⌝ }
+{
+    let far = most(a as usize, most(b as usize, c as usize));
+    least(size, least(limit as usize, far) + 1)
+}
+
+// A triangle whose corners turn anticlockwise, with doubled area d.
+fn draw_turned(pen: Pen, constant: bool, t: Corners, d: usize, im: &mut [u16], zm: &mut [u16]) -> u64
+    requires { ⌜ (Turned t) × (d ≡ areaOf t) × (d ≤ 12884508675) ⌝ }
+    ensures { λ r. ⌜ picture (now (im .exit)) (now (zm .exit)) r ≡ drawn pen (turnedOffers pen (rowsOf (pen .frame) (length (now (im .entry))) (length (now (zm .entry)))) constant t) (picture (now (im .entry)) (now (zm .entry)) 0) ⌝ }
+{
+    let frame = pen.frame;
+    let rows = rows_of(frame, im.len(), zm.len());
+    let top = end_of(rows, pen.top, t.a.y, t.c.y, t.b.y);
+    let shades = shades_of(constant, t, d);
+    let mut y = least(start_of(pen.bottom, t.a.y, t.c.y, t.b.y), top);
+    let mut n: u64 = 0;
+    while y < top {
+        n += draw_row(pen, constant, t, d, shades, y as u16, im, zm);
+        y += 1;
+    }
+    n
+}
+
+// The triangle that vertex c completes. Answers how many pixels passed.
+pub fn triangle(pen: Pen, constant: bool, a: Vertex, b: Vertex, c: Vertex, im: &mut [u16], zm: &mut [u16]) -> u64
+    ensures { λ r. ⌜ picture (now (im .exit)) (now (zm .exit)) r ≡ drawn pen (triangleOffers pen (rowsOf (pen .frame) (length (now (im .entry))) (length (now (zm .entry)))) constant a b c) (picture (now (im .entry)) (now (zm .entry)) 0) ⌝ }
+{
+    let e = edge_at(a, b, c.x as usize, c.y as usize);
+    if e.minus < e.plus {
+        let t = Corners { a, b, c, last: c };
+        return draw_turned(pen, constant, t, e.plus - e.minus, im, zm);
+    }
+    if e.plus < e.minus {
+        let t = Corners { a, b: c, c: b, last: c };
+        return draw_turned(pen, constant, t, e.minus - e.plus, im, zm);
+    }
+    0
+}
