@@ -1,0 +1,6 @@
+pub mod Rounding
+pub mod Segments
+pub mod Ramps
+pub mod Steps
+pub mod Walks
+pub mod Settled
