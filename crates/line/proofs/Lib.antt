@@ -3,4 +3,5 @@ pub mod Segments
 pub mod Ramps
 pub mod Steps
 pub mod Walks
+pub mod Members
 pub mod Settled

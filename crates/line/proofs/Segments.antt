@@ -1,14 +1,17 @@
 -- Where the steps of a segment are: no step leaves the box between the two points, and both of them belong to it. Assumes nothing.
 use mathlib.Core.Path.{_≡_, refl, sym, ap, _∙_}
 use mathlib.Core.Bool.{Bool, true, false, cond}
-use Prim.Native.Nat.{ℕ, _+_, _-_, _≤_, _<_, min, max}
-use native.Mathlib.Nat.{max-eq-left, max-eq-right, min-eq-left, min-eq-right, le-of-lt, le-refl}
+use Prim.Native.Nat.{ℕ, _+_, _-_, _≤_, _<_}
+use native.Mathlib.Nat.{max-eq-left, max-eq-right, min-eq-left, min-eq-right, le-of-lt}
 use native.Mathlib.Omega.{arith}
 use lib.Dec.{leb}
 use borrow.Author.Tests.{leb-true, leb-false, le-leb, lt-leb}
+use Rattle.picture.specs.declared.Pen.{Pen}
 use Rattle.picture.specs.declared.Vertex.{Vertex}
-use Rattle.line.specs.Segment.{distance, towards, larger, smaller, xLeads, sideAt, xAt, yAt}
-use Rattle.line.proofs.Rounding.{side-le, side-first, side-last}
+use Rattle.picture.specs.declared.Kind.the-variants.{Line2}
+use Rattle.picture.specs.Offer.{offer, keep}
+use Rattle.line.specs.Segment.{distance, towards, larger, smaller, xLeads, sideAt, xAt, yAt, shadeOffers}
+use Rattle.line.proofs.Rounding.{side-first, side-last, number-first, number-last}
 
 -- nowhere from a number is the number, and all of the distance is the other
 pub towards-first : (from to : ℕ) → towards from to 0 ≡ from
@@ -75,3 +78,13 @@ module _ (a b : Vertex) where
         ap (λ (far : ℕ). towards (a .x) (b .x) (cond (xLeads a b) (larger a b) far)) e ∙ ap (towards (a .x) (b .x)) (sym (reaches .0)) ∙ towards-last (a .x) (b .x),
         ap (λ (far : ℕ). towards (a .y) (b .y) (cond (xLeads a b) far (larger a b))) e ∙ ap (towards (a .y) (b .y)) (sym (reaches .1)) ∙ towards-last (a .y) (b .y),
       )
+
+  -- in mode 2 the first step is the first vertex, if there is a step to take, and the last is always the second
+  module _ (pen : Pen) (rows : ℕ) where
+    pub first-vertex : 0 < larger a b → shadeOffers pen rows a b 0 ≡ keep pen rows (offer Line2 (a .x) (a .y) (a .i) (a .z))
+    unfolding shadeOffers
+    first-vertex p = rw (first-point .0, first-point .1, number-first (larger a b) (a .i) (b .i) p, number-first (larger a b) (a .z) (b .z) p)
+
+    pub last-vertex : shadeOffers pen rows a b (larger a b) ≡ keep pen rows (offer Line2 (b .x) (b .y) (b .i) (b .z))
+    unfolding shadeOffers
+    last-vertex = rw (last-point .0, last-point .1, number-last (larger a b) (a .i) (b .i), number-last (larger a b) (a .z) (b .z))

@@ -1,5 +1,5 @@
 -- One step of a segment: where it is by the slope that was computed, and that it counts one pixel at most. Assumes nothing.
-use mathlib.Core.Path.{_≡_, refl, sym, ap, _∙_}
+use mathlib.Core.Path.{_≡_, sym, ap, _∙_}
 use mathlib.Core.Bool.{Bool, true, false, cond}
 use mathlib.Core.List.{List, [], _∷_}
 use Prim.Native.Nat.{ℕ, _+_, _%_, _≤_, _<_, zero-le}
@@ -115,7 +115,7 @@ step-counts pen p o = go (passes pen (o .kind) (o .z) (getD (p .z) (placeOf (pen
     go true i z = le-refl _
     go false i z = omega arith
 
-keep-counts : (pen : Pen) (rows : ℕ) (o : Offer) (p : Picture) → drawn pen (keep pen rows o) p .passed ≤ p .passed + 1
+pub keep-counts : (pen : Pen) (rows : ℕ) (o : Offer) (p : Picture) → drawn pen (keep pen rows o) p .passed ≤ p .passed + 1
 unfolding keep
 keep-counts pen rows o p = go (offered pen rows o)
   where

@@ -35,7 +35,7 @@ pub record Walk (pen : Pen) (f : ℕ → ℕ → List Offer) (a b : Vertex) (s :
   pub upto : k ≤ n + 1
   pub at-side : RampAt (s .n) k 0 (s .m) side
 
-module _ (pen : Pen) (f : ℕ → ℕ → List Offer) (a b : Vertex) (s : Slope) (n : ℕ) (i₀ z₀ : List ℕ) where
+module _ {pen : Pen} {f : ℕ → ℕ → List Offer} {a b : Vertex} {s : Slope} {n : ℕ} {i₀ z₀ : List ℕ} where
   pub walk-start : {side : Ramp} → s ≡ slopeOf a b → n ≡ s .n → n ≤ 65535 → RampAt (s .n) 0 0 (s .m) side → Walk pen f a b s n i₀ z₀ i₀ z₀ side 0 0
   walk-start e l h r =
       record {
