@@ -1,0 +1,7 @@
+pub mod Rounding
+pub mod Segments
+pub mod Ramps
+pub mod Steps
+pub mod Walks
+pub mod Members
+pub mod Settled

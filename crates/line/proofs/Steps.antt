@@ -1,0 +1,136 @@
+-- One step of a segment: where it is by the slope that was computed, and that it counts one pixel at most. Assumes nothing.
+use mathlib.Core.Path.{_≡_, sym, ap, _∙_}
+use mathlib.Core.Bool.{Bool, true, false, cond}
+use mathlib.Core.List.{List, [], _∷_}
+use Prim.Native.Nat.{ℕ, _+_, _%_, _≤_, _<_, zero-le}
+use native.Mathlib.Nat.{le-refl}
+use native.Mathlib.Omega.{arith}
+use lib.ListN.{getD}
+use Rattle.picture.specs.declared.Pen.{Pen}
+use Rattle.picture.specs.declared.Vertex.{Vertex}
+use Rattle.picture.specs.Place.{placeOf}
+use Rattle.picture.specs.Offer.{Offer, offer, offered, keep}
+use Rattle.picture.specs.Picture.{Picture, picture, passes, step, stepAt, drawn}
+use Rattle.picture.proofs.Fold.{drawn-nil, drawn-one}
+use Rattle.picture.specs.declared.Kind.{Kind}
+use Rattle.picture.specs.declared.Kind.the-variants.{Line2}
+use Rattle.line.specs.declared.Style.{Style}
+use Rattle.line.specs.declared.ramp.Ramp.{Ramp}
+use Rattle.line.specs.declared.slope.Slope.{Slope}
+use Rattle.line.specs.declared.slope.Pixel.{Pixel}
+use Rattle.line.specs.Segment.{distance, towards, larger, smaller, xLeads, sideAt, xAt, yAt, isSet, dashOffers, shadeOffers}
+use Rattle.line.specs.Ramp.{RampAt}
+use Rattle.line.specs.Step.{slopeOf, pixelAt, OnStep}
+use Rattle.line.proofs.Rounding.{side-le}
+use Rattle.line.proofs.Segments.{x-first, y-first, reaches, smaller-le}
+use Rattle.line.proofs.Ramps.{told, number-side}
+
+-- ---- the slope that two distances give
+
+module _ (a b : Vertex) (dx dy : ℕ) (e : dx ≡ distance (a .x) (b .x)) (f : dy ≡ distance (a .y) (b .y)) where
+  pub slope-level : dy ≤ dx → record { level = true; n = dx; m = dy } ≡ slopeOf a b
+  slope-level h = let s = x-first a b (rw (e, f) at h) in rw (s .0, s .1, s .2, e, f)
+
+  pub slope-steep : dx < dy → record { level = false; n = dy; m = dx } ≡ slopeOf a b
+  slope-steep h = let s = y-first a b (rw (e, f) at h) in rw (s .0, s .1, s .2, e, f)
+
+-- ---- where step k is
+
+-- a vertex's numbers have 16 bits
+pub record Numbers (v : Vertex) : Type 0 where
+  pub i : v .i ≤ 65535
+  pub z : v .z ≤ 65535
+
+-- far along x and far along y is the pixel of step k, and neither leaves the box between the two points
+pub record Lands (a b : Vertex) (k across up : ℕ) : Type 0 where
+  pub across-fits : across ≤ distance (a .x) (b .x)
+  pub up-fits : up ≤ distance (a .y) (b .y)
+  pub x : towards (a .x) (b .x) across ≡ xAt a b k
+  pub y : towards (a .y) (b .y) up ≡ yAt a b k
+
+module _ (a b : Vertex) (s : Slope) (k side : ℕ) (h : OnStep a b s k) (e : side ≡ sideAt (s .n) (s .m) k) where
+  side-is : side ≡ sideAt (larger a b) (smaller a b) k
+  side-is = e ∙ ap (λ (s : Slope). sideAt (s .n) (s .m) k) (h .slope)
+
+  k-le : k ≤ larger a b
+  k-le = rw (h .slope) at (h .step)
+
+  side-fits : side ≤ smaller a b
+  side-fits = rw side-is (side-le (larger a b) (smaller a b) k k-le)
+
+  pub lands-level : s .level ≡ true → Lands a b k k side
+  unfolding xAt yAt
+  lands-level t =
+      let u : xLeads a b ≡ true = sym (ap (λ (s : Slope). s .level) (h .slope)) ∙ t in
+      let r = rw u at (reaches a b) in
+      record { across-fits = omega (arith, r .0, k-le); up-fits = omega (arith, r .1, side-fits); x = rw u; y = rw (u, side-is) }
+
+  pub lands-steep : s .level ≡ false → Lands a b k side k
+  unfolding xAt yAt
+  lands-steep t =
+      let u : xLeads a b ≡ false = sym (ap (λ (s : Slope). s .level) (h .slope)) ∙ t in
+      let r = rw u at (reaches a b) in
+      record { across-fits = omega (arith, r .0, side-fits); up-fits = omega (arith, r .1, k-le); x = rw (u, side-is); y = rw u }
+
+-- how far a ramp from 0 to m says that step k moves to the side
+pub side-told : (a b : Vertex) (s : Slope) (k : ℕ) {side : Ramp} → OnStep a b s k → RampAt (s .n) k 0 (s .m) side → s .m ≤ 65535
+    → side .whole % 65536 ≡ sideAt (s .n) (s .m) k
+side-told a b s k h r l =
+    let m : s .m ≤ s .n = rw (h .slope) (smaller-le a b) in
+    told (s .n) k 0 (s .m) r (h .step) (omega arith) l ∙ number-side (s .n) (s .m) k (h .step) m
+
+-- ---- what step k offers, by the pixel and the numbers that were computed
+
+module _ (pen : Pen) (rows : ℕ) (a b : Vertex) (s : Slope) (k : ℕ) (p : Pixel) (e : p ≡ pixelAt a b k) where
+  pub shade-offers : {i z : Ramp} {ni nz : ℕ} → OnStep a b s k → RampAt (s .n) k (a .i) (b .i) i → RampAt (s .n) k (a .z) (b .z) z
+      → Numbers a → Numbers b → ni ≡ i .whole % 65536 → nz ≡ z .whole % 65536
+      → keep pen rows (offer Line2 (p .x) (p .y) ni nz) ≡ shadeOffers pen rows a b k
+  unfolding shadeOffers
+  shade-offers h i z u v ei ez =
+      let n : s .n ≡ larger a b = ap (λ (s : Slope). s .n) (h .slope) in
+      rw (e, ← n, ei ∙ told (s .n) k (a .i) (b .i) i (h .step) (u .i) (v .i), ez ∙ told (s .n) k (a .z) (b .z) z (h .step) (u .z) (v .z))
+
+  module _ (kind : Kind) (ground : Bool) (style : Style) where
+    pub dash-set : isSet style k ≡ true → keep pen rows (offer kind (p .x) (p .y) (style .foreground) 0) ≡ dashOffers pen rows kind ground style a b k
+    unfolding dashOffers
+    dash-set t = rw (e, t)
+
+    pub dash-ground : isSet style k ≡ false → ground ≡ true
+        → keep pen rows (offer kind (p .x) (p .y) (style .background) 0) ≡ dashOffers pen rows kind ground style a b k
+    unfolding dashOffers
+    dash-ground t g = rw (e, t, g)
+
+pub dash-none : (pen : Pen) (rows : ℕ) (a b : Vertex) (k : ℕ) (kind : Kind) (ground : Bool) (style : Style) → isSet style k ≡ false → ground ≡ false
+    → dashOffers pen rows kind ground style a b k ≡ []
+unfolding dashOffers
+dash-none pen rows a b k kind ground style t g = rw (t, g)
+
+-- ---- one pixel at most passes
+
+step-counts : (pen : Pen) (p : Picture) (o : Offer) → step pen p o .passed ≤ p .passed + 1
+unfolding step stepAt
+step-counts pen p o = go (passes pen (o .kind) (o .z) (getD (p .z) (placeOf (pen .frame) (o .x) (o .y)) 0)) _ _
+  where
+    go : (t : Bool) (i z : List ℕ) → cond t (picture i z (p .passed + 1)) p .passed ≤ p .passed + 1
+    go true i z = le-refl _
+    go false i z = omega arith
+
+pub keep-counts : (pen : Pen) (rows : ℕ) (o : Offer) (p : Picture) → drawn pen (keep pen rows o) p .passed ≤ p .passed + 1
+unfolding keep
+keep-counts pen rows o p = go (offered pen rows o)
+  where
+    go : (t : Bool) → drawn pen (cond t (o ∷ []) []) p .passed ≤ p .passed + 1
+    go true = rw (drawn-one pen o p) (step-counts pen p o)
+    go false = rw (drawn-nil pen p) (omega arith)
+
+-- a pixel that was put is what the step offers, and counts one at most
+pub put-step : (pen : Pen) (rows : ℕ) (o : Offer) (i₀ z₀ : List ℕ) {os : List Offer} {i z : List ℕ} {r : ℕ} → keep pen rows o ≡ os
+    → picture i z r ≡ drawn pen (keep pen rows o) (picture i₀ z₀ 0) → (picture i z r ≡ drawn pen os (picture i₀ z₀ 0)) × (r ≤ 1)
+put-step pen rows o i₀ z₀ e d = (
+  d ∙ ap (λ (os : List Offer). drawn pen os (picture i₀ z₀ 0)) e,
+  rw (ap (λ (p : Picture). p .passed) d) (keep-counts pen rows o (picture i₀ z₀ 0)),
+)
+
+-- a step that offers nothing puts nothing
+pub no-step : (pen : Pen) (i₀ z₀ : List ℕ) {os : List Offer} → os ≡ [] → (picture i₀ z₀ 0 ≡ drawn pen os (picture i₀ z₀ 0)) × (0 ≤ 1)
+no-step pen i₀ z₀ e = (sym (drawn-nil pen _) ∙ ap (λ (os : List Offer). drawn pen os (picture i₀ z₀ 0)) (sym e), zero-le)

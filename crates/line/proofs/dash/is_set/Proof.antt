@@ -1,0 +1,20 @@
+-- `dash::is_set` meets its contract. Assumes nothing.
+use lib.Bits.{and-mask}
+use borrow.Author.Needs.{needs}
+use Rattle.line.proofs.dash.is_set.Statement.{statement}
+use Rattle.line.proofs.dash.is_set.Tie as tie
+
+sub-result : tie.Need-sub-result
+sub-result c = search needs
+
+cast-result : tie.Need-cast-result
+cast-result c = search needs
+
+shr-result : tie.Need-shr-result
+shr-result c = search needs
+
+returns : tie.Need-returns
+returns c = rw (and-mask _ 1)
+
+pub is-set-spec : {M : Type 1} → statement M
+is-set-spec = tie.close (tie.spec sub-result cast-result shr-result returns)
