@@ -8,7 +8,7 @@ use native.Mathlib.Omega.{arith}
 use native.Mathlib.Numerals.{add-one}
 use Rattle.triangle.specs.declared.Corners.{Corners}
 use Rattle.triangle.specs.declared.Edges.{Edges}
-use Rattle.triangle.specs.Edge.{edgeAt, covers, amount, areaOf}
+use Rattle.triangle.specs.Edge.{covers, amount, areaOf}
 use Rattle.triangle.specs.Number.{massOf, mixed, shade}
 use Rattle.triangle.specs.Loops.{edgesAt, Turned, Ready, massBy, scaled, Paces, Near, Drifts, Runs}
 use Rattle.triangle.proofs.Plane.{mean-most, mixed-most, right-plus, right-minus}
@@ -188,11 +188,11 @@ module _ (t : Corners) (k : Turned t) (f : ℕ) (few : 2 * areaOf t ≤ 65536) (
     paces-up l =
         record {
           go = λ x y h g.
-            let a = mass-step t k x y p q r h g in
-            let b = mass-at x y h in
-            let c = mass-at (x + 1) y g in
-            let e : massBy t p q r (x + 1) y ≡ massBy t p q r x y + 2 * min (rise - fall) (65535 * areaOf t) = omega arith in
-            up-mod _ _ _ (scale-up (massBy t p q r x y) _ (min (rise - fall) (65535 * areaOf t)) f e) (sum-fits (areaOf t) f few most _ c);
+              let a = mass-step t k x y p q r h g in
+              let b = mass-at x y h in
+              let c = mass-at (x + 1) y g in
+              let e : massBy t p q r (x + 1) y ≡ massBy t p q r x y + 2 * min (rise - fall) (65535 * areaOf t) = omega arith in
+              up-mod _ _ _ (scale-up (massBy t p q r x y) _ (min (rise - fall) (65535 * areaOf t)) f e) (sum-fits (areaOf t) f few most _ c);
         }
 
     pub paces-down : (v : ℕ) → rise ≤ fall → (v + min (fall - rise) (65535 * areaOf t) * (2 * f)) % 2 ^ 64 ≡ 0 → Paces t f p q r v
@@ -200,11 +200,11 @@ module _ (t : Corners) (k : Turned t) (f : ℕ) (few : 2 * areaOf t ≤ 65536) (
     paces-down v l n =
         record {
           go = λ x y h g.
-            let a = mass-step t k x y p q r h g in
-            let b = mass-at x y h in
-            let c = mass-at (x + 1) y g in
-            let e : massBy t p q r x y ≡ massBy t p q r (x + 1) y + 2 * min (fall - rise) (65535 * areaOf t) = omega arith in
-            down-mod _ _ _ v (scale-up (massBy t p q r (x + 1) y) _ (min (fall - rise) (65535 * areaOf t)) f e) (sum-fits (areaOf t) f few most _ c) n;
+              let a = mass-step t k x y p q r h g in
+              let b = mass-at x y h in
+              let c = mass-at (x + 1) y g in
+              let e : massBy t p q r x y ≡ massBy t p q r (x + 1) y + 2 * min (fall - rise) (65535 * areaOf t) = omega arith in
+              down-mod _ _ _ v (scale-up (massBy t p q r (x + 1) y) _ (min (fall - rise) (65535 * areaOf t)) f e) (sum-fits (areaOf t) f few most _ c) n;
         }
 
   pub number : 281474976710656 ≤ f * (2 * areaOf t) → (x y : ℕ) → covers t x y ≡ true
@@ -258,15 +258,15 @@ module _ (t : Corners) (k : Turned t) (fits : areaOf t ≤ 2147483648) (p q r : 
     drifts-up v l lo hi =
         record {
           go = λ x y b a h g s n.
-            let z : 0 < 2 * areaOf t = omega (arith, ready-long x y h .some) in
-            let c = mass-long x y h in
-            let e = mass-long (x + 1) y g in
-            let j : massBy t p q r (x + 1) y ≡ massBy t p q r x y + 2 * min (rise - fall) (65535 * areaOf t) = omega (arith, mass-step t k x y p q r h g) in
-            let m : 2 * massBy t p q r (x + 1) y ≤ 131071 * (2 * areaOf t) = omega (arith, e) in
-            let u = rise-low _ _ (min (rise - fall) (65535 * areaOf t)) (2 * areaOf t) a b v z m (n .low) (n .high) s j hi in
-            let w = rise-high _ _ (min (rise - fall) (65535 * areaOf t)) (2 * areaOf t) a b v z m (n .low) (n .high) s j lo in
-            let f = top _ _ (min (rise - fall) (65535 * areaOf t)) (2 * areaOf t) a b v z m (n .low) (n .high) s _ w in
-            rw (mod-eq-of-lt f) (record { low = u; high = w });
+              let z : 0 < 2 * areaOf t = omega (arith, ready-long x y h .some) in
+              let c = mass-long x y h in
+              let e = mass-long (x + 1) y g in
+              let j : massBy t p q r (x + 1) y ≡ massBy t p q r x y + 2 * min (rise - fall) (65535 * areaOf t) = omega (arith, mass-step t k x y p q r h g) in
+              let m : 2 * massBy t p q r (x + 1) y ≤ 131071 * (2 * areaOf t) = omega (arith, e) in
+              let u = rise-low _ _ (min (rise - fall) (65535 * areaOf t)) (2 * areaOf t) a b v z m (n .low) (n .high) s j hi in
+              let w = rise-high _ _ (min (rise - fall) (65535 * areaOf t)) (2 * areaOf t) a b v z m (n .low) (n .high) s j lo in
+              let f = top _ _ (min (rise - fall) (65535 * areaOf t)) (2 * areaOf t) a b v z m (n .low) (n .high) s _ w in
+              rw (mod-eq-of-lt f) (record { low = u; high = w });
         }
 
     pub drifts-down : (v g : ℕ) → rise ≤ fall → (g + v) % 2 ^ 64 ≡ 0
@@ -276,16 +276,16 @@ module _ (t : Corners) (k : Turned t) (fits : areaOf t ≤ 2147483648) (p q r : 
     drifts-down v g₀ l nil lo hi =
         record {
           go = λ x y b a h g s n.
-            let z : 0 < 2 * areaOf t = omega (arith, ready-long x y h .some) in
-            let c = mass-long x y h in
-            let e = mass-long (x + 1) y g in
-            let j : massBy t p q r x y ≡ massBy t p q r (x + 1) y + 2 * min (fall - rise) (65535 * areaOf t) = omega (arith, mass-step t k x y p q r h g) in
-            let m : 2 * massBy t p q r (x + 1) y ≤ 131071 * (2 * areaOf t) = omega (arith, e) in
-            let i = fall-le _ _ (min (fall - rise) (65535 * areaOf t)) (2 * areaOf t) a b v z m (n .low) (n .high) s j lo in
-            let u = fall-low _ _ (min (fall - rise) (65535 * areaOf t)) (2 * areaOf t) a b v z m (n .low) (n .high) s j lo in
-            let w = fall-high _ _ (min (fall - rise) (65535 * areaOf t)) (2 * areaOf t) a b v z m (n .low) (n .high) s j lo hi in
-            let f = top _ _ (min (fall - rise) (65535 * areaOf t)) (2 * areaOf t) a b v z m (n .low) (n .high) s _ w in
-            rw (down-mod a (a - v) v g₀ (omega (arith, i)) f nil) (record { low = u; high = w });
+              let z : 0 < 2 * areaOf t = omega (arith, ready-long x y h .some) in
+              let c = mass-long x y h in
+              let e = mass-long (x + 1) y g in
+              let j : massBy t p q r x y ≡ massBy t p q r (x + 1) y + 2 * min (fall - rise) (65535 * areaOf t) = omega (arith, mass-step t k x y p q r h g) in
+              let m : 2 * massBy t p q r (x + 1) y ≤ 131071 * (2 * areaOf t) = omega (arith, e) in
+              let i = fall-le _ _ (min (fall - rise) (65535 * areaOf t)) (2 * areaOf t) a b v z m (n .low) (n .high) s j lo in
+              let u = fall-low _ _ (min (fall - rise) (65535 * areaOf t)) (2 * areaOf t) a b v z m (n .low) (n .high) s j lo in
+              let w = fall-high _ _ (min (fall - rise) (65535 * areaOf t)) (2 * areaOf t) a b v z m (n .low) (n .high) s j lo hi in
+              let f = top _ _ (min (fall - rise) (65535 * areaOf t)) (2 * areaOf t) a b v z m (n .low) (n .high) s _ w in
+              rw (down-mod a (a - v) v g₀ (omega (arith, i)) f nil) (record { low = u; high = w });
         }
 
   number-long : (x y b a : ℕ) → covers t x y ≡ true → b ≤ 65535 → Near t p q r x y b a → a / 281474976710656 ≡ shade t p q r x y
@@ -340,4 +340,3 @@ runs-of t k fits p q r hp hq hr f g lo hi y a d e false s l cov wide low hd he s
 runs-of t k fits p q r hp hq hr f g lo hi y a d e true s l cov wide low hd he ss ll =
     let b = rw (hd, he) at (ll refl) in
     runs-long t k fits p q r hp hq hr lo hi y a g cov wide low (record { low = b .0; high = b .1 }) (l refl)
-

@@ -1,9 +1,9 @@
 -- Which pixels corners that turn anticlockwise cover: what a covered pixel is good for, and the columns that an edge keeps of a row.
 -- Assumes nothing.
-use mathlib.Core.Path.{_≡_, refl, sym, ap, _∙_}
+use mathlib.Core.Path.{_≡_, refl, sym}
 use mathlib.Core.Bool.{Bool, true, false, _&&_, _||_, true≢false}
 use Prim.Native.Nat.{ℕ, _+_, _*_, _-_, _/_, _≤_, _<_, zero-le, min, max}
-use borrow.Author.Tests.{ltb-true, ltb-false, eqb-true, lt-ltb, le-ltb, eq-eqb}
+use borrow.Author.Tests.{ltb-true, ltb-false, eqb-true, lt-ltb, eq-eqb}
 use native.Mathlib.Omega.{arith}
 use native.Mathlib.Nat.{le-refl, min-le-left, mul-le-mul-right}
 use lib.Dec.{ltb, eqb}
@@ -145,15 +145,15 @@ spanned-of pen t y hi p q r eh cp cq cr =
     record {
       wide = omega (arith, cp .shrinks, cq .shrinks, cr .shrinks);
       columns = λ x u v.
-        let f = cr .inner x u v in
-        let g = cq .inner x (f .0) (f .1) in
-        let h = cp .inner x (g .0) (g .1) in
-        (h .0, omega (arith, h .1), covered-of t x y (h .2) (g .2) (f .2));
+          let f = cr .inner x u v in
+          let g = cq .inner x (f .0) (f .1) in
+          let h = cp .inner x (g .0) (g .1) in
+          (h .0, omega (arith, h .1), covered-of t x y (h .2) (g .2) (f .2));
       rest = λ x a b c d.
-        let w = keeps-of t x y d in
-        let f = cp .outer x b (omega arith) (w .0) in
-        let g = cq .outer x (f .0) (f .1) (w .1) in
-        cr .outer x (g .0) (g .1) (w .2);
+          let w = keeps-of t x y d in
+          let f = cp .outer x b (omega arith) (w .0) in
+          let g = cq .outer x (f .0) (f .1) (w .1) in
+          cr .outer x (g .0) (g .1) (w .2);
     }
 
 -- a test that both holds and does not

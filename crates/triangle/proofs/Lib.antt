@@ -2,3 +2,4 @@ pub mod Plane
 pub mod Covers
 pub mod Carry
 pub mod Rows
+pub mod Turning

@@ -2,8 +2,8 @@
 use mathlib.Core.Path.{_≡_, refl, sym, ap, ap₂, _∙_}
 use mathlib.Core.Bool.{Bool, true, false, cond}
 use mathlib.Core.List.{List, []}
-use Prim.Native.Nat.{ℕ, _+_, _*_, _-_, _/_, _%_, _^_, _≤_, _<_, min, max}
-use native.Mathlib.Nat.{mul-zero, le-refl}
+use Prim.Native.Nat.{ℕ, _+_, _*_, _-_, _%_, _≤_, _<_, min, max}
+use native.Mathlib.Nat.{mul-zero}
 use native.Mathlib.Omega.{arith}
 use lib.ListN.{length}
 use Rattle.picture.specs.declared.Pen.{Pen}
@@ -11,7 +11,7 @@ use Rattle.picture.specs.declared.Carried.{Carried}
 use Rattle.picture.specs.declared.Kind.the-variants.{Gouraud}
 use Rattle.picture.specs.Offer.{Offer, offer, inWindow, keep}
 use Rattle.picture.specs.Picture.{Picture, drawn}
-use Rattle.picture.specs.Draw.{spans, seen, carriedTo, spanPixel, spanOffers}
+use Rattle.picture.specs.Draw.{seen, carriedTo, spanOffers}
 use Rattle.picture.proofs.Fold.{drawn-nil}
 use Rattle.picture.proofs.Spans.{spans-none, spans-same, spans-part, spans-length}
 use Rattle.picture.proofs.Offers.{keep-seen, keep-out, keep-length, window-in, window-of}
@@ -20,7 +20,7 @@ use Rattle.triangle.specs.declared.Edges.{Edges}
 use Rattle.triangle.specs.declared.Span.{Span}
 use Rattle.triangle.specs.Edge.{covers, amount, areaOf}
 use Rattle.triangle.specs.Number.{mixed, shade}
-use Rattle.triangle.specs.Offers.{kindOf, pixelAt, offersAt, rowOffers, turnedOffers}
+use Rattle.triangle.specs.Offers.{kindOf, pixelAt, offersAt, rowOffers}
 use Rattle.triangle.specs.Loops.{edgesAt, Turned, Spanned, InRows, Runs, endOf, startOf}
 use Rattle.triangle.proofs.Covers.{covered-upward}
 
@@ -58,9 +58,9 @@ module _ (pen : Pen) (rows : ℕ) (constant : Bool) (t : Corners) (y : ℕ) wher
     row-quiet x l h =
         offers-none x
         (λ p q.
-          let w = window-of pen x y q in
-          let r = k .rest x l (w .0) (w .1) p in
-          h (r .0) (r .1))
+        let w = window-of pen x y q in
+        let r = k .rest x l (w .0) (w .1) p in
+        h (r .0) (r .1))
 
     pub row-empty : s .hi ≤ s .lo → (p : Picture) → p ≡ drawn pen (rowOffers pen rows constant t y) p
     row-empty h p = rw (spans-none _ (pen .frame .line) (λ x a. row-quiet x a (λ u v. omega arith))) (sym (drawn-nil pen p))
@@ -77,11 +77,11 @@ module _ (pen : Pen) (rows : ℕ) (constant : Bool) (t : Corners) (y : ℕ) wher
         (λ x a b. row-quiet x b (λ u w. omega arith))
         ∙ spans-same _ _ (s .hi - s .lo)
         (λ j h.
-          let c = k .columns (s .lo + j) (omega arith) (omega arith) in
-          let n = e j (omega arith) in
-          offers-covered (s .lo + j) (c .2)
-          ∙ keep-seen pen rows (pixelAt constant t (s .lo + j) y) (window-in pen (s .lo + j) y (c .0) (c .1) (v .above) (v .below))
-          ∙ ap₂ (λ (a b : ℕ). seen pen rows (offer (kindOf constant) (s .lo + j) y a b)) (sym (n .0)) (sym (n .1))))
+        let c = k .columns (s .lo + j) (omega arith) (omega arith) in
+        let n = e j (omega arith) in
+        offers-covered (s .lo + j) (c .2)
+        ∙ keep-seen pen rows (pixelAt constant t (s .lo + j) y) (window-in pen (s .lo + j) y (c .0) (c .1) (v .above) (v .below))
+        ∙ ap₂ (λ (a b : ℕ). seen pen rows (offer (kindOf constant) (s .lo + j) y a b)) (sym (n .0)) (sym (n .1))))
 
 -- ---- the numbers of a run
 

@@ -1,12 +1,10 @@
 -- What the code of a triangle leans on. No promise of a public call cites anything here.
-use Prim.Native.Nat.{ℕ, _+_, _*_, _-_, _/_, _%_, _^_, _≤_, _<_, min, max}
+use Prim.Native.Nat.{ℕ, _+_, _*_, _/_, _%_, _^_, _≤_, _<_, min, max}
 use mathlib.Core.Path.{_≡_}
 use mathlib.Core.Bool.{Bool, true, false}
-use mathlib.Core.List.{[]}
 use Rattle.picture.specs.declared.Vertex.{Vertex}
 use Rattle.picture.specs.declared.Pen.{Pen}
 use Rattle.triangle.specs.declared.Corners.{Corners}
-use Rattle.triangle.specs.declared.Edge.{Edge}
 use Rattle.triangle.specs.declared.Edges.{Edges}
 use Rattle.triangle.specs.declared.Span.{Span}
 use Rattle.triangle.specs.declared.Slopes.{Slopes}

@@ -1,6 +1,6 @@
 // Triangles drawn: row by row, each row's covered pixels as one run.
 ghost use mathlib.Core.Path.{_≡_};
-ghost use mathlib.Core.Bool.{Bool, true, false};
+ghost use mathlib.Core.Bool.{true, false};
 ghost use Prim.Native.Nat.{ℕ, _+_, _≤_, _<_};
 ghost use lib.ListN.{length};
 ghost use Rattle.picture.specs.Draw.{carriedTo};
@@ -46,11 +46,30 @@ fn flat_row(pen: Pen, t: Corners, s: Span, y: u16, im: &mut [u16], zm: &mut [u16
 {
     let i = steady(t.last.i);
     let z = steady(t.last.z);
-    span(pen, Kind::Constant, s.lo as u16, s.hi as u16, y, i, z, im, zm)
+    span(
+        pen,
+        Kind::Constant,
+        s.lo as u16,
+        s.hi as u16,
+        y,
+        i,
+        z,
+        im,
+        zm,
+    )
 }
 
 // A row of a Gouraud triangle, its numbers carried.
-fn carried_row(pen: Pen, t: Corners, d: usize, g: Slopes, s: Span, y: u16, im: &mut [u16], zm: &mut [u16]) -> u64
+fn carried_row(
+    pen: Pen,
+    t: Corners,
+    d: usize,
+    g: Slopes,
+    s: Span,
+    y: u16,
+    im: &mut [u16],
+    zm: &mut [u16],
+) -> u64
     requires { ⌜ (Turned t) × (d ≡ areaOf t) × (Carries t g) × (Spanned pen t y s) × (InRows pen y) × (s .lo < s .hi) ⌝ }
     ensures { λ r. ⌜ picture (now (im .exit)) (now (zm .exit)) r ≡ drawn pen (rowOffers pen (rowsOf (pen .frame) (length (now (im .entry))) (length (now (zm .entry)))) false t y) (picture (now (im .entry)) (now (zm .entry)) 0) ⌝ }
 {
@@ -65,11 +84,29 @@ fn carried_row(pen: Pen, t: Corners, d: usize, g: Slopes, s: Span, y: u16, im: &
         first: kz as u64,
         add: g.z as u64,
     };
-    span(pen, Kind::Gouraud, s.lo as u16, s.hi as u16, y, i, z, im, zm)
+    span(
+        pen,
+        Kind::Gouraud,
+        s.lo as u16,
+        s.hi as u16,
+        y,
+        i,
+        z,
+        im,
+        zm,
+    )
 }
 
 // One covered pixel of a Gouraud triangle.
-fn divided_pixel(pen: Pen, t: Corners, d: usize, x: usize, y: u16, im: &mut [u16], zm: &mut [u16]) -> u64
+fn divided_pixel(
+    pen: Pen,
+    t: Corners,
+    d: usize,
+    x: usize,
+    y: u16,
+    im: &mut [u16],
+    zm: &mut [u16],
+) -> u64
     requires { ⌜ (Turned t) × (d ≡ areaOf t) × (d ≤ 12884508675) × (covers t x y ≡ true) × (x ≤ 65535) ⌝ }
     ensures { λ r. ⌜ picture (now (im .exit)) (now (zm .exit)) r ≡ drawn pen (offersAt pen (rowsOf (pen .frame) (length (now (im .entry))) (length (now (zm .entry)))) false t x y) (picture (now (im .entry)) (now (zm .entry)) 0) ⌝ }
 {
@@ -80,7 +117,15 @@ fn divided_pixel(pen: Pen, t: Corners, d: usize, x: usize, y: u16, im: &mut [u16
 }
 
 // A row of a Gouraud triangle that is too large for carried numbers (doubled area above 2^31): two divisions a pixel.
-fn divided_row(pen: Pen, t: Corners, d: usize, s: Span, y: u16, im: &mut [u16], zm: &mut [u16]) -> u64
+fn divided_row(
+    pen: Pen,
+    t: Corners,
+    d: usize,
+    s: Span,
+    y: u16,
+    im: &mut [u16],
+    zm: &mut [u16],
+) -> u64
     requires { ⌜ (Turned t) × (d ≡ areaOf t) × (d ≤ 12884508675) × (Spanned pen t y s) × (InRows pen y) × (s .lo < s .hi) ⌝ }
     ensures { λ r. ⌜ picture (now (im .exit)) (now (zm .exit)) r ≡ drawn pen (rowOffers pen (rowsOf (pen .frame) (length (now (im .entry))) (length (now (zm .entry)))) false t y) (picture (now (im .entry)) (now (zm .entry)) 0) ⌝ }
 {
@@ -95,7 +140,16 @@ fn divided_row(pen: Pen, t: Corners, d: usize, s: Span, y: u16, im: &mut [u16], 
 }
 
 // A row of a triangle.
-fn draw_row(pen: Pen, constant: bool, t: Corners, d: usize, shades: Shades, y: u16, im: &mut [u16], zm: &mut [u16]) -> u64
+fn draw_row(
+    pen: Pen,
+    constant: bool,
+    t: Corners,
+    d: usize,
+    shades: Shades,
+    y: u16,
+    im: &mut [u16],
+    zm: &mut [u16],
+) -> u64
     requires { ⌜ (Turned t) × (d ≡ areaOf t) × (d ≤ 12884508675) × (Shaded constant t shades) × (InRows pen y) ⌝ }
     ensures { λ r. ⌜ picture (now (im .exit)) (now (zm .exit)) r ≡ drawn pen (rowOffers pen (rowsOf (pen .frame) (length (now (im .entry))) (length (now (zm .entry)))) constant t y) (picture (now (im .entry)) (now (zm .entry)) 0) ⌝ }
 {
@@ -128,7 +182,10 @@ fn shades_of(constant: bool, t: Corners, d: usize) -> Shades
 fn start_of(limit: u16, a: u16, b: u16, c: u16) -> usize
     ensures { λ r. ⌜ r ≡ startOf limit a b c ⌝ }
 {
-    most(limit as usize, least(a as usize, least(b as usize, c as usize)))
+    most(
+        limit as usize,
+        least(a as usize, least(b as usize, c as usize)),
+    )
 }
 
 // One past the last row of the corners, the window and the memory.
@@ -140,7 +197,14 @@ fn end_of(size: usize, limit: u16, a: u16, b: u16, c: u16) -> usize
 }
 
 // A triangle whose corners turn anticlockwise, with doubled area d.
-fn draw_turned(pen: Pen, constant: bool, t: Corners, d: usize, im: &mut [u16], zm: &mut [u16]) -> u64
+fn draw_turned(
+    pen: Pen,
+    constant: bool,
+    t: Corners,
+    d: usize,
+    im: &mut [u16],
+    zm: &mut [u16],
+) -> u64
     requires { ⌜ (Turned t) × (d ≡ areaOf t) × (d ≤ 12884508675) ⌝ }
     ensures { λ r. ⌜ picture (now (im .exit)) (now (zm .exit)) r ≡ drawn pen (turnedOffers pen (rowsOf (pen .frame) (length (now (im .entry))) (length (now (zm .entry)))) constant t) (picture (now (im .entry)) (now (zm .entry)) 0) ⌝ }
 {
@@ -158,7 +222,15 @@ fn draw_turned(pen: Pen, constant: bool, t: Corners, d: usize, im: &mut [u16], z
 }
 
 // The triangle that vertex c completes. Answers how many pixels passed.
-pub fn triangle(pen: Pen, constant: bool, a: Vertex, b: Vertex, c: Vertex, im: &mut [u16], zm: &mut [u16]) -> u64
+pub fn triangle(
+    pen: Pen,
+    constant: bool,
+    a: Vertex,
+    b: Vertex,
+    c: Vertex,
+    im: &mut [u16],
+    zm: &mut [u16],
+) -> u64
     ensures { λ r. ⌜ picture (now (im .exit)) (now (zm .exit)) r ≡ drawn pen (triangleOffers pen (rowsOf (pen .frame) (length (now (im .entry))) (length (now (zm .entry)))) constant a b c) (picture (now (im .entry)) (now (zm .entry)) 0) ⌝ }
 {
     let e = edge_at(a, b, c.x as usize, c.y as usize);
@@ -167,7 +239,12 @@ pub fn triangle(pen: Pen, constant: bool, a: Vertex, b: Vertex, c: Vertex, im: &
         return draw_turned(pen, constant, t, e.plus - e.minus, im, zm);
     }
     if e.plus < e.minus {
-        let t = Corners { a, b: c, c: b, last: c };
+        let t = Corners {
+            a,
+            b: c,
+            c: b,
+            last: c,
+        };
         return draw_turned(pen, constant, t, e.minus - e.plus, im, zm);
     }
     0

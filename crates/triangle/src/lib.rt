@@ -1,7 +1,7 @@
 // Triangles: which pixels three corners cover, with which numbers, and how they are drawn. specs/Edge.antt, Number.antt and Offers.antt
 // are document 01's "Triangle"; specs/Loops.antt is what the code leans on.
-pub mod draw;
 mod cover;
+pub mod draw;
 mod number;
 mod row;
 

@@ -4,7 +4,6 @@
 ghost use mathlib.Core.Path.{_≡_};
 ghost use mathlib.Core.Bool.{true, false};
 ghost use Prim.Native.Nat.{_+_, _*_, _<_, _≤_};
-ghost use Rattle.picture.specs.Draw.{carriedTo};
 ghost use Rattle.triangle.specs.Edge.{amount, areaOf};
 ghost use Rattle.triangle.specs.Number.{massOf, mixed};
 ghost use Rattle.triangle.specs.Loops.{Turned, Ready, Paces, Drifts, Carries};

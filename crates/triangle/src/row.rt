@@ -2,7 +2,7 @@
 ghost use mathlib.Core.Path.{_≡_};
 ghost use Prim.Native.Nat.{_+_, _≤_};
 ghost use Rattle.triangle.specs.Edge.{closed};
-ghost use Rattle.triangle.specs.Loops.{short, Turned, Cuts, Spanned};
+ghost use Rattle.triangle.specs.Loops.{short, Cuts, Spanned};
 use crate::Corners;
 use crate::Span;
 use crate::cover::edge_at;

@@ -1,5 +1,4 @@
 -- `cover::edge_at` meets its contract. Assumes nothing.
-use mathlib.Core.Path.{_≡_, refl, sym, ap, _∙_}
 use native.Mathlib.Omega.{arith}
 use Rattle.triangle.specs.Edge.{plusOf, minusOf}
 use borrow.Author.Needs.{needs}

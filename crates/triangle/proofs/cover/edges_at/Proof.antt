@@ -1,6 +1,4 @@
 -- `cover::edges_at` meets its contract. Assumes nothing.
-use mathlib.Core.Path.{_≡_, refl, sym, ap, _∙_}
-use native.Mathlib.Omega.{arith}
 use borrow.Author.Needs.{needs}
 use Rattle.triangle.proofs.cover.edges_at.Statement.{statement}
 use Rattle.triangle.proofs.cover.edges_at.Tie as tie

@@ -1,5 +1,5 @@
 -- `cover::times` meets its contract. Assumes nothing.
-use mathlib.Core.Path.{_≡_, refl, sym, ap, _∙_}
+use mathlib.Core.Path.{refl}
 use native.Mathlib.Omega.{arith}
 use Rattle.triangle.proofs.Plane.{product-fits}
 use Rattle.triangle.proofs.cover.times.Statement.{statement}

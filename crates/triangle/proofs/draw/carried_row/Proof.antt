@@ -1,11 +1,11 @@
 -- `draw::carried_row` meets its contract: the row is one run, and the carried sums tell its numbers. Assumes nothing.
 use Rattle.triangle.specs.Edge.{covers}
-use mathlib.Core.Path.{_≡_, refl, sym, ap, ap₂, _∙_}
+use mathlib.Core.Path.{_≡_, ap, _∙_}
 use native.Mathlib.Omega.{arith}
 use lib.ListN.{length}
 use mathlib.Core.Bool.{true, false}
 use mathlib.Core.List.{List}
-use Prim.Native.Nat.{ℕ, _+_, _-_, _*_, _≤_, _<_}
+use Prim.Native.Nat.{ℕ, _+_, _<_}
 use Rattle.picture.specs.Place.{rowsOf}
 use Rattle.picture.specs.Offer.{Offer}
 use Rattle.picture.specs.Picture.{picture, drawn}
@@ -70,13 +70,13 @@ returns c =
     (row-span (a .pen) (rowsOf (a .pen .frame) (length (a .im .now)) (length (a .zm .now))) false t (a .y) (a .s) k (s .pre .4) (s .pre .5) _ _
     (λ j l. (
       carried-told t (t .a .i) (t .b .i) (t .c .i) (a .s .lo) (a .s .hi) (a .y) _ (a .g .i) j
-      (runs-of t (s .pre .0) (g .fits) (t .a .i) (t .b .i) (t .c .i) (omega (arith, s .good .1 .0)) (omega (arith, s .good .1 .0)) (omega (arith, s .good .1 .0)) (a .g .f) (a .g .i) (a .s .lo) (a .s .hi) (a .y) _ (a .d) _ (a .g .long)
-      (λ h. let m = g .short h in (m .few, m .least, m .most, m .i)) (λ h. g .long h .0) cov (omega (arith, k .wide, s .good .0)) (omega arith) (s .pre .1) e
-      (c .before .before .before .before .before .before .before .before .before .before .begin .ensures .0) (c .before .before .before .before .before .before .before .before .before .before .begin .ensures .1)) l,
+          (runs-of t (s .pre .0) (g .fits) (t .a .i) (t .b .i) (t .c .i) (omega (arith, s .good .1 .0)) (omega (arith, s .good .1 .0)) (omega (arith, s .good .1 .0)) (a .g .f) (a .g .i) (a .s .lo) (a .s .hi) (a .y) _ (a .d) _ (a .g .long)
+          (λ h. let m = g .short h in (m .few, m .least, m .most, m .i)) (λ h. g .long h .0) cov (omega (arith, k .wide, s .good .0)) (omega (arith, c .before .before .before .before .before .before .before .before .before .before .begin .ok)) (s .pre .1) e
+          (c .before .before .before .before .before .before .before .before .before .before .begin .ensures .0) (c .before .before .before .before .before .before .before .before .before .before .begin .ensures .1)) l,
       carried-told t (t .a .z) (t .b .z) (t .c .z) (a .s .lo) (a .s .hi) (a .y) _ (a .g .z) j
-      (runs-of t (s .pre .0) (g .fits) (t .a .z) (t .b .z) (t .c .z) (omega (arith, s .good .1 .0)) (omega (arith, s .good .1 .0)) (omega (arith, s .good .1 .0)) (a .g .f) (a .g .z) (a .s .lo) (a .s .hi) (a .y) _ (a .d) _ (a .g .long)
-      (λ h. let m = g .short h in (m .few, m .least, m .most, m .z)) (λ h. g .long h .1) cov (omega (arith, k .wide, s .good .0)) (omega arith) (s .pre .1) e
-      (c .before .before .before .before .before .before .before .before .before .begin2 .ensures .0) (c .before .before .before .before .before .before .before .before .before .begin2 .ensures .1)) l,
+          (runs-of t (s .pre .0) (g .fits) (t .a .z) (t .b .z) (t .c .z) (omega (arith, s .good .1 .0)) (omega (arith, s .good .1 .0)) (omega (arith, s .good .1 .0)) (a .g .f) (a .g .z) (a .s .lo) (a .s .hi) (a .y) _ (a .d) _ (a .g .long)
+          (λ h. let m = g .short h in (m .few, m .least, m .most, m .z)) (λ h. g .long h .1) cov (omega (arith, k .wide, s .good .0)) (omega (arith, c .before .before .before .before .before .before .before .before .before .begin2 .ok)) (s .pre .1) e
+          (c .before .before .before .before .before .before .before .before .before .begin2 .ensures .0) (c .before .before .before .before .before .before .before .before .before .begin2 .ensures .1)) l,
     )))
 
 pub carried-row-spec : {M : Type 1} → statement M

@@ -1,19 +1,9 @@
 -- `draw::divided_pixel` meets its contract. Assumes nothing.
 use Rattle.triangle.proofs.Covers.{ready-of}
 use Rattle.triangle.proofs.Rows.{number-told, pixel-drawn}
-use mathlib.Core.Path.{_≡_, refl, sym, ap, ap₂, _∙_}
-use native.Mathlib.Omega.{arith}
 use lib.ListN.{length}
-use mathlib.Core.Bool.{false}
-use mathlib.Core.List.{List}
-use Prim.Native.Nat.{ℕ}
 use Rattle.picture.specs.Place.{rowsOf}
-use Rattle.picture.specs.Offer.{Offer}
-use Rattle.picture.specs.Picture.{picture, drawn}
-use Rattle.triangle.specs.Edge.{areaOf}
-use Rattle.triangle.specs.Loops.{Ready}
-use Rattle.triangle.proofs.Covers.{covered-ready}
-use Rattle.triangle.proofs.Rows.{offers-covered}
+use Rattle.picture.specs.Picture.{picture}
 use borrow.Author.Needs.{needs}
 use Rattle.triangle.proofs.draw.divided_pixel.Statement.{statement}
 use Rattle.triangle.proofs.draw.divided_pixel.Tie as tie

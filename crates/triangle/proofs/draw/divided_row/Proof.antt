@@ -1,13 +1,11 @@
 -- `draw::divided_row` meets its contract. The invariant of its loop: the pixels below x are drawn. The measure is the number of columns left.
 -- Assumes nothing.
-use mathlib.Core.Path.{_≡_, refl, sym, ap, ap₂, _∙_}
+use mathlib.Core.Path.{ap₂, _∙_}
 use native.Mathlib.Omega.{arith}
 use lib.ListN.{length}
-use mathlib.Core.Bool.{true, false}
-use mathlib.Core.List.{List}
-use Prim.Native.Nat.{ℕ, _+_, _-_, _*_, _≤_, _<_}
+use mathlib.Core.Bool.{false}
+use Prim.Native.Nat.{ℕ, _-_, _≤_}
 use Rattle.picture.specs.Place.{rowsOf}
-use Rattle.picture.specs.Offer.{Offer}
 use Rattle.picture.specs.Picture.{picture, drawn}
 use borrow.Author.Needs.{needs}
 use native.Mathlib.Nat.{le-refl}

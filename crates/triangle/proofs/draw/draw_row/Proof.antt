@@ -1,13 +1,8 @@
 -- `draw::draw_row` meets its contract: each way of shading draws the row. Assumes nothing.
-use mathlib.Core.Path.{_≡_, refl, sym, ap, ap₂, _∙_}
 use native.Mathlib.Omega.{arith}
 use lib.ListN.{length}
-use mathlib.Core.Bool.{true, false}
-use mathlib.Core.List.{List}
-use Prim.Native.Nat.{ℕ, _+_, _-_, _*_, _≤_, _<_}
 use Rattle.picture.specs.Place.{rowsOf}
-use Rattle.picture.specs.Offer.{Offer}
-use Rattle.picture.specs.Picture.{picture, drawn}
+use Rattle.picture.specs.Picture.{picture}
 use Rattle.triangle.proofs.Rows.{row-empty}
 use borrow.Author.Needs.{needs}
 use Rattle.triangle.proofs.draw.draw_row.Statement.{statement}

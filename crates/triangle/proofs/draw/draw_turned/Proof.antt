@@ -1,14 +1,11 @@
 -- `draw::draw_turned` meets its contract. The invariant of its loop: the rows below y are drawn. The measure is the number of rows left.
 -- Assumes nothing.
 use native.Mathlib.Nat.{mul-le-mul}
-use mathlib.Core.Path.{_≡_, refl, sym, ap, ap₂, _∙_}
+use mathlib.Core.Path.{_≡_, sym, ap, ap₂, _∙_}
 use native.Mathlib.Omega.{arith}
 use lib.ListN.{length}
-use mathlib.Core.Bool.{true, false}
-use mathlib.Core.List.{List}
-use Prim.Native.Nat.{ℕ, _+_, _-_, _*_, _≤_, _<_}
+use Prim.Native.Nat.{ℕ, _+_, _-_, _≤_}
 use Rattle.picture.specs.Place.{rowsOf}
-use Rattle.picture.specs.Offer.{Offer}
 use Rattle.picture.specs.Picture.{picture, drawn}
 use Prim.Native.Nat.{min}
 use borrow.Author.Needs.{needs}
@@ -59,7 +56,7 @@ loop-holds c =
       c .before .before .shades-of .ensures,
       omega (arith, s .good .0),
       le-refl _,
-      omega (arith, c .least .ensures),
+      rw (c .least .ensures) (min-le-right _ _),
       rw e (min-le-left _ _),
       rw (r .ensures) (rows-low (a .pen .frame) (length (a .im .now)) (length (a .zm .now))),
       reached-start (λ y h. row-below (a .pen) (r .result) (a .constant) (a .t) (s .pre .0) y (rw y₀ at h)),

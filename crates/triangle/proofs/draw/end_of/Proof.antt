@@ -1,5 +1,5 @@
 -- `draw::end_of` meets its contract. Assumes nothing.
-use mathlib.Core.Path.{_≡_, refl, sym, ap, ap₂, _∙_}
+use mathlib.Core.Path.{_∙_}
 use borrow.Author.Needs.{needs}
 use Rattle.triangle.proofs.draw.end_of.Statement.{statement}
 use Rattle.triangle.proofs.draw.end_of.Tie as tie

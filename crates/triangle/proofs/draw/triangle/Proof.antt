@@ -1,62 +1,63 @@
+-- `draw::triangle` meets its contract: the corners are named so that they turn anticlockwise. Assumes nothing.
+use native.Mathlib.Omega.{arith}
+use lib.ListN.{length}
+use Rattle.picture.specs.Place.{rowsOf}
+use Rattle.picture.specs.Picture.{picture}
+use Rattle.triangle.proofs.Turning.{left-turned, left-area, left-drawn, right-turned, right-area, right-drawn, flat-drawn}
 use borrow.Author.Needs.{needs}
 use Rattle.triangle.proofs.draw.triangle.Statement.{statement}
 use Rattle.triangle.proofs.draw.triangle.Tie as tie
-use Rattle.triangle.proofs.draw.triangle.Reads as reads
-use Rattle.triangle.proofs.draw.triangle.Lts as lts
-use Rattle.triangle.proofs.cover.edge_at.Reads as edge-at-reads
-use Rattle.triangle.proofs.draw.draw_turned.Reads as draw-turned-reads
 
--- src/draw.rt:164:27
 cast-edge-at : tie.Need-cast-edge-at
 cast-edge-at c = search needs
 
--- src/draw.rt:164:41
 cast-edge-at-2 : tie.Need-cast-edge-at-2
 cast-edge-at-2 c = search needs
 
--- src/draw.rt:164:9
 edge-at-requires : tie.Need-edge-at-requires
 edge-at-requires c κs = search needs
 
--- src/draw.rt:167:46
 sub-draw-turned : tie.Need-sub-draw-turned
 sub-draw-turned c = search needs
 
--- src/draw.rt:167:9
 draw-turned-requires : tie.Need-draw-turned-requires
-draw-turned-requires c κs = ?
+draw-turned-requires c κs =
+    let a = c .before .before .before .before .before .before .before .before .before .before .args in
+    let e = c .before .before .before .before .before .edge-at in
+    (left-turned (a .pen) (rowsOf (a .pen .frame) (length (a .im .now)) (length (a .zm .now))) (a .constant) (a .a) (a .b) (a .c) _ (e .ensures .0) (c .before .before .before .if1 .taken), left-area (a .pen) (rowsOf (a .pen .frame) (length (a .im .now)) (length (a .zm .now))) (a .constant) (a .a) (a .b) (a .c) _ (e .ensures .0), omega (arith, e .ensures .1))
 
--- src/draw.rt:167:9
 same-length : tie.Need-same-length
 same-length c = search needs
 
--- src/draw.rt:167:9
 same-length-2 : tie.Need-same-length-2
 same-length-2 c = search needs
 
--- src/draw.rt:167:9
 returns : tie.Need-returns
-returns c = ?
+returns c =
+    let a = c .before .before .before .before .before .before .before .before .before .before .before .before .before .before .before .args in
+    left-drawn (a .pen) (rowsOf (a .pen .frame) (length (a .im .now)) (length (a .zm .now))) (a .constant) (a .a) (a .b) (a .c) _ (c .before .before .before .before .before .before .before .before .before .before .edge-at .ensures .0) (picture (a .im .now) (a .zm .now) 0) _ (c .before .before .before .before .before .before .before .before .if1 .taken) (c .before .before .before .before .draw-turned .ensures)
 
--- src/draw.rt:171:9
 draw-turned-requires-2 : tie.Need-draw-turned-requires-2
-draw-turned-requires-2 c κs = ?
+draw-turned-requires-2 c κs =
+    let a = c .before .before .before .before .before .before .before .before .before .before .before .before .args in
+    let e = c .before .before .before .before .before .before .before .edge-at in
+    (right-turned (a .pen) (rowsOf (a .pen .frame) (length (a .im .now)) (length (a .zm .now))) (a .constant) (a .a) (a .b) (a .c) _ (e .ensures .0) (c .before .before .before .if2 .taken), right-area (a .pen) (rowsOf (a .pen .frame) (length (a .im .now)) (length (a .zm .now))) (a .constant) (a .a) (a .b) (a .c) _ (e .ensures .0), omega (arith, e .ensures .2))
 
--- src/draw.rt:171:9
 same-length-3 : tie.Need-same-length-3
 same-length-3 c = search needs
 
--- src/draw.rt:171:9
 same-length-4 : tie.Need-same-length-4
 same-length-4 c = search needs
 
--- src/draw.rt:171:9
 returns-2 : tie.Need-returns-2
-returns-2 c = ?
+returns-2 c =
+    let a = c .before .before .before .before .before .before .before .before .before .before .before .before .before .before .before .before .before .args in
+    right-drawn (a .pen) (rowsOf (a .pen .frame) (length (a .im .now)) (length (a .zm .now))) (a .constant) (a .a) (a .b) (a .c) _ (c .before .before .before .before .before .before .before .before .before .before .before .before .edge-at .ensures .0) (picture (a .im .now) (a .zm .now) 0) _ (c .before .before .before .before .before .before .before .before .if2 .taken) (c .before .before .before .before .draw-turned2 .ensures)
 
--- src/draw.rt:161:1
 returns-3 : tie.Need-returns-3
-returns-3 c = ?
+returns-3 c =
+    let a = c .before .before .before .before .before .before .before .before .before .args in
+    flat-drawn (a .pen) (rowsOf (a .pen .frame) (length (a .im .now)) (length (a .zm .now))) (a .constant) (a .a) (a .b) (a .c) _ (c .before .before .before .before .edge-at .ensures .0) (picture (a .im .now) (a .zm .now) 0) (omega (arith, c .before .before .if1 .left, c .if2 .left))
 
 pub triangle-spec : {M : Type 1} → statement M
 triangle-spec =

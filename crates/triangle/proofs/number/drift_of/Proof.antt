@@ -1,5 +1,4 @@
 -- `number::drift_of` meets its contract. Assumes nothing.
-use mathlib.Core.Path.{_≡_, refl, sym, ap, _∙_}
 use native.Mathlib.Omega.{arith}
 use Rattle.triangle.proofs.Carry.{drifts-up, drifts-down}
 use borrow.Author.Needs.{needs}

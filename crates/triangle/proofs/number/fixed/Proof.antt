@@ -1,5 +1,4 @@
 -- `number::fixed` meets its contract. Assumes nothing.
-use mathlib.Core.Path.{_≡_, refl, sym, ap, _∙_}
 use native.Mathlib.Omega.{arith}
 use native.Mathlib.Nat.{mod-lt}
 use Rattle.triangle.proofs.Carry.{quotient-small, fixed-low, fixed-high, fixed-fits}

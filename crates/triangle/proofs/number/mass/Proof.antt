@@ -1,5 +1,5 @@
 -- `number::mass` meets its contract. Assumes nothing.
-use mathlib.Core.Path.{_≡_, refl, sym, ap, _∙_}
+use mathlib.Core.Path.{refl}
 use native.Mathlib.Omega.{arith}
 use Prim.Native.Nat.{_≤_, _*_}
 use Rattle.triangle.proofs.Carry.{mass-most}

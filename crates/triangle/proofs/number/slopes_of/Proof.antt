@@ -46,13 +46,13 @@ returns-2 c =
     record {
       fits = omega (arith, s .pre .1, s .pre .2);
       short = λ _.
-        record {
-          few = omega (arith, s .pre .1, c .before .before .if1 .left);
-          least = rw (← (s .pre .1)) (factor-least (2 * a .d) z);
-          most = rw (← (s .pre .1)) (factor-most (2 * a .d));
-          i = c .before .pace-of .ensures;
-          z = c .pace-of2 .ensures;
-        };
+          record {
+            few = omega (arith, s .pre .1, c .before .before .if1 .left);
+            least = rw (← (s .pre .1)) (factor-least (2 * a .d) z);
+            most = rw (← (s .pre .1)) (factor-most (2 * a .d));
+            i = c .before .pace-of .ensures;
+            z = c .pace-of2 .ensures;
+          };
       long = λ e. off e;
     }
 

@@ -1,5 +1,5 @@
 -- `row::cut` meets its contract. Assumes nothing.
-use mathlib.Core.Path.{_≡_, refl, sym, ap, _∙_}
+use mathlib.Core.Path.{_≡_, refl, ap}
 use native.Mathlib.Omega.{arith}
 use Prim.Native.Nat.{_+_, _-_}
 use Rattle.triangle.proofs.Covers.{cut-all, cut-first, cut-none, cut-end}

@@ -1,0 +1,60 @@
+-- The corners named so that they turn anticlockwise, by the computed expression. Assumes nothing.
+use mathlib.Core.Path.{_≡_, sym, ap, _∙_}
+use mathlib.Core.List.{[]}
+use Prim.Native.Nat.{ℕ, _-_, _<_}
+use native.Mathlib.Nat.{le-of-lt, le-of-eq}
+use borrow.Author.Tests.{lt-ltb, le-ltb}
+use mathlib.Core.Bool.{Bool}
+use Rattle.picture.specs.declared.Vertex.{Vertex}
+use Rattle.picture.specs.declared.Pen.{Pen}
+use Rattle.picture.specs.Picture.{Picture, drawn}
+use Rattle.picture.proofs.Fold.{drawn-nil}
+use Rattle.triangle.specs.declared.Edge.{Edge}
+use Rattle.triangle.specs.Edge.{edgeAt, amount, areaOf}
+use Rattle.triangle.specs.Offers.{turnedOffers, cornersOf, triangleOffers}
+use Rattle.triangle.specs.Loops.{Turned}
+use Rattle.triangle.proofs.Plane.{turn-plus, turn-minus}
+
+module _ (pen : Pen) (rows : ℕ) (constant : Bool) (a b c : Vertex) where
+  triangle-left : edgeAt a b (c .x) (c .y) .minus < edgeAt a b (c .x) (c .y) .plus
+      → triangleOffers pen rows constant a b c ≡ turnedOffers pen rows constant (cornersOf a b c c)
+  unfolding triangleOffers
+  triangle-left h = rw (lt-ltb _ _ h)
+
+  triangle-right : edgeAt a b (c .x) (c .y) .plus < edgeAt a b (c .x) (c .y) .minus
+      → triangleOffers pen rows constant a b c ≡ turnedOffers pen rows constant (cornersOf a c b c)
+  unfolding triangleOffers
+  triangle-right h = rw (le-ltb _ _ (le-of-lt h), lt-ltb _ _ h)
+
+  -- three corners on one line offer nothing
+  pub triangle-flat : edgeAt a b (c .x) (c .y) .minus ≡ edgeAt a b (c .x) (c .y) .plus → triangleOffers pen rows constant a b c ≡ []
+  unfolding triangleOffers
+  triangle-flat h = rw (le-ltb _ _ (le-of-eq (sym h)), le-ltb _ _ (le-of-eq h))
+
+  module _ (e : Edge) (at : e ≡ edgeAt a b (c .x) (c .y)) where
+    pub left-turned : e .minus < e .plus → Turned (cornersOf a b c c)
+    left-turned h = record { turns = rw at at h }
+
+    pub left-area : e .plus - e .minus ≡ areaOf (cornersOf a b c c)
+    left-area = ap amount at
+
+    pub left-drawn : (p q : Picture) → e .minus < e .plus → q ≡ drawn pen (turnedOffers pen rows constant (cornersOf a b c c)) p
+        → q ≡ drawn pen (triangleOffers pen rows constant a b c) p
+    left-drawn p q h k = rw (triangle-left (rw at at h)) k
+
+    -- the other turning sense
+    pub right-turned : e .plus < e .minus → Turned (cornersOf a c b c)
+    right-turned h =
+        record { turns = rw (turn-plus (a .x) (a .y) (b .x) (b .y) (c .x) (c .y), turn-minus (a .x) (a .y) (b .x) (b .y) (c .x) (c .y)) (rw at at h) }
+
+    pub right-area : e .minus - e .plus ≡ areaOf (cornersOf a c b c)
+    right-area =
+        ap (λ (f : Edge). f .minus - f .plus) at
+        ∙ sym (rw (turn-plus (a .x) (a .y) (b .x) (b .y) (c .x) (c .y), turn-minus (a .x) (a .y) (b .x) (b .y) (c .x) (c .y)))
+
+    pub right-drawn : (p q : Picture) → e .plus < e .minus → q ≡ drawn pen (turnedOffers pen rows constant (cornersOf a c b c)) p
+        → q ≡ drawn pen (triangleOffers pen rows constant a b c) p
+    right-drawn p q h k = rw (triangle-right (rw at at h)) k
+
+    pub flat-drawn : (p : Picture) → e .minus ≡ e .plus → p ≡ drawn pen (triangleOffers pen rows constant a b c) p
+    flat-drawn p h = rw (triangle-flat (rw at at h)) (sym (drawn-nil pen p))
