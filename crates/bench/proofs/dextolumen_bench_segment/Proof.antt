@@ -1,0 +1,44 @@
+-- `dextolumen_bench_segment` meets its contract. Assumes nothing.
+use mathlib.Core.Path.{ap, ap₂, _∙_}
+use lib.ListN.{length}
+use Rattle.picture.specs.declared.Pen.{Pen}
+use Rattle.picture.specs.Place.{rowsOf}
+use Rattle.picture.specs.Picture.{picture, drawn}
+use Rattle.line.specs.Segment.{segmentOffers}
+use Rattle.line.specs.declared.Mode.{Mode}
+use Rattle.bench.specs.Bench.{vertexOf}
+use borrow.Author.Needs.{needs}
+use Rattle.bench.proofs.dextolumen_bench_segment.Statement.{statement}
+use Rattle.bench.proofs.dextolumen_bench_segment.Tie as tie
+
+mode-of-requires : tie.Need-mode-of-requires
+mode-of-requires c κs = search needs
+
+pen-of-requires : tie.Need-pen-of-requires
+pen-of-requires c κs = search needs
+
+segment-requires : tie.Need-segment-requires
+segment-requires c κs = search needs
+
+same-length : tie.Need-same-length
+same-length c = search needs
+
+same-length-2 : tie.Need-same-length-2
+same-length-2 c = search needs
+
+returns : tie.Need-returns
+returns c =
+    let a = c .before .before .before .before .before .before .before .before .before .before .before .args in
+    c .before .before .before .before .segment .ensures
+    ∙ ap₂
+    (λ (p : Pen) (m : Mode).
+      drawn p
+      (segmentOffers p (rowsOf (p .frame) (length (a .im .now)) (length (a .zm .now)))
+      (record { mode = m; pattern = a .pattern; foreground = a .foreground; background = a .background }) (vertexOf (a .ax) (a .ay) (a .ai) (a .az)) (vertexOf (a .bx) (a .by) (a .bi) (a .bz)))
+      (picture (a .im .now) (a .zm .now) 0))
+    (c .before .before .before .before .before .before .before .pen-of .ensures) (c .before .before .before .before .before .before .before .before .mode-of .ensures)
+
+pub dextolumen-bench-segment-spec : {M : Type 1} → statement M
+dextolumen-bench-segment-spec =
+    tie.close
+    (tie.spec mode-of-requires pen-of-requires segment-requires same-length same-length-2 returns)

@@ -1,0 +1,162 @@
+// Entries for the benchmark in C (bench/): one figure, or one stream, a call.
+ghost use mathlib.Core.Path.{_≡_};
+ghost use lib.ListN.{length};
+ghost use Rattle.line.specs.Segment.{segmentOffers};
+ghost use Rattle.picture.specs.Picture.{picture, drawn};
+ghost use Rattle.picture.specs.Place.{rowsOf};
+ghost use Rattle.stream.specs.Calls.{sizeOf, packing, unpacking};
+ghost use Rattle.triangle.specs.Offers.{triangleOffers};
+ghost use Rattle.bench.specs.Bench.{penOf, modeOf, styleOf, vertexOf, Wrote};
+use line::Mode;
+use line::Style;
+use picture::Frame;
+use picture::Pen;
+use picture::Vertex;
+use stream::Coded;
+
+// The pen of the benchmark: depth test on, both enables, all planes, the widest window.
+fn pen_of(line: u16) -> Pen
+    ensures { λ r. ⌜ r ≡ penOf line ⌝ }
+{
+    let frame = Frame { line };
+    Pen {
+        frame,
+        left: 0,
+        right: 8192,
+        bottom: 0,
+        top: 8192,
+        transparency: 65535,
+        planes: 65535,
+        depth: true,
+        ienable: true,
+        zenable: true,
+    }
+}
+
+// Draws a triangle.
+#[no_mangle]
+pub extern "C" fn dextolumen_bench_triangle(
+    line: u16,
+    constant: bool,
+    ax: u16,
+    ay: u16,
+    ai: u16,
+    az: u16,
+    bx: u16,
+    by: u16,
+    bi: u16,
+    bz: u16,
+    cx: u16,
+    cy: u16,
+    ci: u16,
+    cz: u16,
+    im: &mut [u16],
+    zm: &mut [u16],
+) -> u64
+    ensures { λ r. ⌜ picture (now (im .exit)) (now (zm .exit)) r ≡ drawn (penOf line) (triangleOffers (penOf line) (rowsOf (penOf line .frame) (length (now (im .entry))) (length (now (zm .entry)))) constant (vertexOf ax ay ai az) (vertexOf bx by bi bz) (vertexOf cx cy ci cz)) (picture (now (im .entry)) (now (zm .entry)) 0) ⌝ }
+{
+    let a = Vertex {
+        x: ax,
+        y: ay,
+        i: ai,
+        z: az,
+    };
+    let b = Vertex {
+        x: bx,
+        y: by,
+        i: bi,
+        z: bz,
+    };
+    let c = Vertex {
+        x: cx,
+        y: cy,
+        i: ci,
+        z: cz,
+    };
+    triangle::draw::triangle(pen_of(line), constant, a, b, c, im, zm)
+}
+
+// The line mode of a number.
+fn mode_of(mode: u8) -> Mode
+    ensures { λ r. ⌜ r ≡ modeOf mode ⌝ }
+{
+    if mode == 0 {
+        return Mode::Zero;
+    }
+    if mode == 1 {
+        return Mode::One;
+    }
+    Mode::Two
+}
+
+// Draws a segment.
+#[no_mangle]
+pub extern "C" fn dextolumen_bench_segment(
+    line: u16,
+    mode: u8,
+    pattern: u32,
+    foreground: u16,
+    background: u16,
+    ax: u16,
+    ay: u16,
+    ai: u16,
+    az: u16,
+    bx: u16,
+    by: u16,
+    bi: u16,
+    bz: u16,
+    im: &mut [u16],
+    zm: &mut [u16],
+) -> u64
+    ensures { λ r. ⌜ picture (now (im .exit)) (now (zm .exit)) r ≡ drawn (penOf line) (segmentOffers (penOf line) (rowsOf (penOf line .frame) (length (now (im .entry))) (length (now (zm .entry)))) (styleOf mode pattern foreground background) (vertexOf ax ay ai az) (vertexOf bx by bi bz)) (picture (now (im .entry)) (now (zm .entry)) 0) ⌝ }
+{
+    let a = Vertex {
+        x: ax,
+        y: ay,
+        i: ai,
+        z: az,
+    };
+    let b = Vertex {
+        x: bx,
+        y: by,
+        i: bi,
+        z: bz,
+    };
+    let m = mode_of(mode);
+    let style = Style {
+        mode: m,
+        pattern,
+        foreground,
+        background,
+    };
+    line::segment(pen_of(line), style, a, b, im, zm)
+}
+
+// The length that a call on packed streams tells.
+fn size_of(answer: Coded) -> u64
+    ensures { λ r. ⌜ r ≡ sizeOf answer ⌝ }
+{
+    match answer {
+        Coded::Done(n) => n as u64,
+        Coded::BadWord => 0,
+        Coded::BadLength => 0,
+        Coded::BadTail => 0,
+        Coded::NoRoom => 0,
+    }
+}
+
+// Packs words.
+#[no_mangle]
+pub extern "C" fn dextolumen_bench_pack(words: &[u32], out: &mut [u8]) -> u64
+    ensures { λ r. ⌜ Wrote (packing (now (words .entry)) (now (out .entry))) r (now (out .exit)) ⌝ }
+{
+    size_of(stream::write::pack(words, out))
+}
+
+// Unpacks a stream.
+#[no_mangle]
+pub extern "C" fn dextolumen_bench_unpack(bytes: &[u8], out: &mut [u32]) -> u64
+    ensures { λ r. ⌜ Wrote (unpacking (now (bytes .entry)) (now (out .entry))) r (now (out .exit)) ⌝ }
+{
+    size_of(stream::read::unpack(bytes, out))
+}
