@@ -52,11 +52,11 @@ module _ (at i z : ℕ) (im zm : List ℕ) (n : ℕ) where
   nearer-fail h = rw (le-ltb _ _ h)
 
 -- a test that holds below n, computed
-every : (ℕ → Bool) → ℕ → Bool
+unfoldable pub every : (ℕ → Bool) → ℕ → Bool
 every f zero = true
 every f (suc n) = every f n && f n
 
-each : (f : ℕ → Bool) (n : ℕ) → every f n ≡ true → (j : ℕ) → j < n → f j ≡ true
+pub each : (f : ℕ → Bool) (n : ℕ) → every f n ≡ true → (j : ℕ) → j < n → f j ≡ true
 unfolding every
 each f zero e j h = absurd (omega arith)
 each f (suc n) e j h = go (ltb j n) refl (each f n (both (every f n) (f n) e .0) j)

@@ -35,9 +35,13 @@ isMasked Line2 = false
 unfoldable pub inWindow : Pen → ℕ → ℕ → Bool
 inWindow pen x y = leb (pen .left) x && leb x (pen .right) && leb (pen .bottom) y && leb y (pen .top)
 
+-- the bit of the transparency pattern for pixel (x, y)
+abbrev pub patternBit : ℕ → ℕ → ℕ
+patternBit x y = 4 * (y % 4) + x % 4
+
 -- the transparency pattern's bit for pixel (x, y) is set
 unfoldable pub shows : Pen → ℕ → ℕ → Bool
-shows pen x y = hasBit (pen .transparency) (4 * (y % 4) + x % 4)
+shows pen x y = hasBit (pen .transparency) (patternBit x y)
 
 -- a pixel is offered: inside the window, inside the memory, and shown where the pattern concerns it
 unfoldable pub offered : Pen → ℕ → Offer → Bool

@@ -16,7 +16,7 @@ use Rattle.triangle.specs.declared.Edges.{Edges}
 use Rattle.triangle.specs.declared.Span.{Span}
 use Rattle.triangle.specs.Edge.{plusOf, minusOf, edgeAt, closed, inside, within, covers, areaOf}
 use Rattle.triangle.specs.Loops.{edgesAt, Turned, Ready, short, Keeps, Cuts, Spanned}
-use Rattle.triangle.proofs.Plane.{weights, upward, plus-from, minus-from, first-in, first-out, end-in, end-out, max-le, max-le-r, lt-min, lt-min-r, le-of-not, lt-of-not}
+use Rattle.triangle.proofs.Plane.{weights, across, upward, plus-from, minus-from, first-in, first-out, end-in, end-out, max-le, max-le-r, lt-min, lt-min-r, le-of-not, lt-of-not}
 
 -- ---- the test of an edge
 
@@ -90,9 +90,12 @@ module _ (t : Corners) (k : Turned t) (x y : ℕ) (h : covers t x y ≡ true) wh
         whole = weights (t .a .x) (t .a .y) (t .b .x) (t .b .y) (t .c .x) (t .c .y) x y (k .turns) (w .ab) (w .bc) (w .ca);
       }
 
-  -- a covered pixel lies between the lowest and the highest corner
+  -- a covered pixel lies in the corners' box
   pub covered-upward : (min (t .a .y) (min (t .c .y) (t .b .y)) ≤ y) × (y ≤ max (t .a .y) (max (t .c .y) (t .b .y)))
   covered-upward = upward (t .a .x) (t .a .y) (t .b .x) (t .b .y) (t .c .x) (t .c .y) x y (k .turns) (w .ab) (w .bc) (w .ca)
+
+  pub covered-across : (min (t .a .x) (min (t .b .x) (t .c .x)) ≤ x) × (x ≤ max (t .a .x) (max (t .b .x) (t .c .x)))
+  covered-across = across (t .a .x) (t .a .y) (t .b .x) (t .b .y) (t .c .x) (t .c .y) x y (k .turns) (w .ab) (w .bc) (w .ca)
 
 -- ---- the columns that an edge keeps of a row
 

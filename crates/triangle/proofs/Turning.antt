@@ -15,6 +15,27 @@ use Rattle.triangle.specs.Offers.{turnedOffers, cornersOf, triangleOffer
 use Rattle.triangle.specs.Loops.{Turned}
 use Rattle.triangle.proofs.Plane.{turn-plus, turn-minus}
 
+-- ---- the sense, by the computed expression
+
+module _ (a b c : Vertex) (e : Edge) (at : e ≡ edgeAt a b (c .x) (c .y)) where
+  pub left-turned : e .minus < e .plus → Turned (cornersOf a b c c)
+  left-turned h = record { turns = rw at at h }
+
+  pub left-area : e .plus - e .minus ≡ areaOf (cornersOf a b c c)
+  left-area = ap amount at
+
+  -- the other turning sense
+  pub right-turned : e .plus < e .minus → Turned (cornersOf a c b c)
+  right-turned h =
+      record { turns = rw (turn-plus (a .x) (a .y) (b .x) (b .y) (c .x) (c .y), turn-minus (a .x) (a .y) (b .x) (b .y) (c .x) (c .y)) (rw at at h) }
+
+  pub right-area : e .minus - e .plus ≡ areaOf (cornersOf a c b c)
+  right-area =
+      ap (λ (f : Edge). f .minus - f .plus) at
+      ∙ sym (rw (turn-plus (a .x) (a .y) (b .x) (b .y) (c .x) (c .y), turn-minus (a .x) (a .y) (b .x) (b .y) (c .x) (c .y)))
+
+-- ---- what the vertices offer
+
 module _ (pen : Pen) (rows : ℕ) (constant : Bool) (a b c : Vertex) where
   triangle-left : edgeAt a b (c .x) (c .y) .minus < edgeAt a b (c .x) (c .y) .plus
       → triangleOffers pen rows constant a b c ≡ turnedOffers pen rows constant (cornersOf a b c c)
@@ -32,25 +53,9 @@ module _ (pen : Pen) (rows : ℕ) (constant : Bool) (a b c : Vertex) where
   triangle-flat h = rw (le-ltb _ _ (le-of-eq (sym h)), le-ltb _ _ (le-of-eq h))
 
   module _ (e : Edge) (at : e ≡ edgeAt a b (c .x) (c .y)) where
-    pub left-turned : e .minus < e .plus → Turned (cornersOf a b c c)
-    left-turned h = record { turns = rw at at h }
-
-    pub left-area : e .plus - e .minus ≡ areaOf (cornersOf a b c c)
-    left-area = ap amount at
-
     pub left-drawn : (p q : Picture) → e .minus < e .plus → q ≡ drawn pen (turnedOffers pen rows constant (cornersOf a b c c)) p
         → q ≡ drawn pen (triangleOffers pen rows constant a b c) p
     left-drawn p q h k = rw (triangle-left (rw at at h)) k
-
-    -- the other turning sense
-    pub right-turned : e .plus < e .minus → Turned (cornersOf a c b c)
-    right-turned h =
-        record { turns = rw (turn-plus (a .x) (a .y) (b .x) (b .y) (c .x) (c .y), turn-minus (a .x) (a .y) (b .x) (b .y) (c .x) (c .y)) (rw at at h) }
-
-    pub right-area : e .minus - e .plus ≡ areaOf (cornersOf a c b c)
-    right-area =
-        ap (λ (f : Edge). f .minus - f .plus) at
-        ∙ sym (rw (turn-plus (a .x) (a .y) (b .x) (b .y) (c .x) (c .y), turn-minus (a .x) (a .y) (b .x) (b .y) (c .x) (c .y)))
 
     pub right-drawn : (p q : Picture) → e .plus < e .minus → q ≡ drawn pen (turnedOffers pen rows constant (cornersOf a c b c)) p
         → q ≡ drawn pen (triangleOffers pen rows constant a b c) p

@@ -32,10 +32,10 @@ returns c =
     c .before .before .before .before .segment .ensures
     ∙ ap₂
     (λ (p : Pen) (m : Mode).
-      drawn p
-      (segmentOffers p (rowsOf (p .frame) (length (a .im .now)) (length (a .zm .now)))
-      (record { mode = m; pattern = a .pattern; foreground = a .foreground; background = a .background }) (vertexOf (a .ax) (a .ay) (a .ai) (a .az)) (vertexOf (a .bx) (a .by) (a .bi) (a .bz)))
-      (picture (a .im .now) (a .zm .now) 0))
+    drawn p
+    (segmentOffers p (rowsOf (p .frame) (length (a .im .now)) (length (a .zm .now)))
+    (record { mode = m; pattern = a .pattern; foreground = a .foreground; background = a .background }) (vertexOf (a .ax) (a .ay) (a .ai) (a .az)) (vertexOf (a .bx) (a .by) (a .bi) (a .bz)))
+    (picture (a .im .now) (a .zm .now) 0))
     (c .before .before .before .before .before .before .before .pen-of .ensures) (c .before .before .before .before .before .before .before .before .mode-of .ensures)
 
 pub dextolumen-bench-segment-spec : {M : Type 1} → statement M

@@ -28,9 +28,9 @@ returns c =
     c .before .before .before .before .triangle .ensures
     ∙ ap
     (λ (p : Pen).
-      drawn p
-      (triangleOffers p (rowsOf (p .frame) (length (a .im .now)) (length (a .zm .now))) (a .constant) (vertexOf (a .ax) (a .ay) (a .ai) (a .az)) (vertexOf (a .bx) (a .by) (a .bi) (a .bz)) (vertexOf (a .cx) (a .cy) (a .ci) (a .cz)))
-      (picture (a .im .now) (a .zm .now) 0))
+    drawn p
+    (triangleOffers p (rowsOf (p .frame) (length (a .im .now)) (length (a .zm .now))) (a .constant) (vertexOf (a .ax) (a .ay) (a .ai) (a .az)) (vertexOf (a .bx) (a .by) (a .bi) (a .bz)) (vertexOf (a .cx) (a .cy) (a .ci) (a .cz)))
+    (picture (a .im .now) (a .zm .now) 0))
     (c .before .before .before .before .before .before .before .pen-of .ensures)
 
 pub dextolumen-bench-triangle-spec : {M : Type 1} → statement M

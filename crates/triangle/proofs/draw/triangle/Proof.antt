@@ -24,7 +24,7 @@ draw-turned-requires : tie.Need-draw-turned-requires
 draw-turned-requires c κs =
     let a = c .before .before .before .before .before .before .before .before .before .before .args in
     let e = c .before .before .before .before .before .edge-at in
-    (left-turned (a .pen) (rowsOf (a .pen .frame) (length (a .im .now)) (length (a .zm .now))) (a .constant) (a .a) (a .b) (a .c) _ (e .ensures .0) (c .before .before .before .if1 .taken), left-area (a .pen) (rowsOf (a .pen .frame) (length (a .im .now)) (length (a .zm .now))) (a .constant) (a .a) (a .b) (a .c) _ (e .ensures .0), omega (arith, e .ensures .1))
+    (left-turned (a .a) (a .b) (a .c) _ (e .ensures .0) (c .before .before .before .if1 .taken), left-area (a .a) (a .b) (a .c) _ (e .ensures .0), omega (arith, e .ensures .1))
 
 same-length : tie.Need-same-length
 same-length c = search needs
@@ -41,7 +41,7 @@ draw-turned-requires-2 : tie.Need-draw-turned-requires-2
 draw-turned-requires-2 c κs =
     let a = c .before .before .before .before .before .before .before .before .before .before .before .before .args in
     let e = c .before .before .before .before .before .before .before .edge-at in
-    (right-turned (a .pen) (rowsOf (a .pen .frame) (length (a .im .now)) (length (a .zm .now))) (a .constant) (a .a) (a .b) (a .c) _ (e .ensures .0) (c .before .before .before .if2 .taken), right-area (a .pen) (rowsOf (a .pen .frame) (length (a .im .now)) (length (a .zm .now))) (a .constant) (a .a) (a .b) (a .c) _ (e .ensures .0), omega (arith, e .ensures .2))
+    (right-turned (a .a) (a .b) (a .c) _ (e .ensures .0) (c .before .before .before .if2 .taken), right-area (a .a) (a .b) (a .c) _ (e .ensures .0), omega (arith, e .ensures .2))
 
 same-length-3 : tie.Need-same-length-3
 same-length-3 c = search needs
