@@ -3,3 +3,4 @@ pub mod Covers
 pub mod Carry
 pub mod Rows
 pub mod Turning
+pub mod Between
