@@ -4,3 +4,4 @@ pub mod Carry
 pub mod Rows
 pub mod Turning
 pub mod Between
+pub mod Shared

@@ -1,0 +1,99 @@
+-- The edge that two triangles share. Run the other way, an edge exchanges what it adds and what it takes away, and of the two ways just
+-- one is closed: so of the two tests just one holds, and two triangles on different sides never cover the same pixel.
+-- Assumes nothing.
+use mathlib.Core.Path.{_≡_, refl, sym, ap, _∙_}
+use mathlib.Core.Bool.{Bool, true, false, not, _&&_, _||_, true≢false}
+use Prim.Native.Nat.{ℕ, _+_, _*_, _≤_, _<_}
+use native.Mathlib.Nat.{mul-comm}
+use native.Mathlib.Omega.{arith}
+use borrow.Author.Tests.{ltb-true, ltb-false, lt-ltb, le-ltb, eq-eqb, ne-eqb}
+use lib.Dec.{ltb, eqb}
+use Rattle.picture.specs.declared.Vertex.{Vertex}
+use Rattle.picture.proofs.Places.{both}
+use Rattle.triangle.specs.declared.Corners.{Corners}
+use Rattle.triangle.specs.Edge.{plusOf, minusOf, edgeAt, closed, inside, within, covers}
+use Rattle.triangle.specs.Offers.{cornersOf}
+use Rattle.triangle.specs.Shared.{HasEdge, first, second, third, Apart}
+use Rattle.triangle.proofs.Plane.{lt-of-not}
+
+-- ---- one of the two tests
+
+-- the other way round, what is added is taken away
+swap-plus : (ax ay bx by x y : ℕ) → plusOf bx by ax ay x y ≡ minusOf ax ay bx by x y
+unfolding plusOf minusOf
+swap-plus ax ay bx by x y = omega arith
+
+swap-minus : (ax ay bx by x y : ℕ) → minusOf bx by ax ay x y ≡ plusOf ax ay bx by x y
+unfolding plusOf minusOf
+swap-minus ax ay bx by x y = omega (arith, mul-comm ax by)
+
+-- m < n, or they are equal and o holds: of this and of the same from n to m just one holds, if of o and s just one does
+either : (m n : ℕ) (o s : Bool) → (m ≡ n → s ≡ not o) → ltb n m || (eqb n m && s) ≡ not (ltb m n || (eqb m n && o))
+either m n o s h = go (ltb m n) (ltb n m) refl refl
+  where
+    go : (p q : Bool) → ltb m n ≡ p → ltb n m ≡ q → q || (eqb n m && s) ≡ not (p || (eqb m n && o))
+    go true true u v = absurd (omega (arith, ltb-true m n u, ltb-true n m v))
+    go true false u v = rw (ne-eqb n m (λ e. omega (arith, ltb-true m n u)))
+    go false true u v = rw (ne-eqb m n (λ e. omega (arith, ltb-true n m v)))
+    go false false u v =
+        let e : m ≡ n = omega (arith, ltb-false m n u, ltb-false n m v) in
+        rw (eq-eqb n m (sym e), eq-eqb m n e) (h e)
+
+ltb-other : (m n : ℕ) → (m ≡ n → ⊥) → ltb n m ≡ not (ltb m n)
+ltb-other m n h = go (ltb m n) refl
+  where
+    go : (p : Bool) → ltb m n ≡ p → ltb n m ≡ not p
+    go true u = le-ltb n m (omega (arith, ltb-true m n u))
+    go false u = lt-ltb n m (lt-of-not (λ l. h (omega (arith, ltb-false m n u))))
+
+-- an edge is closed one way
+closed-once : (a b : Vertex) → Apart a b → closed b a ≡ not (closed a b)
+unfolding closed
+closed-once a b h = either (b .y) (a .y) (ltb (a .x) (b .x)) (ltb (b .x) (a .x)) (λ e. ltb-other (a .x) (b .x) (λ d. h .so (d, sym e)))
+
+-- of every pixel just one holds: the test of an edge, or the test of the edge the other way round
+pub edge-once : (a b : Vertex) (x y : ℕ) → Apart a b → within b a x y ≡ not (within a b x y)
+unfolding inside
+edge-once a b x y h =
+    rw (swap-plus (a .x) (a .y) (b .x) (b .y) x y, swap-minus (a .x) (a .y) (b .x) (b .y) x y)
+    (either (edgeAt a b x y .minus) (edgeAt a b x y .plus) (closed a b) (closed b a) (λ e. closed-once a b h))
+
+-- ---- the corners, named from an edge on
+
+-- the corner that an edge leaves
+leaves : {t : Corners} {a b : Vertex} → HasEdge t a b → Vertex
+leaves {t} first = t .c
+leaves {t} second = t .a
+leaves {t} third = t .b
+
+-- the same corners, the edge first
+abbrev from : {t : Corners} {a b : Vertex} → HasEdge t a b → Corners
+from {t} {a} {b} e = cornersOf a b (leaves e) (t .last)
+
+round : (p q r : Bool) → p && q && r ≡ q && r && p
+round true true true = refl
+round true true false = refl
+round true false r = refl
+round false true true = refl
+round false true false = refl
+round false false r = refl
+
+from-covers : (t : Corners) (a b : Vertex) (e : HasEdge t a b) (x y : ℕ) → covers t x y ≡ covers (from e) x y
+unfolding covers leaves
+from-covers t _ _ first x y = refl
+from-covers t _ _ second x y = round (within (t .a) (t .b) x y) (within (t .b) (t .c) x y) (within (t .c) (t .a) x y)
+from-covers t _ _ third x y = sym (round (within (t .c) (t .a) x y) (within (t .a) (t .b) x y) (within (t .b) (t .c) x y))
+
+-- ---- two triangles
+
+-- a covered pixel passes the test of each edge
+passes : (t : Corners) (a b : Vertex) (x y : ℕ) → HasEdge t a b → covers t x y ≡ true → within a b x y ≡ true
+unfolding covers
+passes t a b x y e h =
+    both (within a b x y) (within b (leaves e) x y)
+    (both (within a b x y && within b (leaves e) x y) (within (leaves e) a x y) (sym (from-covers t a b e x y) ∙ h) .0)
+    .0
+
+-- two triangles on different sides of a shared edge never both cover a pixel
+pub never-both : (t u : Corners) (a b : Vertex) (x y : ℕ) → HasEdge t a b → HasEdge u b a → Apart a b → covers t x y ≡ true → covers u x y ≡ true → ⊥
+never-both t u a b x y et eu h ct cu = true≢false (sym (passes u b a x y eu cu) ∙ edge-once a b x y h ∙ ap not (passes t a b x y et ct))
