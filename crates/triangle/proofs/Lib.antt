@@ -4,4 +4,5 @@ pub mod Carry
 pub mod Rows
 pub mod Turning
 pub mod Between
+pub mod Amid
 pub mod Shared

@@ -1,6 +1,6 @@
 -- The edge that two triangles share. Run the other way, an edge exchanges what it adds and what it takes away, and of the two ways just
--- one is closed: so of the two tests just one holds, and two triangles on different sides never cover the same pixel.
--- Assumes nothing.
+-- one is closed: so of the two tests just one holds, and two triangles on different sides never cover the same pixel. A pixel strictly
+-- between the ends is strictly inside the other edges of both, so there the two tests alone decide. Assumes nothing.
 use mathlib.Core.Path.{_≡_, refl, sym, ap, _∙_}
 use mathlib.Core.Bool.{Bool, true, false, not, _&&_, _||_, true≢false}
 use Prim.Native.Nat.{ℕ, _+_, _*_, _≤_, _<_}
@@ -13,8 +13,11 @@ use Rattle.picture.proofs.Places.{both}
 use Rattle.triangle.specs.declared.Corners.{Corners}
 use Rattle.triangle.specs.Edge.{plusOf, minusOf, edgeAt, closed, inside, within, covers}
 use Rattle.triangle.specs.Offers.{cornersOf}
-use Rattle.triangle.specs.Shared.{HasEdge, first, second, third, Apart}
-use Rattle.triangle.proofs.Plane.{lt-of-not}
+use Rattle.triangle.specs.Loops.{Turned, short}
+use Rattle.triangle.specs.Shared.{HasEdge, first, second, third, Apart, Amid}
+use Rattle.triangle.proofs.Plane.{next-plus, next-minus, lt-of-not}
+use Rattle.triangle.proofs.Covers.{keep-in}
+use Rattle.triangle.proofs.Amid.{amid-first, amid-second}
 
 -- ---- one of the two tests
 
@@ -84,6 +87,26 @@ from-covers t _ _ first x y = refl
 from-covers t _ _ second x y = round (within (t .a) (t .b) x y) (within (t .b) (t .c) x y) (within (t .c) (t .a) x y)
 from-covers t _ _ third x y = sym (round (within (t .c) (t .a) x y) (within (t .a) (t .b) x y) (within (t .b) (t .c) x y))
 
+from-turned : (t : Corners) (a b : Vertex) (e : HasEdge t a b) → Turned t → Turned (from e)
+unfolding leaves
+from-turned t _ _ first k = record { turns = k .turns }
+from-turned t _ _ second k =
+    record {
+      turns = rw (
+        next-plus (t .c .x) (t .c .y) (t .a .x) (t .a .y) (t .b .x) (t .b .y),
+        next-minus (t .c .x) (t .c .y) (t .a .x) (t .a .y) (t .b .x) (t .b .y),
+        next-plus (t .a .x) (t .a .y) (t .b .x) (t .b .y) (t .c .x) (t .c .y),
+        next-minus (t .a .x) (t .a .y) (t .b .x) (t .b .y) (t .c .x) (t .c .y),
+      ) (k .turns)
+    }
+from-turned t _ _ third k =
+    record {
+      turns = rw (
+        next-plus (t .a .x) (t .a .y) (t .b .x) (t .b .y) (t .c .x) (t .c .y),
+        next-minus (t .a .x) (t .a .y) (t .b .x) (t .b .y) (t .c .x) (t .c .y),
+      ) (k .turns)
+    }
+
 -- ---- two triangles
 
 -- a covered pixel passes the test of each edge
@@ -97,3 +120,50 @@ passes t a b x y e h =
 -- two triangles on different sides of a shared edge never both cover a pixel
 pub never-both : (t u : Corners) (a b : Vertex) (x y : ℕ) → HasEdge t a b → HasEdge u b a → Apart a b → covers t x y ≡ true → covers u x y ≡ true → ⊥
 never-both t u a b x y et eu h ct cu = true≢false (sym (passes u b a x y eu cu) ∙ edge-once a b x y h ∙ ap not (passes t a b x y et ct))
+
+-- ---- a pixel strictly between the ends
+
+-- the ends are not at the same point
+amid-apart : (a b : Vertex) (x y : ℕ) → Amid a b x y → Apart a b
+amid-apart a b x y m = record { so = λ e. m .off-a (omega (arith, m .left, m .right, e .0), omega (arith, m .low, m .high, e .1)) }
+
+-- the edge the other way round
+amid-back : (a b : Vertex) (x y : ℕ) → Amid a b x y → Amid b a x y
+amid-back a b x y m =
+    record {
+      on = rw (swap-plus (a .x) (a .y) (b .x) (b .y) x y, swap-minus (a .x) (a .y) (b .x) (b .y) x y) (sym (m .on));
+      left = omega (arith, m .left);
+      right = omega (arith, m .right);
+      low = omega (arith, m .low);
+      high = omega (arith, m .high);
+      off-a = m .off-b;
+      off-b = m .off-a;
+    }
+
+strictly : {m p : ℕ} (own : Bool) → m < p → m + short own ≤ p
+strictly true h = omega arith
+strictly false h = omega arith
+
+-- there a triangle covers what the test of that edge says
+amid-covers : (t : Corners) (a b : Vertex) (x y : ℕ) → HasEdge t a b → Turned t → Amid a b x y → covers t x y ≡ within a b x y
+unfolding covers
+amid-covers t a b x y e k m =
+    let c = leaves e in
+    let l : Turned (cornersOf a b c c) = record { turns = from-turned t a b e k .turns } in
+    from-covers t a b e x y
+    ∙ rw (
+      keep-in (edgeAt b c x y) (closed b c) (strictly (closed b c) (amid-second a b c x y l m)),
+      keep-in (edgeAt c a x y) (closed c a) (strictly (closed c a) (amid-first a b c x y l m)),
+    ) (go (within a b x y))
+  where
+    go : (p : Bool) → p && true && true ≡ p
+    go true = refl
+    go false = refl
+
+-- a pixel strictly between the ends of a shared edge is covered by just one of the two triangles on its different sides
+pub exactly-one : (t u : Corners) (a b : Vertex) (x y : ℕ) → HasEdge t a b → HasEdge u b a → Turned t → Turned u → Amid a b x y
+    → covers u x y ≡ not (covers t x y)
+exactly-one t u a b x y et eu kt ku m =
+    amid-covers u b a x y eu ku (amid-back a b x y m)
+    ∙ edge-once a b x y (amid-apart a b x y m)
+    ∙ ap not (sym (amid-covers t a b x y et kt m))
