@@ -6,3 +6,4 @@ pub mod Turning
 pub mod Between
 pub mod Amid
 pub mod Shared
+pub mod Once
