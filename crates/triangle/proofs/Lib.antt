@@ -7,3 +7,4 @@ pub mod Between
 pub mod Amid
 pub mod Shared
 pub mod Once
+pub mod Integers
