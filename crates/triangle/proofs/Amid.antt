@@ -46,25 +46,25 @@ module _ (ax ay bx by cx cy x y : ℕ)
     (on : plusOf ax ay bx by x y ≡ minusOf ax ay bx by x y)
     (left : min ax bx ≤ x)
     (right : x ≤ max ax bx) where
-  -- the doubled area times a place, spread over the edges
-  spread : (k : ℕ) → (plusOf bx by cx cy x y + plusOf cx cy ax ay x y + minusOf ax ay bx by cx cy) * k
-      ≡ (minusOf bx by cx cy x y + minusOf cx cy ax ay x y + plusOf ax ay bx by cx cy) * k
-  spread k =
-      let e : plusOf bx by cx cy x y + plusOf cx cy ax ay x y + minusOf ax ay bx by cx cy
-              ≡ minusOf bx by cx cy x y + minusOf cx cy ax ay x y + plusOf ax ay bx by cx cy
-          = omega (arith, whole ax ay bx by cx cy x y) in
-      ap (λ (n : ℕ). n * k) e
+  -- the edge adds nothing to the doubled area, which the two others make up; the same times a place
+  shares : plusOf bx by cx cy x y + plusOf cx cy ax ay x y + minusOf ax ay bx by cx cy
+      ≡ minusOf bx by cx cy x y + minusOf cx cy ax ay x y + plusOf ax ay bx by cx cy
+  shares = omega (arith, whole ax ay bx by cx cy x y)
+
+  shares-at : (k : ℕ) → plusOf bx by cx cy x y * k + plusOf cx cy ax ay x y * k + minusOf ax ay bx by cx cy * k
+      ≡ minusOf bx by cx cy x y * k + minusOf cx cy ax ay x y * k + plusOf ax ay bx by cx cy * k
+  shares-at k = simp add-mul at (ap (λ (n : ℕ). n * k) shares)
 
   off-first : (ax ≡ x → ⊥) → minusOf cx cy ax ay x y < plusOf cx cy ax ay x y
   off-first =
       leans _ _ _ _ ax bx x
-      (omega (arith, centre ax ay bx by cx cy x y, ap (λ (n : ℕ). n * cx) on, simp add-mul at (spread ax)))
+      (omega (arith, centre ax ay bx by cx cy x y, ap (λ (n : ℕ). n * cx) on, shares-at ax))
       turns left right
 
   off-second : (bx ≡ x → ⊥) → minusOf bx by cx cy x y < plusOf bx by cx cy x y
   off-second =
       leans _ _ _ _ bx ax x
-      (omega (arith, centre ax ay bx by cx cy x y, ap (λ (n : ℕ). n * cx) on, simp add-mul at (spread bx)))
+      (omega (arith, centre ax ay bx by cx cy x y, ap (λ (n : ℕ). n * cx) on, shares-at bx))
       turns (omega arith) (omega arith)
 
 -- two points that are not the same differ in x or in y

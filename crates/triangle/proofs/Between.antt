@@ -16,7 +16,7 @@ module _ (t : Corners) (k : Turned t) (x y : ℕ) (h : covers t x y ≡ true) wh
   w = covered-within t x y h
 
   -- the weights of a covered pixel add up to the doubled area
-  pub covered-whole : amount (edgeAt (t .b) (t .c) x y) + amount (edgeAt (t .c) (t .a) x y) + amount (edgeAt (t .a) (t .b) x y) ≡ areaOf t
+  covered-whole : amount (edgeAt (t .b) (t .c) x y) + amount (edgeAt (t .c) (t .a) x y) + amount (edgeAt (t .a) (t .b) x y) ≡ areaOf t
   covered-whole = weights (t .a .x) (t .a .y) (t .b .x) (t .b .y) (t .c .x) (t .c .y) x y (k .turns) (w .ab) (w .bc) (w .ca)
 
   -- the number at a covered pixel lies between the least and the greatest corner number

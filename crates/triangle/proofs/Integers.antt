@@ -1,7 +1,7 @@
 -- An edge's expression, kept as what is added and what is taken away, is document 01's over the integers, and its test is on that
 -- integer's sign. An integer is the gap between two numbers if adding it to the second gives the first; differences and products of gaps
 -- are gaps again, and one gap has one integer. Assumes nothing.
-use mathlib.Core.Path.{_≡_, refl, sym, ap}
+use mathlib.Core.Path.{_≡_, refl, ap}
 use mathlib.Core.Bool.{Bool, true, false, cond, _&&_, _||_}
 use Prim.Native.Nat.{ℕ, zero, suc, _+_, _*_, _-_}
 use native.Mathlib.Nat.{add-mul, mul-add, mul-comm}

@@ -1,6 +1,6 @@
 -- A triangle offers each pixel at most once: only column x of row y makes offers of pixel (x, y), and it makes at most one.
 -- Assumes nothing.
-use mathlib.Core.Path.{_≡_, refl, sym, ap, ap₂, _∙_}
+use mathlib.Core.Path.{_≡_, refl, ap, ap₂, _∙_}
 use mathlib.Core.Bool.{Bool, true, false, cond, _&&_}
 use mathlib.Core.List.{List, [], _∷_, _++_, append-nil}
 use Prim.Native.Nat.{ℕ, zero, suc, _≤_, _<_}
@@ -84,7 +84,7 @@ module _ (x y : ℕ) where
         omega (
           arith,
           at-once (rowOffers pen rows constant t) y rows
-          (λ j n. at-none _ (pen .frame .line) (λ i l. at-else t i j (λ e. n (e .1)))),
+              (λ j n. at-none _ (pen .frame .line) (λ i l. at-else t i j (λ e. n (e .1)))),
           at-once (λ i. offersAt pen rows constant t i y) x (pen .frame .line) (λ i n. at-else t i y (λ e. n (e .0))),
           at-length (offersAt pen rows constant t x y),
           offers-length pen rows constant t y x,

@@ -3,7 +3,7 @@
 -- between the ends is strictly inside the other edges of both, so there the two tests alone decide. Assumes nothing.
 use mathlib.Core.Path.{_≡_, refl, sym, ap, _∙_}
 use mathlib.Core.Bool.{Bool, true, false, not, _&&_, _||_, true≢false}
-use Prim.Native.Nat.{ℕ, _+_, _*_, _≤_, _<_}
+use Prim.Native.Nat.{ℕ, _+_, _≤_, _<_}
 use native.Mathlib.Nat.{mul-comm}
 use native.Mathlib.Omega.{arith}
 use borrow.Author.Tests.{ltb-true, ltb-false, lt-ltb, le-ltb, eq-eqb, ne-eqb}
@@ -71,7 +71,7 @@ leaves {t} third = t .b
 
 -- the same corners, the edge first
 abbrev from : {t : Corners} {a b : Vertex} → HasEdge t a b → Corners
-from {t} {a} {b} e = cornersOf a b (leaves e) (t .last)
+from {t} {a} {b} e = cornersOf a b (leaves e) (leaves e)
 
 round : (p q r : Bool) → p && q && r ≡ q && r && p
 round true true true = refl
@@ -87,25 +87,15 @@ from-covers t _ _ first x y = refl
 from-covers t _ _ second x y = round (within (t .a) (t .b) x y) (within (t .b) (t .c) x y) (within (t .c) (t .a) x y)
 from-covers t _ _ third x y = sym (round (within (t .c) (t .a) x y) (within (t .a) (t .b) x y) (within (t .b) (t .c) x y))
 
+turned-next : (a b c l : Vertex) → Turned (cornersOf a b c l) → Turned (cornersOf c a b b)
+turned-next a b c l k =
+    record { turns = rw (next-plus (a .x) (a .y) (b .x) (b .y) (c .x) (c .y), next-minus (a .x) (a .y) (b .x) (b .y) (c .x) (c .y)) (k .turns) }
+
 from-turned : (t : Corners) (a b : Vertex) (e : HasEdge t a b) → Turned t → Turned (from e)
 unfolding leaves
 from-turned t _ _ first k = record { turns = k .turns }
-from-turned t _ _ second k =
-    record {
-      turns = rw (
-        next-plus (t .c .x) (t .c .y) (t .a .x) (t .a .y) (t .b .x) (t .b .y),
-        next-minus (t .c .x) (t .c .y) (t .a .x) (t .a .y) (t .b .x) (t .b .y),
-        next-plus (t .a .x) (t .a .y) (t .b .x) (t .b .y) (t .c .x) (t .c .y),
-        next-minus (t .a .x) (t .a .y) (t .b .x) (t .b .y) (t .c .x) (t .c .y),
-      ) (k .turns)
-    }
-from-turned t _ _ third k =
-    record {
-      turns = rw (
-        next-plus (t .a .x) (t .a .y) (t .b .x) (t .b .y) (t .c .x) (t .c .y),
-        next-minus (t .a .x) (t .a .y) (t .b .x) (t .b .y) (t .c .x) (t .c .y),
-      ) (k .turns)
-    }
+from-turned t _ _ second k = turned-next (t .c) (t .a) (t .b) (t .b) (turned-next (t .a) (t .b) (t .c) (t .last) k)
+from-turned t _ _ third k = turned-next (t .a) (t .b) (t .c) (t .last) k
 
 -- ---- two triangles
 
@@ -149,7 +139,7 @@ amid-covers : (t : Corners) (a b : Vertex) (x y : ℕ) → HasEdge t a b → Tur
 unfolding covers
 amid-covers t a b x y e k m =
     let c = leaves e in
-    let l : Turned (cornersOf a b c c) = record { turns = from-turned t a b e k .turns } in
+    let l = from-turned t a b e k in
     from-covers t a b e x y
     ∙ rw (
       keep-in (edgeAt b c x y) (closed b c) (strictly (closed b c) (amid-second a b c x y l m)),
