@@ -1,7 +1,7 @@
 -- A pixel on a triangle's edge, strictly between its ends, is strictly inside the two other edges. With v the expression of the edge from
 -- c to a, and D the doubled area, v (bx − ax) = D (x − ax) where the pixel is on the line from a to b; so where x is not ax and lies
--- between ax and bx, v has the sign of D. The other edge goes alike, and so does y, with the corners
--- mirrored at the diagonal in the other order. Assumes nothing.
+-- between ax and bx, v has the sign of D. The other edge goes alike, and so does y, with the corners mirrored at the diagonal in the other
+-- order. Assumes nothing.
 use mathlib.Core.Path.{_≡_, refl, sym, ap, _∙_}
 use mathlib.Core.Bool.{Bool, true, false}
 use Prim.Native.Nat.{ℕ, _+_, _*_, _-_, _≤_, _<_, min, max}

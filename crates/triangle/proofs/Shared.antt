@@ -14,7 +14,7 @@ use Rattle.triangle.specs.declared.Corners.{Corners}
 use Rattle.triangle.specs.Edge.{plusOf, minusOf, edgeAt, closed, inside, within, covers}
 use Rattle.triangle.specs.Offers.{cornersOf}
 use Rattle.triangle.specs.Loops.{Turned, short}
-use Rattle.triangle.specs.Shared.{HasEdge, first, second, third, Apart, Amid}
+use Rattle.triangle.specs.Shared.{SamePoint, Apart, HasEdge, first, second, third, Amid}
 use Rattle.triangle.proofs.Plane.{next-plus, next-minus, lt-of-not}
 use Rattle.triangle.proofs.Covers.{keep-in}
 use Rattle.triangle.proofs.Amid.{amid-first, amid-second}
@@ -63,39 +63,59 @@ edge-once a b x y h =
 
 -- ---- the corners, named from an edge on
 
--- the corner that an edge leaves
-leaves : {t : Corners} {a b : Vertex} → HasEdge t a b → Vertex
-leaves {t} first = t .c
-leaves {t} second = t .a
-leaves {t} third = t .b
+-- only the points count
+same-covers : (t : Corners) (a b : Vertex) (x y : ℕ) → SamePoint (t .a) a → SamePoint (t .b) b → covers t x y ≡ covers (cornersOf a b (t .c) (t .c)) x y
+unfolding covers inside closed
+same-covers t a b x y p q = rw (p .0, p .1, q .0, q .1)
 
--- the same corners, the edge first
+same-turned : (t : Corners) (a b : Vertex) → SamePoint (t .a) a → SamePoint (t .b) b → Turned t → Turned (cornersOf a b (t .c) (t .c))
+same-turned t a b p q k = record { turns = rw (p .0, p .1, q .0, q .1) at (k .turns) }
+
+-- the same corners, named from c on
+abbrev next : Corners → Corners
+next t = cornersOf (t .c) (t .a) (t .b) (t .last)
+
+next-covers : (t : Corners) (x y : ℕ) → covers t x y ≡ covers (next t) x y
+unfolding covers
+next-covers t x y = go (within (t .a) (t .b) x y) (within (t .b) (t .c) x y) (within (t .c) (t .a) x y)
+  where
+    go : (p q r : Bool) → p && q && r ≡ r && p && q
+    go true true true = refl
+    go true true false = refl
+    go true false true = refl
+    go true false false = refl
+    go false q true = refl
+    go false q false = refl
+
+next-turned : (t : Corners) → Turned t → Turned (next t)
+next-turned t k =
+    record {
+      turns = rw (
+        next-plus (t .a .x) (t .a .y) (t .b .x) (t .b .y) (t .c .x) (t .c .y),
+        next-minus (t .a .x) (t .a .y) (t .b .x) (t .b .y) (t .c .x) (t .c .y),
+      ) (k .turns);
+    }
+
+-- the corner opposite an edge, and the same corners with the edge first
+opposite : {t : Corners} {a b : Vertex} → HasEdge t a b → Vertex
+opposite {t} (first p q) = t .c
+opposite {t} (second p q) = t .a
+opposite {t} (third p q) = t .b
+
 abbrev from : {t : Corners} {a b : Vertex} → HasEdge t a b → Corners
-from {t} {a} {b} e = cornersOf a b (leaves e) (leaves e)
-
-round : (p q r : Bool) → p && q && r ≡ q && r && p
-round true true true = refl
-round true true false = refl
-round true false r = refl
-round false true true = refl
-round false true false = refl
-round false false r = refl
+from {t} {a} {b} e = cornersOf a b (opposite e) (opposite e)
 
 from-covers : (t : Corners) (a b : Vertex) (e : HasEdge t a b) (x y : ℕ) → covers t x y ≡ covers (from e) x y
-unfolding covers leaves
-from-covers t _ _ first x y = refl
-from-covers t _ _ second x y = round (within (t .a) (t .b) x y) (within (t .b) (t .c) x y) (within (t .c) (t .a) x y)
-from-covers t _ _ third x y = sym (round (within (t .c) (t .a) x y) (within (t .a) (t .b) x y) (within (t .b) (t .c) x y))
-
-turned-next : (a b c l : Vertex) → Turned (cornersOf a b c l) → Turned (cornersOf c a b b)
-turned-next a b c l k =
-    record { turns = rw (next-plus (a .x) (a .y) (b .x) (b .y) (c .x) (c .y), next-minus (a .x) (a .y) (b .x) (b .y) (c .x) (c .y)) (k .turns) }
+unfolding opposite
+from-covers t a b (first p q) x y = same-covers t a b x y p q
+from-covers t a b (second p q) x y = next-covers t x y ∙ next-covers (next t) x y ∙ same-covers (next (next t)) a b x y p q
+from-covers t a b (third p q) x y = next-covers t x y ∙ same-covers (next t) a b x y p q
 
 from-turned : (t : Corners) (a b : Vertex) (e : HasEdge t a b) → Turned t → Turned (from e)
-unfolding leaves
-from-turned t _ _ first k = record { turns = k .turns }
-from-turned t _ _ second k = turned-next (t .c) (t .a) (t .b) (t .b) (turned-next (t .a) (t .b) (t .c) (t .last) k)
-from-turned t _ _ third k = turned-next (t .a) (t .b) (t .c) (t .last) k
+unfolding opposite
+from-turned t a b (first p q) k = same-turned t a b p q k
+from-turned t a b (second p q) k = same-turned (next (next t)) a b p q (next-turned (next t) (next-turned t k))
+from-turned t a b (third p q) k = same-turned (next t) a b p q (next-turned t k)
 
 -- ---- two triangles
 
@@ -103,8 +123,8 @@ from-turned t _ _ third k = turned-next (t .a) (t .b) (t .c) (t .last) k
 passes : (t : Corners) (a b : Vertex) (x y : ℕ) → HasEdge t a b → covers t x y ≡ true → within a b x y ≡ true
 unfolding covers
 passes t a b x y e h =
-    both (within a b x y) (within b (leaves e) x y)
-    (both (within a b x y && within b (leaves e) x y) (within (leaves e) a x y) (sym (from-covers t a b e x y) ∙ h) .0)
+    both (within a b x y) (within b (opposite e) x y)
+    (both (within a b x y && within b (opposite e) x y) (within (opposite e) a x y) (sym (from-covers t a b e x y) ∙ h) .0)
     .0
 
 -- two triangles on different sides of a shared edge never both cover a pixel
@@ -138,7 +158,7 @@ strictly false h = omega arith
 amid-covers : (t : Corners) (a b : Vertex) (x y : ℕ) → HasEdge t a b → Turned t → Amid a b x y → covers t x y ≡ within a b x y
 unfolding covers
 amid-covers t a b x y e k m =
-    let c = leaves e in
+    let c = opposite e in
     let l = from-turned t a b e k in
     from-covers t a b e x y
     ∙ rw (

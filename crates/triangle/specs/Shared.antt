@@ -25,15 +25,18 @@ isZero (pos zero) = true
 isZero (pos (suc k)) = false
 isZero (negsuc k) = false
 
--- one of the three edges of the corners runs from a to b
-pub data HasEdge (t : Corners) : Vertex → Vertex → Type 0 where
-  first : HasEdge t (t .a) (t .b)
-  second : HasEdge t (t .b) (t .c)
-  third : HasEdge t (t .c) (t .a)
+-- two vertices are at the same point, whatever their numbers
+abbrev pub SamePoint : Vertex → Vertex → Type 0
+SamePoint a b = (a .x ≡ b .x) × (a .y ≡ b .y)
 
--- two vertices are not at the same point
 pub record Apart (a b : Vertex) : Type 0 where
-  pub so : (a .x ≡ b .x) × (a .y ≡ b .y) → ⊥
+  pub so : SamePoint a b → ⊥
+
+-- one of the three edges of the corners runs from the point of a to the point of b
+pub data HasEdge (t : Corners) (a b : Vertex) : Type 0 where
+  first : SamePoint (t .a) a → SamePoint (t .b) b → HasEdge t a b
+  second : SamePoint (t .b) a → SamePoint (t .c) b → HasEdge t a b
+  third : SamePoint (t .c) a → SamePoint (t .a) b → HasEdge t a b
 
 -- pixel (x, y) lies on the edge from a to b, strictly between its ends: on the line, in the box of a and b, and at neither of them
 pub record Amid (a b : Vertex) (x y : ℕ) : Type 0 where
