@@ -3,3 +3,8 @@ pub mod Covers
 pub mod Carry
 pub mod Rows
 pub mod Turning
+pub mod Between
+pub mod Amid
+pub mod Shared
+pub mod Once
+pub mod Integers

@@ -2,3 +2,4 @@ pub mod Edge
 pub mod Number
 pub mod Offers
 pub mod Loops
+pub mod Shared
