@@ -1,20 +1,21 @@
 -- What is offered of a pixel. Assumes nothing.
-use mathlib.Core.Path.{_≡_, refl, sym}
+use mathlib.Core.Path.{_≡_, refl, sym, ap, _∙_}
 use mathlib.Core.Bool.{Bool, true, false, cond, not, _&&_, _||_}
 use mathlib.Core.List.{List, [], _∷_}
-use Prim.Native.Nat.{ℕ, _≤_}
+use Prim.Native.Nat.{ℕ, _≤_, _<_, min, max}
 use native.Mathlib.Omega.{arith}
 use lib.ListN.{length, getD, set}
 use lib.Seq.{set-getD}
-use lib.Dec.{leb}
-use borrow.Author.Tests.{le-leb, leb-true}
+use lib.Dec.{leb, ltb}
+use borrow.Author.Tests.{le-leb, leb-true, lt-ltb, ltb-true}
 use Rattle.picture.specs.declared.Pen.{Pen}
 use Rattle.picture.specs.declared.Kind.{Kind}
-use Rattle.picture.specs.Place.{placeOf, inMemory}
+use Rattle.picture.specs.declared.Kind.the-variants.{Line2}
+use Rattle.picture.specs.Place.{placeOf, rowsOf, inMemory}
 use Rattle.picture.specs.Offer.{Offer, offer, isMasked, inWindow, shows, offered, keep}
-use Rattle.picture.specs.Picture.{isDeep, inPlanes, newI, newZ, Picture, stepAt, step, drawn}
-use Rattle.picture.specs.Draw.{shown, seen}
-use Rattle.picture.proofs.Places.{both}
+use Rattle.picture.specs.Picture.{isDeep, passes, inPlanes, newI, newZ, Picture, picture, stepAt, step, drawn}
+use Rattle.picture.specs.Draw.{placed, shown, seen}
+use Rattle.picture.proofs.Places.{both, place-below}
 
 -- inside the window, the window asks nothing more
 pub keep-seen : (pen : Pen) (rows : ℕ) (o : Offer) → inWindow pen (o .x) (o .y) ≡ true → keep pen rows o ≡ seen pen rows o
@@ -88,3 +89,58 @@ module _ (pen : Pen) (l : List ℕ) (at : ℕ) where
   pub keep-z : (kind : Kind) (z : ℕ) → pen .zenable && isDeep kind ≡ false → l ≡ set l at (newZ pen kind z (getD l at 0))
   unfolding newZ
   keep-z kind z h = rw h (sym (set-getD l at 0))
+
+-- ---- whether a pixel passes
+
+pub passes-tested : (pen : Pen) (kind : Kind) (z old : ℕ) → pen .depth && isDeep kind ≡ true → passes pen kind z old ≡ ltb z old
+unfolding passes
+passes-tested pen kind z old h = rw h
+
+pub passes-free : (pen : Pen) (kind : Kind) (z old : ℕ) → pen .depth && isDeep kind ≡ false → passes pen kind z old ≡ true
+unfolding passes
+passes-free pen kind z old h = rw h
+
+-- ---- an offer at a place
+
+module _ (pen : Pen) (kind : Kind) (at i z : ℕ) (p : Picture) where
+  pub placed-in : ltb at (length (p .i)) && ltb at (length (p .z)) ≡ true → placed pen kind at i z p ≡ stepAt pen kind at i z p
+  unfolding placed
+  placed-in h = rw h
+
+  pub placed-out : ltb at (length (p .i)) && ltb at (length (p .z)) ≡ false → placed pen kind at i z p ≡ p
+  unfolding placed
+  placed-out h = rw h
+
+-- an offered pixel, drawn at its place
+pub keep-placed : (pen : Pen) (ni nz : ℕ) (kind : Kind) (x y i z at : ℕ) (im zm : List ℕ) (n : ℕ) → length im ≡ ni → length zm ≡ nz
+    → offered pen (rowsOf (pen .frame) ni nz) (offer kind x y 0 0) ≡ true → at ≡ placeOf (pen .frame) x y
+    → placed pen kind at i z (picture im zm n) ≡ drawn pen (keep pen (rowsOf (pen .frame) ni nz) (offer kind x y i z)) (picture im zm n)
+keep-placed pen ni nz kind x y i z at im zm n li lz h e =
+    let below = place-below (pen .frame) ni nz x y (offered-inside pen (rowsOf (pen .frame) ni nz) kind x y h) in
+    let within : ltb at (length im) && ltb at (length zm) ≡ true = rw (lt-ltb at (length im) (omega (arith, below .0)), lt-ltb at (length zm) (omega (arith, below .1))) in
+    keep-drawn pen (rowsOf (pen .frame) ni nz) kind x y i z (picture im zm n) _ h
+    (placed-in pen kind at i z (picture im zm n) within ∙ ap (λ (a : ℕ). stepAt pen kind a i z (picture im zm n)) e)
+
+-- where both ends of a box are inside the window and the memory, so is every pixel of it
+pub box-offered : (pen : Pen) (rows : ℕ) (ax ay bx by x y : ℕ) (kind : Kind)
+    → offered pen rows (offer Line2 ax ay 0 0) ≡ true → offered pen rows (offer Line2 bx by 0 0) ≡ true
+    → min ax bx ≤ x → x ≤ max ax bx → min ay by ≤ y → y ≤ max ay by → (not (isMasked kind) || shows pen x y) ≡ true
+    → offered pen rows (offer kind x y 0 0) ≡ true
+unfolding offered inMemory
+box-offered pen rows ax ay bx by x y kind p q l r b t s =
+    let w = parts ax ay p in
+    let v = parts bx by q in
+    rw (
+      window-in pen x y (omega (arith, w .0, v .0)) (omega (arith, w .1, v .1)) (omega (arith, w .2, v .2)) (omega (arith, w .3, v .3)),
+      lt-ltb x (pen .frame .line) (omega (arith, w .4, v .4)),
+      lt-ltb y rows (omega (arith, w .5, v .5)),
+    )
+    s
+  where
+    parts : (cx cy : ℕ) → inWindow pen cx cy && (ltb cx (pen .frame .line) && ltb cy rows) && true ≡ true
+        → (pen .left ≤ cx) × (cx ≤ pen .right) × (pen .bottom ≤ cy) × (cy ≤ pen .top) × (cx < pen .frame .line) × (cy < rows)
+    parts cx cy e =
+        let m = both (inWindow pen cx cy) (ltb cx (pen .frame .line) && ltb cy rows) (both (inWindow pen cx cy && (ltb cx (pen .frame .line) && ltb cy rows)) true e .0) in
+        let w = window-of pen cx cy (m .0) in
+        let k = both (ltb cx (pen .frame .line)) (ltb cy rows) (m .1) in
+        (w .0, w .1, w .2, w .3, ltb-true _ _ (k .0), ltb-true _ _ (k .1))

@@ -1,17 +1,24 @@
 -- What the calls of this crate draw.
 use Prim.Native.Nat.{ℕ, zero, suc, _+_, _-_, _*_, _/_, _%_, _^_}
-use mathlib.Core.Bool.{cond, not, _||_}
+use mathlib.Core.Bool.{cond, not, _&&_, _||_}
 use mathlib.Core.List.{List, [], _∷_, _++_}
+use lib.ListN.{length}
+use lib.Dec.{ltb}
 use Rattle.picture.specs.declared.Pen.{Pen}
 use Rattle.picture.specs.declared.Kind.{Kind}
 use Rattle.picture.specs.declared.Carried.{Carried}
 use Rattle.picture.specs.Place.{inMemory}
+use Rattle.picture.specs.Picture.{Picture, stepAt}
 use Rattle.picture.specs.Offer.{Offer, offer, isMasked, shows}
 
 -- the offers of f 0, then those of f 1, up to and without f n
 unfoldable pub spans : (ℕ → List Offer) → ℕ → List Offer
 spans f zero = []
 spans f (suc n) = spans f n ++ f n
+
+-- an offer at a place that both memories have; at any other it does nothing
+unfoldable pub placed : Pen → Kind → ℕ → ℕ → ℕ → Picture → Picture
+placed pen kind at i z p = cond (ltb at (length (p .i)) && ltb at (length (p .z))) (stepAt pen kind at i z p) p
 
 -- a pixel, as the transparency pattern lets it through: itself or nothing
 unfoldable pub shown : Pen → Offer → List Offer

@@ -3,7 +3,7 @@ ghost use mathlib.Core.Path.{_≡_};
 ghost use mathlib.Core.Bool.{true};
 ghost use Prim.Native.Nat.{_+_, _/_, _^_, _≤_, _<_, min};
 ghost use lib.ListN.{length};
-ghost use Rattle.picture.specs.Draw.{shown, spanOffers};
+ghost use Rattle.picture.specs.Draw.{placed, shown, spanOffers};
 ghost use Rattle.picture.specs.Loops.{Plain};
 ghost use Rattle.picture.specs.Place.{placeOf, rowsOf};
 ghost use Rattle.picture.specs.Offer.{keep, offer};
@@ -36,6 +36,24 @@ pub fn put(
     if is_offered(pen, kind, x, y, im.len(), zm.len()) {
         let frame = pen.frame;
         let at = place(frame, x, y);
+        return put_at(pen, kind, at, i, z, im, zm, 0);
+    }
+    0
+}
+
+// A pixel of a figure at its place, for a caller that knows that it is offered. Answers how many pixels passed.
+pub fn put_placed(
+    pen: Pen,
+    kind: Kind,
+    at: usize,
+    i: u16,
+    z: u16,
+    im: &mut [u16],
+    zm: &mut [u16],
+) -> u64
+    ensures { λ r. ⌜ picture (now (im .exit)) (now (zm .exit)) r ≡ placed pen kind at i z (picture (now (im .entry)) (now (zm .entry)) 0) ⌝ }
+{
+    if (at < im.len()) & (at < zm.len()) {
         return put_at(pen, kind, at, i, z, im, zm, 0);
     }
     0

@@ -52,7 +52,7 @@ fn is_in_window(pen: Pen, x: u16, y: u16) -> bool
 }
 
 // Whether a pixel of a figure is offered, with memories of these lengths.
-pub(crate) fn is_offered(pen: Pen, kind: Kind, x: u16, y: u16, ni: usize, nz: usize) -> bool
+pub fn is_offered(pen: Pen, kind: Kind, x: u16, y: u16, ni: usize, nz: usize) -> bool
     ensures { λ r. ⌜ r ≡ offered pen (rowsOf (pen .frame) ni nz) (offer kind x y 0 0) ⌝ }
 {
     let frame = pen.frame;
@@ -67,11 +67,15 @@ fn in_planes(planes: u16, old: u16, new: u16) -> u16
     (old & !planes) | (new & planes)
 }
 
-// Whether a pixel passes where this depth stands.
-fn is_passed(pen: Pen, kind: Kind, z: u16, old: u16) -> bool
-    ensures { λ r. ⌜ r ≡ passes pen kind z old ⌝ }
+// Whether a pixel passes at a place. The depth memory is read only where the depth is tested.
+fn is_passed(pen: Pen, kind: Kind, at: usize, z: u16, zm: &[u16]) -> bool
+    requires { ⌜ at < length (now zm) ⌝ }
+    ensures { λ r. ⌜ r ≡ passes pen kind z (getD (now (zm .entry)) at 0) ⌝ }
 {
-    !(pen.depth & is_deep(kind)) | (z < old)
+    if pen.depth & is_deep(kind) {
+        return z < zm[at];
+    }
+    true
 }
 
 // The passed number I, stored at a place.
@@ -108,7 +112,7 @@ pub(crate) fn put_at(
     requires { ⌜ (at < length (now im)) × (at < length (now zm)) × (n ≤ 65535) ⌝ }
     ensures { λ r. ⌜ (picture (now (im .exit)) (now (zm .exit)) r ≡ stepAt pen kind at i z (picture (now (im .entry)) (now (zm .entry)) n)) × (r ≤ n + 1) ⌝ }
 {
-    if is_passed(pen, kind, z, zm[at]) {
+    if is_passed(pen, kind, at, z, zm) {
         store_i(pen, at, i, im);
         store_z(pen, kind, at, z, zm);
         return n + 1;

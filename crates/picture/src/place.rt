@@ -48,7 +48,7 @@ pub(crate) fn is_inside(frame: Frame, x: u16, y: u16, ni: usize, nz: usize) -> b
 }
 
 // The place of pixel (x, y).
-pub(crate) fn place(frame: Frame, x: u16, y: u16) -> usize
+pub fn place(frame: Frame, x: u16, y: u16) -> usize
     ensures { λ r. ⌜ (r ≡ placeOf frame x y) × (r ≤ 4294967295) ⌝ }
 {
     (y as usize) * (frame.line as usize) + (x as usize)

@@ -2,20 +2,13 @@
 use mathlib.Core.Path.{sym, ap₂, _∙_}
 use native.Mathlib.Nat.{le-refl}
 use native.Mathlib.Omega.{arith}
-use Prim.Native.Nat.{_+_}
+use Prim.Native.Nat.{ℕ, _+_}
 use mathlib.Core.List.{List}
-use Prim.Native.Nat.{ℕ}
 use Rattle.picture.specs.Picture.{picture}
 use Rattle.picture.proofs.Fold.{step-pass, step-fail}
 use borrow.Author.Needs.{needs}
 use Rattle.picture.proofs.pixel.put_at.Statement.{statement}
 use Rattle.picture.proofs.pixel.put_at.Tie as tie
-
-mul-is-passed : tie.Need-mul-is-passed
-mul-is-passed c = search needs
-
-slice-read-is-passed : tie.Need-slice-read-is-passed
-slice-read-is-passed c = search needs
 
 is-passed-requires : tie.Need-is-passed-requires
 is-passed-requires c κs = search needs
@@ -45,6 +38,9 @@ returns c =
       le-refl _,
     )
 
+same-length-3 : tie.Need-same-length-3
+same-length-3 c = search needs
+
 returns-2 : tie.Need-returns-2
 returns-2 c =
     let a = c .before .before .before .before .before .args in (
@@ -56,8 +52,6 @@ pub put-at-spec : {M : Type 1} → statement M
 put-at-spec =
     tie.close
     (tie.spec
-    mul-is-passed
-    slice-read-is-passed
     is-passed-requires
     store-i-requires
     store-z-requires
@@ -65,4 +59,5 @@ put-at-spec =
     same-length
     same-length-2
     returns
+    same-length-3
     returns-2)
