@@ -4,3 +4,4 @@ pub mod Spans
 pub mod Cells
 pub mod Offers
 pub mod Rows
+pub mod Settled
