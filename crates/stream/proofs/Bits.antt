@@ -9,8 +9,9 @@ use native.Mathlib.Numerals.{add-one}
 use lib.ListN.{length, getD, take, drop, length-append, drop-of-length-le}
 use lib.Seq.{drop-cons}
 use lib.Arith.{mod-mul, digits-lt, digits-div}
-use borrow.Author.Tests.{lt-ltb, le-ltb, ltb-true}
+use borrow.Author.Tests.{lt-ltb, le-ltb, ltb-true, ltb-false}
 use lib.Dec.{ltb}
+use lib.Bits.{bitOr, or-lt, or-add-and, and-le-l, and-le-r}
 use lib.Pow.{pow-add, pow-pos, shr-shr}
 use Rattle.stream.specs.Format.{bits, number, fit}
 
@@ -75,19 +76,39 @@ unfolding fit
 fits-test none = refl
 fits-test (more h f) = rw (lt-ltb _ _ h) (fits-test f)
 
--- the test, from a place on: it ends at a number that does not fit, goes on past one that does, and holds past the last
-module _ (k : ℕ) (ns : List ℕ) (i : ℕ) where
-  pub fit-large : i < length ns → 2 ^ k ≤ getD ns i 0 → fit k (drop i ns) ≡ false
-  unfolding fit
-  fit-large h g = rw (drop-cons ns i 0 h, le-ltb _ _ g)
+-- bits are set together as they are apart
+or-ge : (a b : ℕ) → (a ≤ bitOr a b) × (b ≤ bitOr a b)
+or-ge a b = (omega (arith, or-add-and a b, and-le-r a b), omega (arith, or-add-and a b, and-le-l a b))
 
-  pub fit-past : i < length ns → getD ns i 0 < 2 ^ k → fit k (drop (i + 1) ns) ≡ fit k (drop i ns)
-  unfolding fit
-  fit-past h g = rw (add-one, drop-cons ns i 0 h, lt-ltb _ _ g)
+or-below : (k a b : ℕ) → ltb (bitOr a b) (2 ^ k) ≡ ltb a (2 ^ k) && ltb b (2 ^ k)
+or-below k a b = go (ltb a (2 ^ k)) (ltb b (2 ^ k)) refl refl
+  where
+    go : (p q : Bool) → ltb a (2 ^ k) ≡ p → ltb b (2 ^ k) ≡ q → ltb (bitOr a b) (2 ^ k) ≡ p && q
+    go true true e f = lt-ltb (bitOr a b) (2 ^ k) (or-lt k a b (ltb-true a (2 ^ k) e) (ltb-true b (2 ^ k) f))
+    go true false e f = le-ltb (bitOr a b) (2 ^ k) (omega (arith, ltb-false b (2 ^ k) f, or-ge a b .1))
+    go false q e f = le-ltb (bitOr a b) (2 ^ k) (omega (arith, ltb-false a (2 ^ k) e, or-ge a b .0))
 
-  pub fit-end : length ns ≤ i → fit k (drop i ns) ≡ true
+-- the test from a place on, beside the bits set before it
+module _ (k : ℕ) (ns : List ℕ) where
+  pub fit-past : (i set : ℕ) → i < length ns → ltb set (2 ^ k) && fit k (drop i ns) ≡ ltb (bitOr set (getD ns i 0)) (2 ^ k) && fit k (drop (i + 1) ns)
   unfolding fit
-  fit-end h = rw (drop-of-length-le ns h)
+  fit-past i set h =
+      rw (add-one, drop-cons ns i 0 h, or-below) (go (ltb set (2 ^ k)) (ltb (getD ns i 0) (2 ^ k)) (fit k (drop (suc i) ns)))
+    where
+      go : (p q r : Bool) → p && (q && r) ≡ p && q && r
+      go true q r = refl
+      go false q r = refl
+
+  pub fit-end : (i set : ℕ) → length ns ≤ i → ltb set (2 ^ k) ≡ ltb set (2 ^ k) && fit k (drop i ns)
+  unfolding fit
+  fit-end i set h = rw (drop-of-length-le ns h) (go (ltb set (2 ^ k)))
+    where
+      go : (p : Bool) → p ≡ p && true
+      go true = refl
+      go false = refl
+
+  pub fit-start : fit k ns ≡ ltb 0 (2 ^ k) && fit k (drop 0 ns)
+  fit-start = sym (ap (λ (b : Bool). b && fit k ns) (lt-ltb 0 (2 ^ k) (pow-pos k)))
 
 pub fits-append : {k : ℕ} {ms ns : List ℕ} → Fits k ms → Fits k ns → Fits k (ms ++ ns)
 fits-append none g = g

@@ -10,18 +10,17 @@ use crate::Coded;
 use crate::word::low_byte;
 use crate::word::seam;
 
-// Whether each word has at most 20 bits.
+// Whether each word has at most 20 bits: no bit above the twentieth is set in any. (No early end: so the loop takes many words at once.)
 fn all_fit(words: &[u32]) -> bool
     ensures { λ r. ⌜ r ≡ fit 20 (now (words .entry)) ⌝ }
 {
+    let mut set: u32 = 0;
     let mut i = 0;
     while i < words.len() {
-        if words[i] >= 1048576 {
-            return false;
-        }
+        set |= words[i];
         i += 1;
     }
-    true
+    set < 1048576
 }
 
 // The bytes of two words, stored at place k.
