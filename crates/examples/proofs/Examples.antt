@@ -145,8 +145,8 @@ pub examples : Claim
 unfolding table checked badLength badTail walk through larger smaller xLeads sideAt xAt yAt numberAt every agree inSquare among covered covers closed inside plusOf minusOf
 examples =
     lines _ _ _ refl also lines _ _ _ refl
-    also numbered 3 0 10 _ refl also numbered 2 5 0 _ refl
+    also numbered _ _ _ _ refl also numbered _ _ _ _ refl
     also small _ _ _ _ refl refl also small _ _ _ _ refl refl also small _ _ _ _ refl refl also small _ _ _ _ refl refl
-    also transparent 32768 3 3 refl
+    also transparent _ _ _ refl
     also held 0 refl also held 3 refl also held 5 refl also given-11 4 refl
     also done
