@@ -76,10 +76,15 @@ pub(crate) fn begin(t: Corners, d: usize, g: Slopes, e: Edges, p: u16, q: u16, r
     n * g.f
 }
 
-// What one pixel to the right adds to a scaled sum, modulo 2^64.
-fn pace_of(t: Corners, d: usize, f: usize, p: u16, q: u16, r: u16) -> usize
-    requires { ⌜ (Turned t) × (d ≡ areaOf t) × (2 * d ≤ 65536) × (f * (2 * d) ≤ 281474976710656 + 2 * d) ⌝ }
-    ensures { λ g. ⌜ Paces t f p q r g ⌝ }
+// What one pixel to the right adds to half a sum, and takes from it.
+struct Change {
+    rise: usize,
+    fall: usize,
+}
+
+// The change of the corner numbers p, q, r.
+fn change_of(t: Corners, p: u16, q: u16, r: u16) -> Change
+    ensures { λ k. ⌜ (k .rise ≡ p * t .b .y + q * t .c .y + r * t .a .y) × (k .fall ≡ p * t .c .y + q * t .a .y + r * t .b .y) ⌝ }
 {
     let ay = t.a.y as usize;
     let by = t.b.y as usize;
@@ -89,6 +94,17 @@ fn pace_of(t: Corners, d: usize, f: usize, p: u16, q: u16, r: u16) -> usize
     let r = r as usize;
     let rise = times(p, by) + times(q, cy) + times(r, ay);
     let fall = times(p, cy) + times(q, ay) + times(r, by);
+    Change { rise, fall }
+}
+
+// What one pixel to the right adds to a scaled sum, modulo 2^64.
+fn pace_of(t: Corners, d: usize, f: usize, p: u16, q: u16, r: u16) -> usize
+    requires { ⌜ (Turned t) × (d ≡ areaOf t) × (2 * d ≤ 65536) × (f * (2 * d) ≤ 281474976710656 + 2 * d) ⌝ }
+    ensures { λ g. ⌜ Paces t f p q r g ⌝ }
+{
+    let c = change_of(t, p, q, r);
+    let rise = c.rise;
+    let fall = c.fall;
     if fall <= rise {
         return least(rise - fall, 65535 * d) * (2 * f);
     }
@@ -100,14 +116,9 @@ fn drift_of(t: Corners, d: usize, p: u16, q: u16, r: u16) -> usize
     requires { ⌜ (Turned t) × (d ≡ areaOf t) × (d ≤ 2147483648) ⌝ }
     ensures { λ g. ⌜ Drifts t p q r g ⌝ }
 {
-    let ay = t.a.y as usize;
-    let by = t.b.y as usize;
-    let cy = t.c.y as usize;
-    let p = p as usize;
-    let q = q as usize;
-    let r = r as usize;
-    let rise = times(p, by) + times(q, cy) + times(r, ay);
-    let fall = times(p, cy) + times(q, ay) + times(r, by);
+    let c = change_of(t, p, q, r);
+    let rise = c.rise;
+    let fall = c.fall;
     if fall <= rise {
         return fixed(2 * least(rise - fall, 65535 * d), 2 * d) + 1;
     }

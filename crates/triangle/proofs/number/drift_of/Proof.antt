@@ -1,48 +1,12 @@
--- `number::drift_of` meets its contract. Assumes nothing.
+-- `number::drift_of` meets its contract: a step changes the sum by twice the difference of rise and fall. Assumes nothing.
 use native.Mathlib.Omega.{arith}
 use Rattle.triangle.proofs.Carry.{drifts-up, drifts-down}
 use borrow.Author.Needs.{needs}
 use Rattle.triangle.proofs.number.drift_of.Statement.{statement}
 use Rattle.triangle.proofs.number.drift_of.Tie as tie
 
-cast-ay : tie.Need-cast-ay
-cast-ay c = search needs
-
-cast-by : tie.Need-cast-by
-cast-by c = search needs
-
-cast-cy : tie.Need-cast-cy
-cast-cy c = search needs
-
-times-requires : tie.Need-times-requires
-times-requires c κs = search needs
-
-times-requires-2 : tie.Need-times-requires-2
-times-requires-2 c κs = search needs
-
-add-rise : tie.Need-add-rise
-add-rise c = search needs
-
-times-requires-3 : tie.Need-times-requires-3
-times-requires-3 c κs = search needs
-
-add-rise-2 : tie.Need-add-rise-2
-add-rise-2 c = search needs
-
-times-requires-4 : tie.Need-times-requires-4
-times-requires-4 c κs = search needs
-
-times-requires-5 : tie.Need-times-requires-5
-times-requires-5 c κs = search needs
-
-add-fall : tie.Need-add-fall
-add-fall c = search needs
-
-times-requires-6 : tie.Need-times-requires-6
-times-requires-6 c κs = search needs
-
-add-fall-2 : tie.Need-add-fall-2
-add-fall-2 c = search needs
+change-of-requires : tie.Need-change-of-requires
+change-of-requires c κs = search needs
 
 mul-least : tie.Need-mul-least
 mul-least c = search needs
@@ -63,10 +27,12 @@ add-result : tie.Need-add-result
 add-result c = search needs
 
 returns : tie.Need-returns
-returns c = let s = c .before .before .before .before .before .before .before .before .before .before .before .before in
+returns c =
+    let s = c .before .before .before .before in
     let a = s .args in
-    drifts-up (a .t) (s .pre .0) (rw (s .pre .1) at (s .pre .2)) (a .p) (a .q) (a .r) (omega arith) (omega arith) (omega arith)
-    _ _ (omega (arith, c .before .before .before .before .before .before .before .before .times .ensures .0, c .before .before .before .before .before .before .before .times2 .ensures .0, c .before .before .before .before .before .before .times3 .ensures .0)) (omega (arith, c .before .before .before .before .before .times4 .ensures .0, c .before .before .before .before .times5 .ensures .0, c .before .before .before .times6 .ensures .0)) _ (c .before .before .if1 .taken) (rw (c .before .least .ensures, s .pre .1) at (c .fixed .ensures .0)) (rw (c .before .least .ensures, s .pre .1) at (c .fixed .ensures .1))
+    let k = c .before .before .before .change-of .ensures in
+    drifts-up (a .t) (s .pre .0) (rw (s .pre .1) at (s .pre .2)) (a .p) (a .q) (a .r) (omega arith) (omega arith) (omega arith) _ _ (k .0) (k .1) _ (c .before .before .if1 .taken)
+    (rw (c .before .least .ensures, s .pre .1) at (c .fixed .ensures .0)) (rw (c .before .least .ensures, s .pre .1) at (c .fixed .ensures .1))
 
 sub-least : tie.Need-sub-least
 sub-least c = search needs
@@ -90,28 +56,18 @@ wrapping-sub-usize-requires : tie.Need-wrapping-sub-usize-requires
 wrapping-sub-usize-requires c κs = search needs
 
 returns-2 : tie.Need-returns-2
-returns-2 c = let s = c .before .before .before .before .before .before .before .before .before .before .before .before .before in
+returns-2 c =
+    let s = c .before .before .before .before .before in
     let a = s .args in
-    drifts-down (a .t) (s .pre .0) (rw (s .pre .1) at (s .pre .2)) (a .p) (a .q) (a .r) (omega arith) (omega arith) (omega arith)
-    _ _ (omega (arith, c .before .before .before .before .before .before .before .before .before .times .ensures .0, c .before .before .before .before .before .before .before .before .times2 .ensures .0, c .before .before .before .before .before .before .before .times3 .ensures .0)) (omega (arith, c .before .before .before .before .before .before .times4 .ensures .0, c .before .before .before .before .before .times5 .ensures .0, c .before .before .before .before .times6 .ensures .0)) _ _ (omega (arith, c .before .before .before .if1 .left)) (c .wrapping-sub-usize .ensures) (rw (c .before .before .least2 .ensures, s .pre .1) at (c .before .fixed2 .ensures .0)) (rw (c .before .before .least2 .ensures, s .pre .1) at (c .before .fixed2 .ensures .1))
+    let k = c .before .before .before .before .change-of .ensures in
+    drifts-down (a .t) (s .pre .0) (rw (s .pre .1) at (s .pre .2)) (a .p) (a .q) (a .r) (omega arith) (omega arith) (omega arith) _ _ (k .0) (k .1) _ _ (omega (arith, c .before .before .before .if1 .left)) (c .wrapping-sub-usize .ensures)
+    (rw (c .before .before .least2 .ensures, s .pre .1) at (c .before .fixed2 .ensures .0)) (rw (c .before .before .least2 .ensures, s .pre .1) at (c .before .fixed2 .ensures .1))
 
 pub drift-of-spec : {M : Type 1} → statement M
 drift-of-spec =
     tie.close
     (tie.spec
-    cast-ay
-    cast-by
-    cast-cy
-    times-requires
-    times-requires-2
-    add-rise
-    times-requires-3
-    add-rise-2
-    times-requires-4
-    times-requires-5
-    add-fall
-    times-requires-6
-    add-fall-2
+    change-of-requires
     mul-least
     least-requires
     mul-fixed

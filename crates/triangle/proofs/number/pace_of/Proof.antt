@@ -1,4 +1,4 @@
--- `number::pace_of` meets its contract. Assumes nothing.
+-- `number::pace_of` meets its contract: a step changes the sum by twice the difference of rise and fall. Assumes nothing.
 use native.Mathlib.Omega.{arith}
 use Prim.Native.Nat.{_<_}
 use native.Mathlib.Nat.{min-le-right}
@@ -7,44 +7,8 @@ use borrow.Author.Needs.{needs}
 use Rattle.triangle.proofs.number.pace_of.Statement.{statement}
 use Rattle.triangle.proofs.number.pace_of.Tie as tie
 
-cast-ay : tie.Need-cast-ay
-cast-ay c = search needs
-
-cast-by : tie.Need-cast-by
-cast-by c = search needs
-
-cast-cy : tie.Need-cast-cy
-cast-cy c = search needs
-
-times-requires : tie.Need-times-requires
-times-requires c κs = search needs
-
-times-requires-2 : tie.Need-times-requires-2
-times-requires-2 c κs = search needs
-
-add-rise : tie.Need-add-rise
-add-rise c = search needs
-
-times-requires-3 : tie.Need-times-requires-3
-times-requires-3 c κs = search needs
-
-add-rise-2 : tie.Need-add-rise-2
-add-rise-2 c = search needs
-
-times-requires-4 : tie.Need-times-requires-4
-times-requires-4 c κs = search needs
-
-times-requires-5 : tie.Need-times-requires-5
-times-requires-5 c κs = search needs
-
-add-fall : tie.Need-add-fall
-add-fall c = search needs
-
-times-requires-6 : tie.Need-times-requires-6
-times-requires-6 c κs = search needs
-
-add-fall-2 : tie.Need-add-fall-2
-add-fall-2 c = search needs
+change-of-requires : tie.Need-change-of-requires
+change-of-requires c κs = search needs
 
 mul-least : tie.Need-mul-least
 mul-least c = search needs
@@ -53,17 +17,18 @@ least-requires : tie.Need-least-requires
 least-requires c κs = search needs
 
 mul-result : tie.Need-mul-result
-mul-result c = let s = c .before .before .before .before .before .before .before .before .before .before .before in let a = s .args in let z : 0 < a .d = omega (arith, s .pre .1, s .pre .0 .turns) in omega (arith, factor-small (a .d) (a .f) (s .pre .2) (s .pre .3) z)
+mul-result c = let s = c .before .before .before in let a = s .args in let z : 0 < a .d = omega (arith, s .pre .1, s .pre .0 .turns) in omega (arith, factor-small (a .d) (a .f) (s .pre .2) (s .pre .3) z)
 
 mul-result-2 : tie.Need-mul-result-2
-mul-result-2 c = let s = c .before .before .before .before .before .before .before .before .before .before .before in let a = s .args in let z : 0 < a .d = omega (arith, s .pre .1, s .pre .0 .turns) in omega (arith, step-fits (a .d) (a .f) (s .pre .2) (s .pre .3) (c .least .result) (rw (c .least .ensures) (min-le-right _ _)))
+mul-result-2 c = let s = c .before .before .before in let a = s .args in omega (arith, step-fits (a .d) (a .f) (s .pre .2) (s .pre .3) (c .least .result) (rw (c .least .ensures) (min-le-right _ _)))
 
 returns : tie.Need-returns
-returns c = let s = c .before .before .before .before .before .before .before .before .before .before .before in
+returns c =
+    let s = c .before .before .before in
     let a = s .args in
+    let k = c .before .before .change-of .ensures in
     rw (c .least .ensures, s .pre .1)
-    (paces-up (a .t) (s .pre .0) (a .f) (rw (s .pre .1) at (s .pre .2)) (rw (s .pre .1) at (s .pre .3)) (a .p) (a .q) (a .r) (omega arith) (omega arith) (omega arith)
-    _ _ (omega (arith, c .before .before .before .before .before .before .before .times .ensures .0, c .before .before .before .before .before .before .times2 .ensures .0, c .before .before .before .before .before .times3 .ensures .0)) (omega (arith, c .before .before .before .before .times4 .ensures .0, c .before .before .before .times5 .ensures .0, c .before .before .times6 .ensures .0)) (c .before .if1 .taken))
+    (paces-up (a .t) (s .pre .0) (a .f) (rw (s .pre .1) at (s .pre .2)) (rw (s .pre .1) at (s .pre .3)) (a .p) (a .q) (a .r) (omega arith) (omega arith) (omega arith) _ _ (k .0) (k .1) (c .before .if1 .taken))
 
 sub-least : tie.Need-sub-least
 sub-least c = search needs
@@ -75,37 +40,27 @@ least-requires-2 : tie.Need-least-requires-2
 least-requires-2 c κs = search needs
 
 mul-wrapping-sub-usize : tie.Need-mul-wrapping-sub-usize
-mul-wrapping-sub-usize c = let s = c .before .before .before .before .before .before .before .before .before .before .before in let a = s .args in let z : 0 < a .d = omega (arith, s .pre .1, s .pre .0 .turns) in omega (arith, factor-small (a .d) (a .f) (s .pre .2) (s .pre .3) z)
+mul-wrapping-sub-usize c = let s = c .before .before .before in let a = s .args in let z : 0 < a .d = omega (arith, s .pre .1, s .pre .0 .turns) in omega (arith, factor-small (a .d) (a .f) (s .pre .2) (s .pre .3) z)
 
 mul-wrapping-sub-usize-2 : tie.Need-mul-wrapping-sub-usize-2
-mul-wrapping-sub-usize-2 c = let s = c .before .before .before .before .before .before .before .before .before .before .before in let a = s .args in let z : 0 < a .d = omega (arith, s .pre .1, s .pre .0 .turns) in omega (arith, step-fits (a .d) (a .f) (s .pre .2) (s .pre .3) (c .least2 .result) (rw (c .least2 .ensures) (min-le-right _ _)))
+mul-wrapping-sub-usize-2 c = let s = c .before .before .before in let a = s .args in omega (arith, step-fits (a .d) (a .f) (s .pre .2) (s .pre .3) (c .least2 .result) (rw (c .least2 .ensures) (min-le-right _ _)))
 
 wrapping-sub-usize-requires : tie.Need-wrapping-sub-usize-requires
 wrapping-sub-usize-requires c κs = search needs
 
 returns-2 : tie.Need-returns-2
-returns-2 c = let s = c .before .before .before .before .before .before .before .before .before .before .before .before in
+returns-2 c =
+    let s = c .before .before .before .before in
     let a = s .args in
-    paces-down (a .t) (s .pre .0) (a .f) (rw (s .pre .1) at (s .pre .2)) (rw (s .pre .1) at (s .pre .3)) (a .p) (a .q) (a .r) (omega arith) (omega arith) (omega arith)
-    _ _ (omega (arith, c .before .before .before .before .before .before .before .before .times .ensures .0, c .before .before .before .before .before .before .before .times2 .ensures .0, c .before .before .before .before .before .before .times3 .ensures .0)) (omega (arith, c .before .before .before .before .before .times4 .ensures .0, c .before .before .before .before .times5 .ensures .0, c .before .before .before .times6 .ensures .0)) _ (omega (arith, c .before .before .if1 .left)) (rw (c .before .least2 .ensures, s .pre .1) at (c .wrapping-sub-usize .ensures))
+    let k = c .before .before .before .change-of .ensures in
+    paces-down (a .t) (s .pre .0) (a .f) (rw (s .pre .1) at (s .pre .2)) (rw (s .pre .1) at (s .pre .3)) (a .p) (a .q) (a .r) (omega arith) (omega arith) (omega arith) _ _ (k .0) (k .1) _
+    (omega (arith, c .before .before .if1 .left)) (rw (c .before .least2 .ensures, s .pre .1) at (c .wrapping-sub-usize .ensures))
 
 pub pace-of-spec : {M : Type 1} → statement M
 pace-of-spec =
     tie.close
     (tie.spec
-    cast-ay
-    cast-by
-    cast-cy
-    times-requires
-    times-requires-2
-    add-rise
-    times-requires-3
-    add-rise-2
-    times-requires-4
-    times-requires-5
-    add-fall
-    times-requires-6
-    add-fall-2
+    change-of-requires
     mul-least
     least-requires
     mul-result
