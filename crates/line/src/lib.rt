@@ -9,6 +9,7 @@ use picture::Pen;
 use picture::Vertex;
 
 mod dash;
+mod inside;
 mod ramp;
 mod shade;
 mod slope;
