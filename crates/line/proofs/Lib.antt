@@ -3,6 +3,7 @@ pub mod Segments
 pub mod Ramps
 pub mod Steps
 pub mod Insides
+pub mod Courses
 pub mod Walks
 pub mod Members
 pub mod Settled

@@ -10,7 +10,11 @@ ghost use Rattle.picture.specs.Draw.{spans};
 ghost use Rattle.picture.specs.Picture.{picture, drawn};
 ghost use Rattle.line.specs.Segment.{larger, xAt, yAt, isSet, dashOffers, shadeOffers};
 ghost use Rattle.line.specs.Step.{within, endsWithin, Inside, Dashed, Shaded};
+ghost use Rattle.line.specs.Course.{OnCourse};
 use crate::Style;
+use crate::course::Course;
+use crate::course::course_of;
+use crate::course::place_at;
 use crate::dash::ink_of;
 use crate::dash::is_set;
 use crate::ramp::Ramp;
@@ -18,13 +22,11 @@ use crate::ramp::next;
 use crate::ramp::number;
 use crate::ramp::start;
 use crate::slope::Slope;
-use crate::slope::pixel_of;
 use crate::slope::slope_of;
 use picture::Kind;
 use picture::Pen;
 use picture::Vertex;
 use picture::draw::put_placed;
-use picture::place::place;
 use picture::place::rows_of;
 
 // Whether a point is inside the window and the memory, with so many rows in use.
@@ -53,6 +55,7 @@ fn put_inside(
     a: Vertex,
     b: Vertex,
     s: Slope,
+    c: Course,
     k: u64,
     side: Ramp,
     i: u16,
@@ -60,12 +63,10 @@ fn put_inside(
     im: &mut [u16],
     zm: &mut [u16],
 ) -> u64
-    requires { ⌜ Dashed a b s k side × Inside pen (rowsOf (pen .frame) (length (now im)) (length (now zm))) kind a b ⌝ }
+    requires { ⌜ Dashed a b s k side × OnCourse pen a b s c × Inside pen (rowsOf (pen .frame) (length (now im)) (length (now zm))) kind a b ⌝ }
     ensures { λ r. ⌜ picture (now (im .exit)) (now (zm .exit)) r ≡ drawn pen (keep pen (rowsOf (pen .frame) (length (now (im .entry))) (length (now (zm .entry)))) (offer kind (xAt a b k) (yAt a b k) i z)) (picture (now (im .entry)) (now (zm .entry)) 0) ⌝ }
 {
-    let p = pixel_of(a, b, s, k, number(side));
-    let frame = pen.frame;
-    let at = place(frame, p.x, p.y);
+    let at = place_at(pen, c, a, b, s, k, number(side));
     put_placed(pen, kind, at, i, z, im, zm)
 }
 
@@ -79,17 +80,18 @@ fn put_dash(
     a: Vertex,
     b: Vertex,
     s: Slope,
+    c: Course,
     k: u64,
     side: Ramp,
     im: &mut [u16],
     zm: &mut [u16],
 ) -> u64
-    requires { ⌜ Dashed a b s k side × (set ≡ isSet style k) × Inside pen (rowsOf (pen .frame) (length (now im)) (length (now zm))) kind a b ⌝ }
+    requires { ⌜ Dashed a b s k side × OnCourse pen a b s c × (set ≡ isSet style k) × Inside pen (rowsOf (pen .frame) (length (now im)) (length (now zm))) kind a b ⌝ }
     ensures { λ r. ⌜ (picture (now (im .exit)) (now (zm .exit)) r ≡ drawn pen (dashOffers pen (rowsOf (pen .frame) (length (now (im .entry))) (length (now (zm .entry)))) kind ground style a b k) (picture (now (im .entry)) (now (zm .entry)) 0)) × (r ≤ 1) ⌝ }
 {
     if set | ground {
         let ink = ink_of(style, set);
-        return put_inside(pen, kind, a, b, s, k, side, ink, 0, im, zm);
+        return put_inside(pen, kind, a, b, s, c, k, side, ink, 0, im, zm);
     }
     0
 }
@@ -100,6 +102,7 @@ fn put_shade(
     a: Vertex,
     b: Vertex,
     s: Slope,
+    c: Course,
     k: u64,
     side: Ramp,
     i: Ramp,
@@ -107,7 +110,7 @@ fn put_shade(
     im: &mut [u16],
     zm: &mut [u16],
 ) -> u64
-    requires { ⌜ Shaded a b s k side i z × Inside pen (rowsOf (pen .frame) (length (now im)) (length (now zm))) Line2 a b ⌝ }
+    requires { ⌜ Shaded a b s k side i z × OnCourse pen a b s c × Inside pen (rowsOf (pen .frame) (length (now im)) (length (now zm))) Line2 a b ⌝ }
     ensures { λ r. ⌜ (picture (now (im .exit)) (now (zm .exit)) r ≡ drawn pen (shadeOffers pen (rowsOf (pen .frame) (length (now (im .entry))) (length (now (zm .entry)))) a b k) (picture (now (im .entry)) (now (zm .entry)) 0)) × (r ≤ 1) ⌝ }
 {
     put_inside(
@@ -116,6 +119,7 @@ fn put_shade(
         a,
         b,
         s,
+        c,
         k,
         side,
         number(i),
@@ -142,11 +146,12 @@ pub(crate) fn dashed(
     let s = slope_of(a, b);
     let n = s.n as u64;
     let mut side = start(s.n, 0, s.m);
+    let c = course_of(pen, a, b, s);
     let mut passed: u64 = 0;
     let mut k: u64 = 0;
     while k <= n {
         let set = is_set(style.pattern, k);
-        passed += put_dash(pen, kind, ground, style, set, a, b, s, k, side, im, zm);
+        passed += put_dash(pen, kind, ground, style, set, a, b, s, c, k, side, im, zm);
         side = next(side, 2 * n);
         k += 1;
     }
@@ -163,10 +168,11 @@ pub(crate) fn shaded(pen: Pen, a: Vertex, b: Vertex, im: &mut [u16], zm: &mut [u
     let mut side = start(s.n, 0, s.m);
     let mut i = start(s.n, a.i, b.i);
     let mut z = start(s.n, a.z, b.z);
+    let c = course_of(pen, a, b, s);
     let mut passed: u64 = 0;
     let mut k: u64 = 0;
     while k <= n {
-        passed += put_shade(pen, a, b, s, k, side, i, z, im, zm);
+        passed += put_shade(pen, a, b, s, c, k, side, i, z, im, zm);
         side = next(side, 2 * n);
         i = next(i, 2 * n);
         z = next(z, 2 * n);

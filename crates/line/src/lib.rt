@@ -8,6 +8,7 @@ use picture::Kind;
 use picture::Pen;
 use picture::Vertex;
 
+mod course;
 mod dash;
 mod inside;
 mod ramp;

@@ -11,11 +11,11 @@ use Rattle.line.proofs.inside.dashed.Statement.{statement}
 use Rattle.line.proofs.inside.dashed.Tie as tie
 
 abbrev Inv-loop : tie.InvT-loop
-Inv-loop pen kind ground style a b im₀ zm₀ s n side₀ passed₀ k₀ im zm side passed k =
+Inv-loop pen kind ground style a b im₀ zm₀ s n side₀ c passed₀ k₀ im zm side passed k =
     Walk pen (λ rows. dashOffers pen rows kind ground style a b) a b s n im₀ zm₀ im zm side passed k
 
 abbrev μ-loop : tie.MeasureT-loop
-μ-loop pen kind ground style a b im₀ zm₀ s n side₀ passed₀ k₀ im zm side passed k = n + 1 - k
+μ-loop pen kind ground style a b im₀ zm₀ s n side₀ c passed₀ k₀ im zm side passed k = n + 1 - k
 
 slope-of-requires : tie.Need-slope-of-requires Inv-loop μ-loop
 slope-of-requires c κs = search needs
@@ -26,20 +26,23 @@ cast-n c = omega (arith, c .struct-known .given)
 start-requires : tie.Need-start-requires Inv-loop μ-loop
 start-requires c κs = search needs
 
+course-of-requires : tie.Need-course-of-requires Inv-loop μ-loop
+course-of-requires c κs = search needs
+
 loop-holds : tie.Need-loop-holds Inv-loop μ-loop
-loop-holds c = walk-start (c .before .before .slope-of .ensures) refl (omega (arith, c .before .struct-known .given)) (c .start .ensures)
+loop-holds c = walk-start (c .before .before .before .slope-of .ensures) refl (omega (arith, c .before .before .struct-known .given)) (c .before .start .ensures)
 
 is-set-requires : tie.Need-is-set-requires Inv-loop μ-loop
 is-set-requires c κs = search needs
 
 -- in the loop, k is one of the steps
-within : (c : tie.In-loop Inv-loop μ-loop) → c .before .loop .k ≤ c .before .before .before .before .slope-of .result .n
+within : (c : tie.In-loop Inv-loop μ-loop) → c .before .loop .k ≤ c .before .before .before .before .before .slope-of .result .n
 within c = omega (arith, c .loop-test .taken)
 
 put-dash-requires : tie.Need-put-dash-requires Inv-loop μ-loop
 put-dash-requires c κs =
     let h = c .before .before .before .before .loop .inv in
-    (record { on = walk-on h (within (c .before .before .before)); at-side = h .at-side }, c .before .before .is-set .ensures, walk-inside h (c .before .before .before .before .before .before .before .before .before .before .pre))
+    (record { on = walk-on h (within (c .before .before .before)); at-side = h .at-side }, c .before .before .before .before .before .course-of .ensures, c .before .before .is-set .ensures, walk-inside h (c .before .before .before .before .before .before .before .before .before .before .before .pre))
 
 add-passed : tie.Need-add-passed Inv-loop μ-loop
 add-passed c = let h = c .before .before .before .before .before .before .before .before .before .loop .inv in omega (arith, h .count, h .small, within (c .before .before .before .before .before .before .before .before), c .before .before .before .before .put-dash .ensures .1)
@@ -77,6 +80,7 @@ dashed-spec =
     slope-of-requires
     cast-n
     start-requires
+    course-of-requires
     loop-holds
     is-set-requires
     put-dash-requires

@@ -25,7 +25,7 @@ returns c =
     let s = c .before .before .before .before .before .before .before .before .before .before .before in
     let a = s .args in
     put-step (a .pen) (rowsOf (a .pen .frame) (length (a .im .now)) (length (a .zm .now))) _ (a .im .now) (a .zm .now)
-    (dash-inked (a .pen) _ (a .a) (a .b) (a .s) (a .k) (pixelAt (a .a) (a .b) (a .k)) refl (a .kind) (a .ground) (a .style) (a .set) _ (s .pre .1) (c .before .before .before .before .before .before .before .before .if1 .taken) (c .before .before .before .before .before .before .before .ink-of .ensures))
+    (dash-inked (a .pen) _ (a .a) (a .b) (a .s) (a .k) (pixelAt (a .a) (a .b) (a .k)) refl (a .kind) (a .ground) (a .style) (a .set) _ (s .pre .2) (c .before .before .before .before .before .before .before .before .if1 .taken) (c .before .before .before .before .before .before .before .ink-of .ensures))
     (c .before .before .before .before .put-inside .ensures)
 
 returns-2 : tie.Need-returns-2
@@ -33,7 +33,7 @@ returns-2 c =
     let s = c .before .before .before in
     let a = s .args in
     no-step (a .pen) (a .im .now) (a .zm .now)
-    (dash-none (a .pen) (rowsOf (a .pen .frame) (length (a .im .now)) (length (a .zm .now))) (a .a) (a .b) (a .k) (a .kind) (a .ground) (a .style) (a .set) (s .pre .1) (c .if1 .left))
+    (dash-none (a .pen) (rowsOf (a .pen .frame) (length (a .im .now)) (length (a .zm .now))) (a .a) (a .b) (a .k) (a .kind) (a .ground) (a .style) (a .set) (s .pre .2) (c .if1 .left))
 
 pub put-dash-spec : {M : Type 1} → statement M
 put-dash-spec =

@@ -1,10 +1,8 @@
 -- `inside::put_inside` meets its contract: the step is offered, so it is drawn at its place. Assumes nothing.
-use mathlib.Core.Path.{refl, ap, _∙_}
+use mathlib.Core.Path.{refl, _∙_}
 use native.Mathlib.Omega.{arith}
 use lib.ListN.{length}
-use Rattle.picture.specs.Place.{placeOf}
 use Rattle.picture.proofs.Offers.{keep-placed}
-use Rattle.line.specs.declared.slope.Pixel.{Pixel}
 use Rattle.line.specs.Segment.{xAt, yAt}
 use Rattle.line.specs.Step.{pixelAt}
 use Rattle.line.proofs.Steps.{side-told}
@@ -16,14 +14,11 @@ use Rattle.line.proofs.inside.put_inside.Tie as tie
 number-requires : tie.Need-number-requires
 number-requires c κs = search needs
 
-pixel-of-requires : tie.Need-pixel-of-requires
-pixel-of-requires c κs =
+place-at-requires : tie.Need-place-at-requires
+place-at-requires c κs =
     let s = c .before .before .before in
     let h = s .pre .0 in
-    (h .on, c .number .ensures ∙ side-told _ _ _ _ (h .on) (h .at-side) (omega (arith, s .good)))
-
-place-requires : tie.Need-place-requires
-place-requires c κs = search needs
+    (s .pre .1, h .on, c .number .ensures ∙ side-told _ _ _ _ (h .on) (h .at-side) (omega (arith, s .good)))
 
 put-placed-requires : tie.Need-put-placed-requires
 put-placed-requires c κs = search needs
@@ -36,20 +31,19 @@ same-length-2 c = search needs
 
 returns : tie.Need-returns
 returns c =
-    let s = c .before .before .before .before .before .before .before .before .before .before .before .before .before in
+    let s = c .before .before .before .before .before .before .before .before .before .before .before in
     let a = s .args in
     c .before .before .before .before .put-placed .ensures
     ∙ keep-placed (a .pen) (length (a .im .now)) (length (a .zm .now)) (a .kind) (xAt (a .a) (a .b) (a .k)) (yAt (a .a) (a .b) (a .k)) (a .i) (a .z) _ (a .im .now) (a .zm .now) 0 refl refl
-    (step-offered (a .pen) _ (a .kind) (a .a) (a .b) (a .s) (a .k) (pixelAt (a .a) (a .b) (a .k)) refl (s .pre .0 .on) (s .pre .1))
-    (c .before .before .before .before .before .before .before .place .ensures .0 ∙ ap (λ (p : Pixel). placeOf (a .pen .frame) (p .x) (p .y)) (c .before .before .before .before .before .before .before .before .before .pixel-of .ensures))
+    (step-offered (a .pen) _ (a .kind) (a .a) (a .b) (a .s) (a .k) (pixelAt (a .a) (a .b) (a .k)) refl (s .pre .0 .on) (s .pre .2))
+    (c .before .before .before .before .before .before .before .place-at .ensures)
 
 pub put-inside-spec : {M : Type 1} → statement M
 put-inside-spec =
     tie.close
     (tie.spec
     number-requires
-    pixel-of-requires
-    place-requires
+    place-at-requires
     put-placed-requires
     same-length
     same-length-2

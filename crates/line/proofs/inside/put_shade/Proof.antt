@@ -16,7 +16,7 @@ number-requires-2 : tie.Need-number-requires-2
 number-requires-2 c κs = search needs
 
 put-inside-requires : tie.Need-put-inside-requires
-put-inside-requires c κs = let h = c .before .before .before .before .before .before .pre in (record { on = h .0 .on; at-side = h .0 .at-side }, h .1)
+put-inside-requires c κs = let h = c .before .before .before .before .before .before .pre in (record { on = h .0 .on; at-side = h .0 .at-side }, h .1, h .2)
 
 same-length : tie.Need-same-length
 same-length c = search needs

@@ -12,11 +12,11 @@ use Rattle.line.proofs.inside.shaded.Statement.{statement}
 use Rattle.line.proofs.inside.shaded.Tie as tie
 
 abbrev Inv-loop : tie.InvT-loop
-Inv-loop pen a b im₀ zm₀ s n side₀ i₀ z₀ passed₀ k₀ im zm side i z passed k =
+Inv-loop pen a b im₀ zm₀ s n side₀ i₀ z₀ c passed₀ k₀ im zm side i z passed k =
     Walk pen (λ rows. shadeOffers pen rows a b) a b s n im₀ zm₀ im zm side passed k × RampAt (s .n) k (a .i) (b .i) i × RampAt (s .n) k (a .z) (b .z) z
 
 abbrev μ-loop : tie.MeasureT-loop
-μ-loop pen a b im₀ zm₀ s n side₀ i₀ z₀ passed₀ k₀ im zm side i z passed k = n + 1 - k
+μ-loop pen a b im₀ zm₀ s n side₀ i₀ z₀ c passed₀ k₀ im zm side i z passed k = n + 1 - k
 
 slope-of-requires : tie.Need-slope-of-requires Inv-loop μ-loop
 slope-of-requires c κs = search needs
@@ -33,18 +33,21 @@ start-requires-2 c κs = search needs
 start-requires-3 : tie.Need-start-requires-3 Inv-loop μ-loop
 start-requires-3 c κs = search needs
 
+course-of-requires : tie.Need-course-of-requires Inv-loop μ-loop
+course-of-requires c κs = search needs
+
 loop-holds : tie.Need-loop-holds Inv-loop μ-loop
 loop-holds c =
-    (walk-start (c .before .before .before .before .slope-of .ensures) refl (omega (arith, c .before .before .before .struct-known .given)) (c .before .before .start .ensures), c .before .start2 .ensures, c .start3 .ensures)
+    (walk-start (c .before .before .before .before .before .slope-of .ensures) refl (omega (arith, c .before .before .before .before .struct-known .given)) (c .before .before .before .start .ensures), c .before .before .start2 .ensures, c .before .start3 .ensures)
 
 -- in the loop, k is one of the steps
-within : (c : tie.In-loop Inv-loop μ-loop) → c .before .loop .k ≤ c .before .before .before .before .before .before .slope-of .result .n
+within : (c : tie.In-loop Inv-loop μ-loop) → c .before .loop .k ≤ c .before .before .before .before .before .before .before .slope-of .result .n
 within c = omega (arith, c .loop-test .taken)
 
 put-shade-requires : tie.Need-put-shade-requires Inv-loop μ-loop
 put-shade-requires c κs =
     let h = c .before .before .before .loop .inv in
-    (record { on = walk-on (h .0) (within (c .before .before)); at-side = h .0 .at-side; at-i = h .1; at-z = h .2 }, walk-inside (h .0) (c .before .before .before .before .before .before .before .before .before .before .before .pre))
+    (record { on = walk-on (h .0) (within (c .before .before)); at-side = h .0 .at-side; at-i = h .1; at-z = h .2 }, c .before .before .before .before .course-of .ensures, walk-inside (h .0) (c .before .before .before .before .before .before .before .before .before .before .before .before .pre))
 
 add-passed : tie.Need-add-passed Inv-loop μ-loop
 add-passed c = let h = c .before .before .before .before .before .before .before .before .loop .inv .0 in omega (arith, h .count, h .small, within (c .before .before .before .before .before .before .before), c .before .before .before .before .put-shade .ensures .1)
@@ -99,6 +102,7 @@ shaded-spec =
     start-requires
     start-requires-2
     start-requires-3
+    course-of-requires
     loop-holds
     put-shade-requires
     add-passed
