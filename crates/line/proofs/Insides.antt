@@ -1,6 +1,6 @@
 -- Why no step of a segment asks whether it is offered, where both ends are inside the window and the memory: these are boxes, and no step
 -- leaves the box between the two ends. Assumes nothing.
-use mathlib.Core.Path.{_≡_, refl, sym, ap, _∙_}
+use mathlib.Core.Path.{_≡_, refl, sym, _∙_}
 use mathlib.Core.Bool.{Bool, true, false, cond, not, _&&_, _||_}
 use Prim.Native.Nat.{ℕ, _+_, _-_, _≤_, min, max}
 use native.Mathlib.Omega.{arith}
@@ -10,14 +10,14 @@ use Rattle.picture.specs.declared.Pen.{Pen}
 use Rattle.picture.specs.declared.Vertex.{Vertex}
 use Rattle.picture.specs.declared.Kind.{Kind}
 use Rattle.picture.specs.declared.Kind.the-variants.{Line2}
-use Rattle.picture.specs.Offer.{offer, offered, isMasked, inWindow, shows}
+use Rattle.picture.specs.Offer.{offer, offered, isMasked}
 use Rattle.picture.proofs.Places.{both}
 use Rattle.picture.proofs.Offers.{box-offered}
 use Rattle.picture.proofs.Rows.{shows-all}
 use Rattle.line.specs.declared.slope.Slope.{Slope}
 use Rattle.line.specs.declared.slope.Pixel.{Pixel}
-use Rattle.line.specs.Segment.{distance, towards, larger, smaller, xLeads, sideAt, xAt, yAt}
-use Rattle.line.specs.Step.{slopeOf, pixelAt, OnStep, within, endsWithin, Inside}
+use Rattle.line.specs.Segment.{distance, towards, sideAt}
+use Rattle.line.specs.Step.{pixelAt, OnStep, within, endsWithin, Inside}
 use Rattle.line.proofs.Steps.{Lands, lands-level, lands-steep}
 
 -- ---- the box between two points
