@@ -2,6 +2,8 @@ pub mod Rounding
 pub mod Segments
 pub mod Ramps
 pub mod Steps
+pub mod Insides
+pub mod Courses
 pub mod Walks
 pub mod Members
 pub mod Settled

@@ -1,6 +1,6 @@
 -- One step of a segment: where it is by the slope that was computed, and that it counts one pixel at most. Assumes nothing.
-use mathlib.Core.Path.{_≡_, sym, ap, _∙_}
-use mathlib.Core.Bool.{Bool, true, false, cond}
+use mathlib.Core.Path.{_≡_, refl, sym, ap, _∙_}
+use mathlib.Core.Bool.{Bool, true, false, cond, _||_, true≢false}
 use mathlib.Core.List.{List, [], _∷_}
 use Prim.Native.Nat.{ℕ, _+_, _%_, _≤_, _<_, zero-le}
 use native.Mathlib.Nat.{le-refl}
@@ -91,19 +91,30 @@ module _ (pen : Pen) (rows : ℕ) (a b : Vertex) (s : Slope) (k : ℕ) (p : Pixe
       rw (e, ← n, ei ∙ told (s .n) k (a .i) (b .i) i (h .step) (u .i) (v .i), ez ∙ told (s .n) k (a .z) (b .z) z (h .step) (u .z) (v .z))
 
   module _ (kind : Kind) (ground : Bool) (style : Style) where
-    pub dash-set : isSet style k ≡ true → keep pen rows (offer kind (p .x) (p .y) (style .foreground) 0) ≡ dashOffers pen rows kind ground style a b k
+    -- by the colour that was chosen, where there is one
+    pub dash-inked : (set : Bool) (ink : ℕ) → set ≡ isSet style k → set || ground ≡ true → ink ≡ cond set (style .foreground) (style .background)
+        → keep pen rows (offer kind (p .x) (p .y) ink 0) ≡ dashOffers pen rows kind ground style a b k
     unfolding dashOffers
-    dash-set t = rw (e, t)
+    dash-inked set ink t g i = rw (e, i, ← t) (go set ground g)
+      where
+        put : ℕ → List Offer
+        put colour = keep pen rows (offer kind (xAt a b k) (yAt a b k) colour 0)
 
-    pub dash-ground : isSet style k ≡ false → ground ≡ true
-        → keep pen rows (offer kind (p .x) (p .y) (style .background) 0) ≡ dashOffers pen rows kind ground style a b k
-    unfolding dashOffers
-    dash-ground t g = rw (e, t, g)
+        go : (set ground : Bool) → set || ground ≡ true
+            → put (cond set (style .foreground) (style .background)) ≡ cond set (put (style .foreground)) (cond ground (put (style .background)) [])
+        go true ground h = refl
+        go false true h = refl
+        go false false h = absurd (true≢false (sym h))
 
-pub dash-none : (pen : Pen) (rows : ℕ) (a b : Vertex) (k : ℕ) (kind : Kind) (ground : Bool) (style : Style) → isSet style k ≡ false → ground ≡ false
-    → dashOffers pen rows kind ground style a b k ≡ []
+pub dash-none : (pen : Pen) (rows : ℕ) (a b : Vertex) (k : ℕ) (kind : Kind) (ground : Bool) (style : Style) (set : Bool) → set ≡ isSet style k
+    → set || ground ≡ false → dashOffers pen rows kind ground style a b k ≡ []
 unfolding dashOffers
-dash-none pen rows a b k kind ground style t g = rw (t, g)
+dash-none pen rows a b k kind ground style set t g = rw (← t) (go _ _ set ground g)
+  where
+    go : (p q : List Offer) (set ground : Bool) → set || ground ≡ false → cond set p (cond ground q []) ≡ []
+    go p q true ground h = absurd (true≢false h)
+    go p q false true h = absurd (true≢false h)
+    go p q false false h = refl
 
 -- ---- one pixel at most passes
 

@@ -7,6 +7,7 @@ use native.Mathlib.Omega.{arith}
 use lib.ListN.{length}
 use Rattle.picture.specs.declared.Pen.{Pen}
 use Rattle.picture.specs.declared.Vertex.{Vertex}
+use Rattle.picture.specs.declared.Kind.{Kind}
 use Rattle.picture.specs.Place.{rowsOf}
 use Rattle.picture.specs.Offer.{Offer}
 use Rattle.picture.specs.Draw.{spans}
@@ -18,7 +19,7 @@ use Rattle.line.specs.declared.ramp.Ramp.{Ramp}
 use Rattle.line.specs.declared.slope.Slope.{Slope}
 use Rattle.line.specs.Segment.{larger, stepOffers, segmentOffers}
 use Rattle.line.specs.Ramp.{nextOf, Narrow, RampAt}
-use Rattle.line.specs.Step.{slopeOf, OnStep}
+use Rattle.line.specs.Step.{slopeOf, OnStep, Inside}
 use Rattle.line.proofs.Ramps.{ramp-next}
 
 -- the rows in use of the memories that a loop starts with
@@ -51,6 +52,10 @@ module _ {pen : Pen} {f : ℕ → ℕ → List Offer} {a b : Vertex} {s : Slope}
   module _ {i z : List ℕ} {side : Ramp} {passed k : ℕ} (w : Walk pen f a b s n i₀ z₀ i z side passed k) where
     pub walk-on : k ≤ n → OnStep a b s k
     walk-on h = record { slope = w .slope; step = rw (w .last) at h }
+
+    -- a loop keeps the rows in use
+    pub walk-inside : {kind : Kind} → Inside pen (rows pen i₀ z₀) kind a b → Inside pen (rows pen i z) kind a b
+    walk-inside h = rw (reached-i (w .so-far), reached-z (w .so-far)) h
 
     -- a ramp that stands at k grows beyond no word in the next step
     pub ready : {first second : ℕ} {g : Ramp} → k ≤ n → RampAt (s .n) k first second g → (2 * n ≤ 131070) × Narrow (2 * n) 65535 g

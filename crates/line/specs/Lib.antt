@@ -1,3 +1,4 @@
 pub mod Segment
 pub mod Ramp
 pub mod Step
+pub mod Course

@@ -1,5 +1,6 @@
 // Lines with a pattern: the modes 0 and 1.
 ghost use mathlib.Core.Path.{_≡_};
+ghost use mathlib.Core.Bool.{cond};
 ghost use Prim.Native.Nat.{_+_, _≤_};
 ghost use lib.ListN.{length};
 ghost use Rattle.picture.specs.Place.{rowsOf};
@@ -9,6 +10,8 @@ ghost use Rattle.picture.specs.Picture.{picture, drawn};
 ghost use Rattle.line.specs.Segment.{larger, patternAt, isSet, dashOffers};
 ghost use Rattle.line.specs.Step.{Dashed};
 use crate::Style;
+use crate::inside;
+use crate::inside::has_ends;
 use crate::ramp::Ramp;
 use crate::ramp::next;
 use crate::ramp::number;
@@ -22,13 +25,24 @@ use picture::Vertex;
 use picture::draw::put;
 
 // Whether the pattern bit of step k is set.
-fn is_set(pattern: u32, k: u64) -> bool
+pub(crate) fn is_set(pattern: u32, k: u64) -> bool
     ensures { λ r. ⌜ r ≡ hasBit pattern (patternAt k) ⌝ }
 {
     (pattern >> (31 - k % 32)) & 1 == 1
 }
 
-// Draws step k, whose pattern bit is set or not.
+// The colour of a step whose pattern bit is set or not.
+pub(crate) fn ink_of(style: Style, set: bool) -> u16
+    ensures { λ r. ⌜ r ≡ cond set (style .foreground) (style .background) ⌝ }
+{
+    if set {
+        style.foreground
+    } else {
+        style.background
+    }
+}
+
+// Draws step k, whose pattern bit is set or not. The colour is chosen first, so that the drawing stands here once.
 fn put_dash(
     pen: Pen,
     kind: Kind,
@@ -46,19 +60,16 @@ fn put_dash(
     requires { ⌜ Dashed a b s k side × (set ≡ isSet style k) ⌝ }
     ensures { λ r. ⌜ (picture (now (im .exit)) (now (zm .exit)) r ≡ drawn pen (dashOffers pen (rowsOf (pen .frame) (length (now (im .entry))) (length (now (zm .entry)))) kind ground style a b k) (picture (now (im .entry)) (now (zm .entry)) 0)) × (r ≤ 1) ⌝ }
 {
-    if set {
+    if set | ground {
         let p = pixel_of(a, b, s, k, number(side));
-        return put(pen, kind, p.x, p.y, style.foreground, 0, im, zm);
-    }
-    if ground {
-        let p = pixel_of(a, b, s, k, number(side));
-        return put(pen, kind, p.x, p.y, style.background, 0, im, zm);
+        let ink = ink_of(style, set);
+        return put(pen, kind, p.x, p.y, ink, 0, im, zm);
     }
     0
 }
 
-// Draws a segment in foreground where the pattern says so, and elsewhere in background if there is a ground.
-pub(crate) fn dashed(
+// Draws a segment wherever it is: in foreground where the pattern says so, and elsewhere in background if there is a ground.
+fn dashed_anywhere(
     pen: Pen,
     kind: Kind,
     ground: bool,
@@ -82,4 +93,24 @@ pub(crate) fn dashed(
         k += 1;
     }
     passed
+}
+
+// Draws a segment in foreground where the pattern says so, and elsewhere in background if there is a ground.
+pub(crate) fn dashed(
+    pen: Pen,
+    kind: Kind,
+    ground: bool,
+    style: Style,
+    a: Vertex,
+    b: Vertex,
+    im: &mut [u16],
+    zm: &mut [u16],
+) -> u64
+    ensures { λ r. ⌜ picture (now (im .exit)) (now (zm .exit)) r ≡ drawn pen (spans (dashOffers pen (rowsOf (pen .frame) (length (now (im .entry))) (length (now (zm .entry)))) kind ground style a b) (larger a b + 1)) (picture (now (im .entry)) (now (zm .entry)) 0) ⌝ }
+{
+    let whole = has_ends(pen, a, b, im.len(), zm.len()) & (pen.transparency == 65535);
+    if whole {
+        return inside::dashed(pen, kind, ground, style, a, b, im, zm);
+    }
+    dashed_anywhere(pen, kind, ground, style, a, b, im, zm)
 }

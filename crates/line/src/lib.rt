@@ -8,7 +8,9 @@ use picture::Kind;
 use picture::Pen;
 use picture::Vertex;
 
+mod course;
 mod dash;
+mod inside;
 mod ramp;
 mod shade;
 mod slope;

@@ -7,6 +7,8 @@ ghost use Rattle.picture.specs.Draw.{spans};
 ghost use Rattle.picture.specs.Picture.{picture, drawn};
 ghost use Rattle.line.specs.Segment.{larger, shadeOffers};
 ghost use Rattle.line.specs.Step.{Shaded};
+use crate::inside;
+use crate::inside::has_ends;
 use crate::ramp::Ramp;
 use crate::ramp::next;
 use crate::ramp::number;
@@ -39,8 +41,8 @@ fn put_shade(
     put(pen, Kind::Line2, p.x, p.y, number(i), number(z), im, zm)
 }
 
-// Draws a segment whose two numbers go evenly from those of a to those of b.
-pub(crate) fn shaded(pen: Pen, a: Vertex, b: Vertex, im: &mut [u16], zm: &mut [u16]) -> u64
+// Draws a segment, wherever it is, whose two numbers go evenly from those of a to those of b.
+fn shaded_anywhere(pen: Pen, a: Vertex, b: Vertex, im: &mut [u16], zm: &mut [u16]) -> u64
     ensures { λ r. ⌜ picture (now (im .exit)) (now (zm .exit)) r ≡ drawn pen (spans (shadeOffers pen (rowsOf (pen .frame) (length (now (im .entry))) (length (now (zm .entry)))) a b) (larger a b + 1)) (picture (now (im .entry)) (now (zm .entry)) 0) ⌝ }
 {
     let s = slope_of(a, b);
@@ -58,4 +60,14 @@ pub(crate) fn shaded(pen: Pen, a: Vertex, b: Vertex, im: &mut [u16], zm: &mut [u
         k += 1;
     }
     passed
+}
+
+// Draws a segment whose two numbers go evenly from those of a to those of b.
+pub(crate) fn shaded(pen: Pen, a: Vertex, b: Vertex, im: &mut [u16], zm: &mut [u16]) -> u64
+    ensures { λ r. ⌜ picture (now (im .exit)) (now (zm .exit)) r ≡ drawn pen (spans (shadeOffers pen (rowsOf (pen .frame) (length (now (im .entry))) (length (now (zm .entry)))) a b) (larger a b + 1)) (picture (now (im .entry)) (now (zm .entry)) 0) ⌝ }
+{
+    if has_ends(pen, a, b, im.len(), zm.len()) {
+        return inside::shaded(pen, a, b, im, zm);
+    }
+    shaded_anywhere(pen, a, b, im, zm)
 }

@@ -1,0 +1,182 @@
+// Segments whose ends are both inside the window and the memory: so is the whole of them, and no step asks about it. These loops stand apart
+// from those that ask, so that what a step does is little enough to be compiled into its loop.
+ghost use mathlib.Core.Path.{_≡_};
+ghost use Prim.Native.Nat.{_+_, _≤_};
+ghost use lib.ListN.{length};
+ghost use Rattle.picture.specs.declared.Kind.the-variants.{Line2};
+ghost use Rattle.picture.specs.Place.{rowsOf};
+ghost use Rattle.picture.specs.Offer.{offer, keep};
+ghost use Rattle.picture.specs.Draw.{spans};
+ghost use Rattle.picture.specs.Picture.{picture, drawn};
+ghost use Rattle.line.specs.Segment.{larger, xAt, yAt, isSet, dashOffers, shadeOffers};
+ghost use Rattle.line.specs.Step.{within, endsWithin, Inside, Dashed, Shaded};
+ghost use Rattle.line.specs.Course.{OnCourse};
+use crate::Style;
+use crate::course::Course;
+use crate::course::course_of;
+use crate::course::place_at;
+use crate::dash::ink_of;
+use crate::dash::is_set;
+use crate::ramp::Ramp;
+use crate::ramp::next;
+use crate::ramp::number;
+use crate::ramp::start;
+use crate::slope::Slope;
+use crate::slope::slope_of;
+use picture::Kind;
+use picture::Pen;
+use picture::Vertex;
+use picture::draw::put_placed;
+use picture::place::rows_of;
+
+// Whether a point is inside the window and the memory, with so many rows in use.
+fn is_within(pen: Pen, v: Vertex, rows: usize) -> bool
+    ensures { λ r. ⌜ r ≡ within pen rows v ⌝ }
+{
+    let frame = pen.frame;
+    let window = (pen.left <= v.x) & (v.x <= pen.right) & (pen.bottom <= v.y) & (v.y <= pen.top);
+    let memory = (v.x < frame.line) & ((v.y as usize) < rows);
+    window & memory
+}
+
+// Whether both ends of a segment are, with memories of these lengths.
+pub(crate) fn has_ends(pen: Pen, a: Vertex, b: Vertex, ni: usize, nz: usize) -> bool
+    ensures { λ r. ⌜ r ≡ endsWithin pen (rowsOf (pen .frame) ni nz) a b ⌝ }
+{
+    let frame = pen.frame;
+    let rows = rows_of(frame, ni, nz);
+    is_within(pen, a, rows) & is_within(pen, b, rows)
+}
+
+// Draws step k, which is offered since the ends are.
+fn put_inside(
+    pen: Pen,
+    kind: Kind,
+    a: Vertex,
+    b: Vertex,
+    s: Slope,
+    c: Course,
+    k: u64,
+    side: Ramp,
+    i: u16,
+    z: u16,
+    im: &mut [u16],
+    zm: &mut [u16],
+) -> u64
+    requires { ⌜ Dashed a b s k side × OnCourse pen a b s c × Inside pen (rowsOf (pen .frame) (length (now im)) (length (now zm))) kind a b ⌝ }
+    ensures { λ r. ⌜ picture (now (im .exit)) (now (zm .exit)) r ≡ drawn pen (keep pen (rowsOf (pen .frame) (length (now (im .entry))) (length (now (zm .entry)))) (offer kind (xAt a b k) (yAt a b k) i z)) (picture (now (im .entry)) (now (zm .entry)) 0) ⌝ }
+{
+    let at = place_at(pen, c, a, b, s, k, number(side));
+    put_placed(pen, kind, at, i, z, im, zm)
+}
+
+// Draws step k of a line with a pattern, whose pattern bit is set or not.
+fn put_dash(
+    pen: Pen,
+    kind: Kind,
+    ground: bool,
+    style: Style,
+    set: bool,
+    a: Vertex,
+    b: Vertex,
+    s: Slope,
+    c: Course,
+    k: u64,
+    side: Ramp,
+    im: &mut [u16],
+    zm: &mut [u16],
+) -> u64
+    requires { ⌜ Dashed a b s k side × OnCourse pen a b s c × (set ≡ isSet style k) × Inside pen (rowsOf (pen .frame) (length (now im)) (length (now zm))) kind a b ⌝ }
+    ensures { λ r. ⌜ (picture (now (im .exit)) (now (zm .exit)) r ≡ drawn pen (dashOffers pen (rowsOf (pen .frame) (length (now (im .entry))) (length (now (zm .entry)))) kind ground style a b k) (picture (now (im .entry)) (now (zm .entry)) 0)) × (r ≤ 1) ⌝ }
+{
+    if set | ground {
+        let ink = ink_of(style, set);
+        return put_inside(pen, kind, a, b, s, c, k, side, ink, 0, im, zm);
+    }
+    0
+}
+
+// Draws step k of a line with numbers.
+fn put_shade(
+    pen: Pen,
+    a: Vertex,
+    b: Vertex,
+    s: Slope,
+    c: Course,
+    k: u64,
+    side: Ramp,
+    i: Ramp,
+    z: Ramp,
+    im: &mut [u16],
+    zm: &mut [u16],
+) -> u64
+    requires { ⌜ Shaded a b s k side i z × OnCourse pen a b s c × Inside pen (rowsOf (pen .frame) (length (now im)) (length (now zm))) Line2 a b ⌝ }
+    ensures { λ r. ⌜ (picture (now (im .exit)) (now (zm .exit)) r ≡ drawn pen (shadeOffers pen (rowsOf (pen .frame) (length (now (im .entry))) (length (now (zm .entry)))) a b k) (picture (now (im .entry)) (now (zm .entry)) 0)) × (r ≤ 1) ⌝ }
+{
+    put_inside(
+        pen,
+        Kind::Line2,
+        a,
+        b,
+        s,
+        c,
+        k,
+        side,
+        number(i),
+        number(z),
+        im,
+        zm,
+    )
+}
+
+// `dash::dashed` for a segment of which every pixel is offered.
+pub(crate) fn dashed(
+    pen: Pen,
+    kind: Kind,
+    ground: bool,
+    style: Style,
+    a: Vertex,
+    b: Vertex,
+    im: &mut [u16],
+    zm: &mut [u16],
+) -> u64
+    requires { ⌜ Inside pen (rowsOf (pen .frame) (length (now im)) (length (now zm))) kind a b ⌝ }
+    ensures { λ r. ⌜ picture (now (im .exit)) (now (zm .exit)) r ≡ drawn pen (spans (dashOffers pen (rowsOf (pen .frame) (length (now (im .entry))) (length (now (zm .entry)))) kind ground style a b) (larger a b + 1)) (picture (now (im .entry)) (now (zm .entry)) 0) ⌝ }
+{
+    let s = slope_of(a, b);
+    let n = s.n as u64;
+    let mut side = start(s.n, 0, s.m);
+    let c = course_of(pen, a, b, s);
+    let mut passed: u64 = 0;
+    let mut k: u64 = 0;
+    while k <= n {
+        let set = is_set(style.pattern, k);
+        passed += put_dash(pen, kind, ground, style, set, a, b, s, c, k, side, im, zm);
+        side = next(side, 2 * n);
+        k += 1;
+    }
+    passed
+}
+
+// `shade::shaded` for a segment of which every pixel is offered.
+pub(crate) fn shaded(pen: Pen, a: Vertex, b: Vertex, im: &mut [u16], zm: &mut [u16]) -> u64
+    requires { ⌜ Inside pen (rowsOf (pen .frame) (length (now im)) (length (now zm))) Line2 a b ⌝ }
+    ensures { λ r. ⌜ picture (now (im .exit)) (now (zm .exit)) r ≡ drawn pen (spans (shadeOffers pen (rowsOf (pen .frame) (length (now (im .entry))) (length (now (zm .entry)))) a b) (larger a b + 1)) (picture (now (im .entry)) (now (zm .entry)) 0) ⌝ }
+{
+    let s = slope_of(a, b);
+    let n = s.n as u64;
+    let mut side = start(s.n, 0, s.m);
+    let mut i = start(s.n, a.i, b.i);
+    let mut z = start(s.n, a.z, b.z);
+    let c = course_of(pen, a, b, s);
+    let mut passed: u64 = 0;
+    let mut k: u64 = 0;
+    while k <= n {
+        passed += put_shade(pen, a, b, s, c, k, side, i, z, im, zm);
+        side = next(side, 2 * n);
+        i = next(i, 2 * n);
+        z = next(z, 2 * n);
+        k += 1;
+    }
+    passed
+}
