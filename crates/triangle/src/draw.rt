@@ -7,14 +7,17 @@ ghost use Rattle.picture.specs.Draw.{carriedTo};
 ghost use Rattle.picture.specs.Place.{rowsOf};
 ghost use Rattle.picture.specs.Picture.{picture, drawn};
 ghost use Rattle.triangle.specs.Edge.{covers, areaOf};
-ghost use Rattle.triangle.specs.Loops.{endOf, startOf, Turned, Spanned, Carries, Shaded, InRows};
+ghost use Rattle.triangle.specs.Loops.{edgesAt, endOf, startOf, Turned, Spanned, Carries, Shaded, InRows};
 ghost use Rattle.triangle.specs.Offers.{offersAt, rowOffers, turnedOffers, triangleOffers};
 use crate::Corners;
+use crate::Edges;
 use crate::Shades;
 use crate::Slopes;
 use crate::Span;
 use crate::cover::edge_at;
+use crate::cover::edges_along;
 use crate::cover::edges_at;
+use crate::cover::edges_up;
 use crate::number::begin;
 use crate::number::number;
 use crate::number::slopes_of;
@@ -59,23 +62,24 @@ fn flat_row(pen: Pen, t: Corners, s: Span, y: u16, im: &mut [u16], zm: &mut [u16
     )
 }
 
-// A row of a Gouraud triangle, its numbers carried.
+// A row of a Gouraud triangle whose edges at column 0 are e, its numbers carried.
 fn carried_row(
     pen: Pen,
     t: Corners,
     d: usize,
     g: Slopes,
+    e: Edges,
     s: Span,
     y: u16,
     im: &mut [u16],
     zm: &mut [u16],
 ) -> u64
-    requires { ⌜ (Turned t) × (d ≡ areaOf t) × (Carries t g) × (Spanned pen t y s) × (InRows pen y) × (s .lo < s .hi) ⌝ }
+    requires { ⌜ (Turned t) × (d ≡ areaOf t) × (Carries t g) × (Spanned pen t y s) × (InRows pen y) × (s .lo < s .hi) × (e ≡ edgesAt t 0 y) ⌝ }
     ensures { λ r. ⌜ picture (now (im .exit)) (now (zm .exit)) r ≡ drawn pen (rowOffers pen (rowsOf (pen .frame) (length (now (im .entry))) (length (now (zm .entry)))) false t y) (picture (now (im .entry)) (now (zm .entry)) 0) ⌝ }
 {
-    let e = edges_at(t, s.lo, y as usize);
-    let ki = begin(t, d, g, e, t.a.i, t.b.i, t.c.i);
-    let kz = begin(t, d, g, e, t.a.z, t.b.z, t.c.z);
+    let f = edges_along(t, e, s.lo, y as usize);
+    let ki = begin(t, d, g, f, t.a.i, t.b.i, t.c.i);
+    let kz = begin(t, d, g, f, t.a.z, t.b.z, t.c.z);
     let i = Carried {
         first: ki as u64,
         add: g.i as u64,
@@ -139,25 +143,26 @@ fn divided_row(
     n
 }
 
-// A row of a triangle.
+// A row of a triangle, whose edges at column 0 are e.
 fn draw_row(
     pen: Pen,
     constant: bool,
     t: Corners,
     d: usize,
     shades: Shades,
+    e: Edges,
     y: u16,
     im: &mut [u16],
     zm: &mut [u16],
 ) -> u64
-    requires { ⌜ (Turned t) × (d ≡ areaOf t) × (d ≤ 12884508675) × (Shaded constant t shades) × (InRows pen y) ⌝ }
+    requires { ⌜ (Turned t) × (d ≡ areaOf t) × (d ≤ 12884508675) × (Shaded constant t shades) × (InRows pen y) × (e ≡ edgesAt t 0 y) ⌝ }
     ensures { λ r. ⌜ picture (now (im .exit)) (now (zm .exit)) r ≡ drawn pen (rowOffers pen (rowsOf (pen .frame) (length (now (im .entry))) (length (now (zm .entry)))) constant t y) (picture (now (im .entry)) (now (zm .entry)) 0) ⌝ }
 {
-    let s = spanned(pen, t, y);
+    let s = spanned(pen, t, e, y);
     if s.lo < s.hi {
         match shades {
             Shades::Flat => return flat_row(pen, t, s, y, im, zm),
-            Shades::Carried(g) => return carried_row(pen, t, d, g, s, y, im, zm),
+            Shades::Carried(g) => return carried_row(pen, t, d, g, e, s, y, im, zm),
             Shades::Divided => return divided_row(pen, t, d, s, y, im, zm),
         }
     }
@@ -213,9 +218,11 @@ fn draw_turned(
     let top = end_of(rows, pen.top, t.a.y, t.c.y, t.b.y);
     let shades = shades_of(constant, t, d);
     let mut y = least(start_of(pen.bottom, t.a.y, t.c.y, t.b.y), top);
+    let mut e = edges_at(t, 0, y);
     let mut n: u64 = 0;
     while y < top {
-        n += draw_row(pen, constant, t, d, shades, y as u16, im, zm);
+        n += draw_row(pen, constant, t, d, shades, e, y as u16, im, zm);
+        e = edges_up(t, e, y);
         y += 1;
     }
     n

@@ -17,15 +17,15 @@ use borrow.Author.Needs.{needs}
 use Rattle.triangle.proofs.draw.carried_row.Statement.{statement}
 use Rattle.triangle.proofs.draw.carried_row.Tie as tie
 
-edges-at-requires : tie.Need-edges-at-requires
-edges-at-requires c κs = search needs
+edges-along-requires : tie.Need-edges-along-requires
+edges-along-requires c κs = let s = c .before .before in (s .pre .6, omega (arith, s .pre .3 .wide, s .pre .5, s .good .0), omega arith)
 
 begin-requires : tie.Need-begin-requires
 begin-requires c κs =
     let s = c .before .before .before in
     let a = s .args in
     let k = s .pre .3 in (
-      ready-of (a .t) (a .s .lo) (a .y) (a .d) _ (s .pre .0) (s .pre .1) (omega (arith, s .pre .1, s .pre .2 .fits)) (k .columns (a .s .lo) (omega arith) (s .pre .5) .2) (c .edges-at .ensures),
+      ready-of (a .t) (a .s .lo) (a .y) (a .d) _ (s .pre .0) (s .pre .1) (omega (arith, s .pre .1, s .pre .2 .fits)) (k .columns (a .s .lo) (omega arith) (s .pre .5) .2) (c .edges-along .ensures),
       omega (arith, s .pre .1, s .pre .2 .fits),
       (λ e. let g = s .pre .2 .short e in (omega (arith, s .pre .1, g .few), rw (s .pre .1) (g .most))),
     )
@@ -35,7 +35,7 @@ begin-requires-2 c κs =
     let s = c .before .before .before .before in
     let a = s .args in
     let k = s .pre .3 in (
-      ready-of (a .t) (a .s .lo) (a .y) (a .d) _ (s .pre .0) (s .pre .1) (omega (arith, s .pre .1, s .pre .2 .fits)) (k .columns (a .s .lo) (omega arith) (s .pre .5) .2) (c .before .edges-at .ensures),
+      ready-of (a .t) (a .s .lo) (a .y) (a .d) _ (s .pre .0) (s .pre .1) (omega (arith, s .pre .1, s .pre .2 .fits)) (k .columns (a .s .lo) (omega arith) (s .pre .5) .2) (c .before .edges-along .ensures),
       omega (arith, s .pre .1, s .pre .2 .fits),
       (λ e. let g = s .pre .2 .short e in (omega (arith, s .pre .1, g .few), rw (s .pre .1) (g .most))),
     )
@@ -63,7 +63,7 @@ returns c =
     let t = a .t in
     let k = s .pre .3 in
     let g = s .pre .2 in
-    let e = c .before .before .before .before .before .before .before .before .before .before .before .edges-at .ensures in
+    let e = c .before .before .before .before .before .before .before .before .before .before .before .edges-along .ensures in
     let cov : (j : ℕ) → a .s .lo + j < a .s .hi → covers t (a .s .lo + j) (a .y) ≡ true = λ j l. k .columns (a .s .lo + j) (omega arith) l .2 in
     c .before .before .before .before .span .ensures
     ∙ ap (λ (os : List Offer). drawn (a .pen) os (picture (a .im .now) (a .zm .now) 0))
@@ -83,7 +83,7 @@ pub carried-row-spec : {M : Type 1} → statement M
 carried-row-spec =
     tie.close
     (tie.spec
-    edges-at-requires
+    edges-along-requires
     begin-requires
     begin-requires-2
     cast-span

@@ -33,7 +33,7 @@ carried-row-requires : tie.Need-carried-row-requires
 carried-row-requires c κs =
     let s = c .before .before .before .before .before .before .before .before .before .before in
     let w = rw (c .before .before .before .shades .given .1) at (s .pre .3) in
-    (s .pre .0, s .pre .1, w .1, c .before .before .before .before .before .before .before .spanned .ensures, s .pre .4, c .before .before .before .before .before .if1 .taken)
+    (s .pre .0, s .pre .1, w .1, c .before .before .before .before .before .before .before .spanned .ensures, s .pre .4, c .before .before .before .before .before .if1 .taken, s .pre .5)
 
 same-length-3 : tie.Need-same-length-3
 same-length-3 c = search needs
