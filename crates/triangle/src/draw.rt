@@ -93,6 +93,7 @@ fn way_of(
     }
 }
 
+// The kind of a triangle's pixels.
 fn kind_of(constant: bool) -> Kind
     ensures { λ r. ⌜ r ≡ kindOf constant ⌝ }
 {
@@ -102,7 +103,8 @@ fn kind_of(constant: bool) -> Kind
     Kind::Gouraud
 }
 
-// A row drawn as one run. There is one call of `span` in all, so that it is compiled in place and the numbers stay in registers.
+// A row drawn as one run. Constant and Gouraud rows share this one call of `span`: called once, it is compiled in place, and the numbers
+// stay in registers.
 fn run_row(
     pen: Pen,
     constant: bool,
