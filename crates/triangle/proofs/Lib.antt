@@ -1,4 +1,5 @@
 pub mod Plane
+pub mod Steps
 pub mod Covers
 pub mod Carry
 pub mod Rows

@@ -4,14 +4,19 @@ use mathlib.Core.Path.{_≡_}
 use mathlib.Core.Bool.{Bool, true, false}
 use Rattle.picture.specs.declared.Vertex.{Vertex}
 use Rattle.picture.specs.declared.Pen.{Pen}
+use Rattle.picture.specs.Draw.{carriedTo}
 use Rattle.triangle.specs.declared.Corners.{Corners}
 use Rattle.triangle.specs.declared.Edges.{Edges}
 use Rattle.triangle.specs.declared.Span.{Span}
 use Rattle.triangle.specs.declared.Slopes.{Slopes}
 use Rattle.triangle.specs.declared.Shades.{Shades}
 use Rattle.triangle.specs.declared.Shades.the-variants.{Flat, Carried, Divided}
+use Rattle.triangle.specs.declared.Run.{Run}
+use Rattle.triangle.specs.declared.Way.{Way}
+use Rattle.triangle.specs.declared.Way.the-variants.{Along, Each}
 use Rattle.triangle.specs.Edge.{plusOf, minusOf, edgeAt, closed, covers, amount, areaOf}
 use Rattle.triangle.specs.Number.{massOf, shade}
+use Rattle.triangle.specs.Offers.{pixelAt}
 
 -- the three edges at a pixel
 abbrev pub edgesAt : Corners → ℕ → ℕ → Edges
@@ -109,6 +114,15 @@ abbrev pub Shaded : Bool → Corners → Shades → Type 0
 Shaded constant t Flat = constant ≡ true
 Shaded constant t (Carried g) = (constant ≡ false) × Carries t g
 Shaded constant t Divided = constant ≡ false
+
+-- the run's numbers are those of the row's covered pixels
+pub record Told (constant : Bool) (t : Corners) (y : ℕ) (s : Span) (r : Run) : Type 0 where
+  pub so : (j : ℕ) → s .lo + j < s .hi → (carriedTo (r .i) j ≡ pixelAt constant t (s .lo + j) y .i) × (carriedTo (r .z) j ≡ pixelAt constant t (s .lo + j) y .z)
+
+-- a way of drawing a row that serves it
+abbrev pub Serves : Bool → Corners → ℕ → Span → Way → Type 0
+Serves constant t y s (Along r) = Told constant t y s r
+Serves constant t y s Each = constant ≡ false
 
 -- a row of the window
 pub record InRows (pen : Pen) (y : ℕ) : Type 0 where

@@ -1,6 +1,6 @@
 // The edges of a triangle at a pixel.
 ghost use mathlib.Core.Path.{_≡_};
-ghost use Prim.Native.Nat.{_*_, _≤_};
+ghost use Prim.Native.Nat.{_+_, _*_, _≤_};
 ghost use Rattle.triangle.specs.Edge.{edgeAt, closed};
 ghost use Rattle.triangle.specs.Loops.{edgesAt};
 use crate::Corners;
@@ -42,6 +42,50 @@ pub(crate) fn edges_at(t: Corners, x: usize, y: usize) -> Edges
     let ab = edge_at(a, b, x, y);
     let bc = edge_at(b, c, x, y);
     let ca = edge_at(c, a, x, y);
+    Edges { ab, bc, ca }
+}
+
+// The edge from a to b one row up, from the edge e at column 0 of row y.
+fn edge_up(a: Vertex, b: Vertex, e: Edge, y: usize) -> Edge
+    requires { ⌜ (e ≡ edgeAt a b 0 y) × (y ≤ 65535) ⌝ }
+    ensures { λ r. ⌜ r ≡ edgeAt a b 0 (y + 1) ⌝ }
+{
+    Edge {
+        plus: e.plus + (b.x as usize),
+        minus: e.minus + (a.x as usize),
+    }
+}
+
+// The three edges one row up, from those at column 0 of row y.
+pub(crate) fn edges_up(t: Corners, e: Edges, y: usize) -> Edges
+    requires { ⌜ (e ≡ edgesAt t 0 y) × (y ≤ 65535) ⌝ }
+    ensures { λ r. ⌜ r ≡ edgesAt t 0 (y + 1) ⌝ }
+{
+    let ab = edge_up(t.a, t.b, e.ab, y);
+    let bc = edge_up(t.b, t.c, e.bc, y);
+    let ca = edge_up(t.c, t.a, e.ca, y);
+    Edges { ab, bc, ca }
+}
+
+// The edge from a to b at the pixel (x, y), from the edge e at column 0 of its row.
+fn edge_along(a: Vertex, b: Vertex, e: Edge, x: usize, y: usize) -> Edge
+    requires { ⌜ (e ≡ edgeAt a b 0 y) × (x ≤ 65535) × (y ≤ 65535) ⌝ }
+    ensures { λ r. ⌜ r ≡ edgeAt a b x y ⌝ }
+{
+    Edge {
+        plus: e.plus + times(a.y as usize, x),
+        minus: e.minus + times(b.y as usize, x),
+    }
+}
+
+// The three edges at the pixel (x, y), from those at column 0 of its row.
+pub(crate) fn edges_along(t: Corners, e: Edges, x: usize, y: usize) -> Edges
+    requires { ⌜ (e ≡ edgesAt t 0 y) × (x ≤ 65535) × (y ≤ 65535) ⌝ }
+    ensures { λ r. ⌜ r ≡ edgesAt t x y ⌝ }
+{
+    let ab = edge_along(t.a, t.b, e.ab, x, y);
+    let bc = edge_along(t.b, t.c, e.bc, x, y);
+    let ca = edge_along(t.c, t.a, e.ca, x, y);
     Edges { ab, bc, ca }
 }
 

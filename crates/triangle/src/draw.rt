@@ -7,14 +7,19 @@ ghost use Rattle.picture.specs.Draw.{carriedTo};
 ghost use Rattle.picture.specs.Place.{rowsOf};
 ghost use Rattle.picture.specs.Picture.{picture, drawn};
 ghost use Rattle.triangle.specs.Edge.{covers, areaOf};
-ghost use Rattle.triangle.specs.Loops.{endOf, startOf, Turned, Spanned, Carries, Shaded, InRows};
-ghost use Rattle.triangle.specs.Offers.{offersAt, rowOffers, turnedOffers, triangleOffers};
+ghost use Rattle.triangle.specs.Loops.{edgesAt, endOf, startOf, Turned, Spanned, Carries, Shaded, Told, Serves, InRows};
+ghost use Rattle.triangle.specs.Offers.{kindOf, offersAt, rowOffers, turnedOffers, triangleOffers};
 use crate::Corners;
+use crate::Edges;
+use crate::Run;
 use crate::Shades;
 use crate::Slopes;
 use crate::Span;
+use crate::Way;
 use crate::cover::edge_at;
+use crate::cover::edges_along;
 use crate::cover::edges_at;
+use crate::cover::edges_up;
 use crate::number::begin;
 use crate::number::number;
 use crate::number::slopes_of;
@@ -39,43 +44,23 @@ fn steady(v: u16) -> Carried
     }
 }
 
-// A row of a constant triangle.
-fn flat_row(pen: Pen, t: Corners, s: Span, y: u16, im: &mut [u16], zm: &mut [u16]) -> u64
-    requires { ⌜ (Spanned pen t y s) × (InRows pen y) × (s .lo < s .hi) ⌝ }
-    ensures { λ r. ⌜ picture (now (im .exit)) (now (zm .exit)) r ≡ drawn pen (rowOffers pen (rowsOf (pen .frame) (length (now (im .entry))) (length (now (zm .entry)))) true t y) (picture (now (im .entry)) (now (zm .entry)) 0) ⌝ }
+// A row's numbers in a constant triangle.
+fn flat_run(t: Corners, s: Span, y: u16) -> Run
+    ensures { λ r. ⌜ Told true t y s r ⌝ }
 {
     let i = steady(t.last.i);
     let z = steady(t.last.z);
-    span(
-        pen,
-        Kind::Constant,
-        s.lo as u16,
-        s.hi as u16,
-        y,
-        i,
-        z,
-        im,
-        zm,
-    )
+    Run { i, z }
 }
 
-// A row of a Gouraud triangle, its numbers carried.
-fn carried_row(
-    pen: Pen,
-    t: Corners,
-    d: usize,
-    g: Slopes,
-    s: Span,
-    y: u16,
-    im: &mut [u16],
-    zm: &mut [u16],
-) -> u64
-    requires { ⌜ (Turned t) × (d ≡ areaOf t) × (Carries t g) × (Spanned pen t y s) × (InRows pen y) × (s .lo < s .hi) ⌝ }
-    ensures { λ r. ⌜ picture (now (im .exit)) (now (zm .exit)) r ≡ drawn pen (rowOffers pen (rowsOf (pen .frame) (length (now (im .entry))) (length (now (zm .entry)))) false t y) (picture (now (im .entry)) (now (zm .entry)) 0) ⌝ }
+// A row's numbers in a Gouraud triangle, carried; the edges at column 0 are e.
+fn carried_run(pen: Pen, t: Corners, d: usize, g: Slopes, e: Edges, s: Span, y: u16) -> Run
+    requires { ⌜ (Turned t) × (d ≡ areaOf t) × (Carries t g) × (Spanned pen t y s) × (s .lo < s .hi) × (e ≡ edgesAt t 0 y) ⌝ }
+    ensures { λ r. ⌜ Told false t y s r ⌝ }
 {
-    let e = edges_at(t, s.lo, y as usize);
-    let ki = begin(t, d, g, e, t.a.i, t.b.i, t.c.i);
-    let kz = begin(t, d, g, e, t.a.z, t.b.z, t.c.z);
+    let f = edges_along(t, e, s.lo, y as usize);
+    let ki = begin(t, d, g, f, t.a.i, t.b.i, t.c.i);
+    let kz = begin(t, d, g, f, t.a.z, t.b.z, t.c.z);
     let i = Carried {
         first: ki as u64,
         add: g.i as u64,
@@ -84,17 +69,57 @@ fn carried_row(
         first: kz as u64,
         add: g.z as u64,
     };
-    span(
-        pen,
-        Kind::Gouraud,
-        s.lo as u16,
-        s.hi as u16,
-        y,
-        i,
-        z,
-        im,
-        zm,
-    )
+    Run { i, z }
+}
+
+// How a row with covered pixels is drawn.
+fn way_of(
+    pen: Pen,
+    constant: bool,
+    t: Corners,
+    d: usize,
+    shades: Shades,
+    e: Edges,
+    s: Span,
+    y: u16,
+) -> Way
+    requires { ⌜ (Turned t) × (d ≡ areaOf t) × (Shaded constant t shades) × (Spanned pen t y s) × (s .lo < s .hi) × (e ≡ edgesAt t 0 y) ⌝ }
+    ensures { λ r. ⌜ Serves constant t y s r ⌝ }
+{
+    match shades {
+        Shades::Flat => return Way::Along(flat_run(t, s, y)),
+        Shades::Carried(g) => return Way::Along(carried_run(pen, t, d, g, e, s, y)),
+        Shades::Divided => return Way::Each,
+    }
+}
+
+// The kind of a triangle's pixels.
+fn kind_of(constant: bool) -> Kind
+    ensures { λ r. ⌜ r ≡ kindOf constant ⌝ }
+{
+    if constant {
+        return Kind::Constant;
+    }
+    Kind::Gouraud
+}
+
+// A row drawn as one run. Constant and Gouraud rows share this one call of `span`: called once, it is compiled in place, and the numbers
+// stay in registers.
+fn run_row(
+    pen: Pen,
+    constant: bool,
+    t: Corners,
+    s: Span,
+    r: Run,
+    y: u16,
+    im: &mut [u16],
+    zm: &mut [u16],
+) -> u64
+    requires { ⌜ (Spanned pen t y s) × (InRows pen y) × (s .lo < s .hi) × (Told constant t y s r) ⌝ }
+    ensures { λ n. ⌜ picture (now (im .exit)) (now (zm .exit)) n ≡ drawn pen (rowOffers pen (rowsOf (pen .frame) (length (now (im .entry))) (length (now (zm .entry)))) constant t y) (picture (now (im .entry)) (now (zm .entry)) 0) ⌝ }
+{
+    let kind = kind_of(constant);
+    span(pen, kind, s.lo as u16, s.hi as u16, y, r.i, r.z, im, zm)
 }
 
 // One covered pixel of a Gouraud triangle.
@@ -139,26 +164,27 @@ fn divided_row(
     n
 }
 
-// A row of a triangle.
+// A row of a triangle, whose edges at column 0 are e.
 fn draw_row(
     pen: Pen,
     constant: bool,
     t: Corners,
     d: usize,
     shades: Shades,
+    e: Edges,
     y: u16,
     im: &mut [u16],
     zm: &mut [u16],
 ) -> u64
-    requires { ⌜ (Turned t) × (d ≡ areaOf t) × (d ≤ 12884508675) × (Shaded constant t shades) × (InRows pen y) ⌝ }
+    requires { ⌜ (Turned t) × (d ≡ areaOf t) × (d ≤ 12884508675) × (Shaded constant t shades) × (InRows pen y) × (e ≡ edgesAt t 0 y) ⌝ }
     ensures { λ r. ⌜ picture (now (im .exit)) (now (zm .exit)) r ≡ drawn pen (rowOffers pen (rowsOf (pen .frame) (length (now (im .entry))) (length (now (zm .entry)))) constant t y) (picture (now (im .entry)) (now (zm .entry)) 0) ⌝ }
 {
-    let s = spanned(pen, t, y);
+    let s = spanned(pen, t, e, y);
     if s.lo < s.hi {
-        match shades {
-            Shades::Flat => return flat_row(pen, t, s, y, im, zm),
-            Shades::Carried(g) => return carried_row(pen, t, d, g, s, y, im, zm),
-            Shades::Divided => return divided_row(pen, t, d, s, y, im, zm),
+        let way = way_of(pen, constant, t, d, shades, e, s, y);
+        match way {
+            Way::Along(r) => return run_row(pen, constant, t, s, r, y, im, zm),
+            Way::Each => return divided_row(pen, t, d, s, y, im, zm),
         }
     }
     0
@@ -213,9 +239,11 @@ fn draw_turned(
     let top = end_of(rows, pen.top, t.a.y, t.c.y, t.b.y);
     let shades = shades_of(constant, t, d);
     let mut y = least(start_of(pen.bottom, t.a.y, t.c.y, t.b.y), top);
+    let mut e = edges_at(t, 0, y);
     let mut n: u64 = 0;
     while y < top {
-        n += draw_row(pen, constant, t, d, shades, y as u16, im, zm);
+        n += draw_row(pen, constant, t, d, shades, e, y as u16, im, zm);
+        e = edges_up(t, e, y);
         y += 1;
     }
     n

@@ -5,6 +5,7 @@ pub mod draw;
 mod number;
 mod row;
 
+use picture::Carried;
 use picture::Vertex;
 
 // Three corners that turn anticlockwise, and the vertex that completed them.
@@ -48,4 +49,16 @@ pub enum Shades {
     Flat,
     Carried(Slopes),
     Divided,
+}
+
+// I and Z along a row's run of covered pixels.
+pub struct Run {
+    pub i: Carried,
+    pub z: Carried,
+}
+
+// How a row is drawn: as one run, or each pixel by itself.
+pub enum Way {
+    Along(Run),
+    Each,
 }

@@ -11,7 +11,6 @@ use crate::Corners;
 use crate::Edges;
 use crate::Slopes;
 use crate::cover::times;
-use picture::Carried;
 use picture::place::least;
 
 // The corner numbers p, q, r, weighted by u, v, w.

@@ -1,4 +1,4 @@
--- `draw::draw_row` meets its contract: each way of shading draws the row. Assumes nothing.
+-- `draw::draw_row` meets its contract: either way of drawing draws the row, and a row with no covered pixel has no offers. Assumes nothing.
 use native.Mathlib.Omega.{arith}
 use lib.ListN.{length}
 use Rattle.picture.specs.Place.{rowsOf}
@@ -11,11 +11,16 @@ use Rattle.triangle.proofs.draw.draw_row.Tie as tie
 spanned-requires : tie.Need-spanned-requires
 spanned-requires c κs = search needs
 
-enum-told : tie.Need-enum-told
-enum-told c = search needs
+way-of-requires : tie.Need-way-of-requires
+way-of-requires c κs = search needs
 
-flat-row-requires : tie.Need-flat-row-requires
-flat-row-requires c κs = search needs
+enum-known-way : tie.Need-enum-known-way
+enum-known-way c = search needs
+
+run-row-requires : tie.Need-run-row-requires
+run-row-requires c κs =
+    let s = c .before .before .before .before .before .before .before .before .before .before .before in
+    (c .before .before .before .before .before .before .before .before .spanned .ensures, s .pre .4, c .before .before .before .before .before .before .if1 .taken, rw (c .before .before .before .way .given .1) at (c .before .before .before .before .before .way-of .ensures))
 
 same-length : tie.Need-same-length
 same-length c = search needs
@@ -24,16 +29,13 @@ same-length-2 : tie.Need-same-length-2
 same-length-2 c = search needs
 
 returns : tie.Need-returns
-returns c = let s = c .before .before .before .before .before .before .before .before .before .before .before .before .before .before in rw (rw (c .before .before .before .before .before .before .before .enum-told .given .1) at (s .pre .3)) (c .before .before .before .before .flat-row .ensures)
+returns c = search needs
 
-enum-known-shades : tie.Need-enum-known-shades
-enum-known-shades c = search needs
+enum-told : tie.Need-enum-told
+enum-told c = search needs
 
-carried-row-requires : tie.Need-carried-row-requires
-carried-row-requires c κs =
-    let s = c .before .before .before .before .before .before .before .before .before .before in
-    let w = rw (c .before .before .before .shades .given .1) at (s .pre .3) in
-    (s .pre .0, s .pre .1, w .1, c .before .before .before .before .before .before .before .spanned .ensures, s .pre .4, c .before .before .before .before .before .if1 .taken)
+divided-row-requires : tie.Need-divided-row-requires
+divided-row-requires c κs = search needs
 
 same-length-3 : tie.Need-same-length-3
 same-length-3 c = search needs
@@ -42,47 +44,25 @@ same-length-4 : tie.Need-same-length-4
 same-length-4 c = search needs
 
 returns-2 : tie.Need-returns-2
-returns-2 c =
-    let s = c .before .before .before .before .before .before .before .before .before .before .before .before .before .before .before in
-    let w = rw (c .before .before .before .before .before .before .before .before .shades .given .1) at (s .pre .3) in
-    rw (w .0) (c .before .before .before .before .carried-row .ensures)
-
-enum-told-2 : tie.Need-enum-told-2
-enum-told-2 c = search needs
-
-divided-row-requires : tie.Need-divided-row-requires
-divided-row-requires c κs = search needs
-
-same-length-5 : tie.Need-same-length-5
-same-length-5 c = search needs
-
-same-length-6 : tie.Need-same-length-6
-same-length-6 c = search needs
+returns-2 c = rw (rw (c .before .before .before .before .before .before .before .enum-told .given .1) at (c .before .before .before .before .before .before .before .before .before .way-of .ensures)) (c .before .before .before .before .divided-row .ensures)
 
 returns-3 : tie.Need-returns-3
-returns-3 c = let s = c .before .before .before .before .before .before .before .before .before .before .before .before .before .before in rw (rw (c .before .before .before .before .before .before .before .enum-told2 .given .1) at (s .pre .3)) (c .before .before .before .before .divided-row .ensures)
-
-returns-4 : tie.Need-returns-4
-returns-4 c = let a = c .before .before .before .before .before .args in row-empty (a .pen) (rowsOf (a .pen .frame) (length (a .im .now)) (length (a .zm .now))) (a .constant) (a .t) (a .y) _ (c .before .before .spanned .ensures) (omega (arith, c .if1 .left)) (picture (a .im .now) (a .zm .now) 0)
+returns-3 c = let a = c .before .before .before .before .before .args in row-empty (a .pen) (rowsOf (a .pen .frame) (length (a .im .now)) (length (a .zm .now))) (a .constant) (a .t) (a .y) _ (c .before .before .spanned .ensures) (omega (arith, c .if1 .left)) (picture (a .im .now) (a .zm .now) 0)
 
 pub draw-row-spec : {M : Type 1} → statement M
 draw-row-spec =
     tie.close
     (tie.spec
     spanned-requires
-    enum-told
-    flat-row-requires
+    way-of-requires
+    enum-known-way
+    run-row-requires
     same-length
     same-length-2
     returns
-    enum-known-shades
-    carried-row-requires
+    enum-told
+    divided-row-requires
     same-length-3
     same-length-4
     returns-2
-    enum-told-2
-    divided-row-requires
-    same-length-5
-    same-length-6
-    returns-3
-    returns-4)
+    returns-3)
