@@ -6,4 +6,3 @@ pub mod Insides
 pub mod Courses
 pub mod Walks
 pub mod Members
-pub mod Settled

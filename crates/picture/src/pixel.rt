@@ -52,7 +52,7 @@ fn is_in_window(pen: Pen, x: u16, y: u16) -> bool
 }
 
 // Whether a pixel of a figure is offered, with memories of these lengths.
-pub fn is_offered(pen: Pen, kind: Kind, x: u16, y: u16, ni: usize, nz: usize) -> bool
+pub(crate) fn is_offered(pen: Pen, kind: Kind, x: u16, y: u16, ni: usize, nz: usize) -> bool
     ensures { λ r. ⌜ r ≡ offered pen (rowsOf (pen .frame) ni nz) (offer kind x y 0 0) ⌝ }
 {
     let frame = pen.frame;

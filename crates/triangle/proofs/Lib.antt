@@ -1,5 +1,4 @@
 pub mod Plane
-pub mod Steps
 pub mod Covers
 pub mod Carry
 pub mod Rows

@@ -170,16 +170,6 @@ unfolding minusOf
 minus-fits ax ay bx by x y h1 h2 h3 h4 h5 h6 =
     omega (arith, product-fits bx ay (omega arith) (omega arith), product-fits ax y (omega arith) (omega arith), product-fits by x (omega arith) (omega arith))
 
--- ---- one row up
-
-pub up-plus : (ax ay bx by x y : ℕ) → plusOf ax ay bx by x (y + 1) ≡ plusOf ax ay bx by x y + bx
-unfolding plusOf
-up-plus ax ay bx by x y = omega (arith, mul-add bx y 1)
-
-pub up-minus : (ax ay bx by x y : ℕ) → minusOf ax ay bx by x (y + 1) ≡ minusOf ax ay bx by x y + ax
-unfolding minusOf
-up-minus ax ay bx by x y = omega (arith, mul-add ax y 1)
-
 -- ---- the columns that an edge keeps of a row
 
 pub plus-from : (ax ay bx by x y : ℕ) → plusOf ax ay bx by x y ≡ plusOf ax ay bx by 0 y + ay * x

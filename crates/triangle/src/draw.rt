@@ -7,19 +7,16 @@ ghost use Rattle.picture.specs.Draw.{carriedTo};
 ghost use Rattle.picture.specs.Place.{rowsOf};
 ghost use Rattle.picture.specs.Picture.{picture, drawn};
 ghost use Rattle.triangle.specs.Edge.{covers, areaOf};
-ghost use Rattle.triangle.specs.Loops.{edgesAt, endOf, startOf, Turned, Spanned, Carries, Shaded, Told, Serves, InRows};
+ghost use Rattle.triangle.specs.Loops.{endOf, startOf, Turned, Spanned, Carries, Shaded, Told, Serves, InRows};
 ghost use Rattle.triangle.specs.Offers.{kindOf, offersAt, rowOffers, turnedOffers, triangleOffers};
 use crate::Corners;
-use crate::Edges;
 use crate::Run;
 use crate::Shades;
 use crate::Slopes;
 use crate::Span;
 use crate::Way;
 use crate::cover::edge_at;
-use crate::cover::edges_along;
 use crate::cover::edges_at;
-use crate::cover::edges_up;
 use crate::number::begin;
 use crate::number::number;
 use crate::number::slopes_of;
@@ -53,12 +50,12 @@ fn flat_run(t: Corners, s: Span, y: u16) -> Run
     Run { i, z }
 }
 
-// A row's numbers in a Gouraud triangle, carried; the edges at column 0 are e.
-fn carried_run(pen: Pen, t: Corners, d: usize, g: Slopes, e: Edges, s: Span, y: u16) -> Run
-    requires { ⌜ (Turned t) × (d ≡ areaOf t) × (Carries t g) × (Spanned pen t y s) × (s .lo < s .hi) × (e ≡ edgesAt t 0 y) ⌝ }
+// A row's numbers in a Gouraud triangle, carried.
+fn carried_run(pen: Pen, t: Corners, d: usize, g: Slopes, s: Span, y: u16) -> Run
+    requires { ⌜ (Turned t) × (d ≡ areaOf t) × (Carries t g) × (Spanned pen t y s) × (s .lo < s .hi) ⌝ }
     ensures { λ r. ⌜ Told false t y s r ⌝ }
 {
-    let f = edges_along(t, e, s.lo, y as usize);
+    let f = edges_at(t, s.lo, y as usize);
     let ki = begin(t, d, g, f, t.a.i, t.b.i, t.c.i);
     let kz = begin(t, d, g, f, t.a.z, t.b.z, t.c.z);
     let i = Carried {
@@ -73,22 +70,13 @@ fn carried_run(pen: Pen, t: Corners, d: usize, g: Slopes, e: Edges, s: Span, y: 
 }
 
 // How a row with covered pixels is drawn.
-fn way_of(
-    pen: Pen,
-    constant: bool,
-    t: Corners,
-    d: usize,
-    shades: Shades,
-    e: Edges,
-    s: Span,
-    y: u16,
-) -> Way
-    requires { ⌜ (Turned t) × (d ≡ areaOf t) × (Shaded constant t shades) × (Spanned pen t y s) × (s .lo < s .hi) × (e ≡ edgesAt t 0 y) ⌝ }
+fn way_of(pen: Pen, constant: bool, t: Corners, d: usize, shades: Shades, s: Span, y: u16) -> Way
+    requires { ⌜ (Turned t) × (d ≡ areaOf t) × (Shaded constant t shades) × (Spanned pen t y s) × (s .lo < s .hi) ⌝ }
     ensures { λ r. ⌜ Serves constant t y s r ⌝ }
 {
     match shades {
         Shades::Flat => return Way::Along(flat_run(t, s, y)),
-        Shades::Carried(g) => return Way::Along(carried_run(pen, t, d, g, e, s, y)),
+        Shades::Carried(g) => return Way::Along(carried_run(pen, t, d, g, s, y)),
         Shades::Divided => return Way::Each,
     }
 }
@@ -164,24 +152,23 @@ fn divided_row(
     n
 }
 
-// A row of a triangle, whose edges at column 0 are e.
+// A row of a triangle.
 fn draw_row(
     pen: Pen,
     constant: bool,
     t: Corners,
     d: usize,
     shades: Shades,
-    e: Edges,
     y: u16,
     im: &mut [u16],
     zm: &mut [u16],
 ) -> u64
-    requires { ⌜ (Turned t) × (d ≡ areaOf t) × (d ≤ 12884508675) × (Shaded constant t shades) × (InRows pen y) × (e ≡ edgesAt t 0 y) ⌝ }
+    requires { ⌜ (Turned t) × (d ≡ areaOf t) × (d ≤ 12884508675) × (Shaded constant t shades) × (InRows pen y) ⌝ }
     ensures { λ r. ⌜ picture (now (im .exit)) (now (zm .exit)) r ≡ drawn pen (rowOffers pen (rowsOf (pen .frame) (length (now (im .entry))) (length (now (zm .entry)))) constant t y) (picture (now (im .entry)) (now (zm .entry)) 0) ⌝ }
 {
-    let s = spanned(pen, t, e, y);
+    let s = spanned(pen, t, y);
     if s.lo < s.hi {
-        let way = way_of(pen, constant, t, d, shades, e, s, y);
+        let way = way_of(pen, constant, t, d, shades, s, y);
         match way {
             Way::Along(r) => return run_row(pen, constant, t, s, r, y, im, zm),
             Way::Each => return divided_row(pen, t, d, s, y, im, zm),
@@ -239,11 +226,9 @@ fn draw_turned(
     let top = end_of(rows, pen.top, t.a.y, t.c.y, t.b.y);
     let shades = shades_of(constant, t, d);
     let mut y = least(start_of(pen.bottom, t.a.y, t.c.y, t.b.y), top);
-    let mut e = edges_at(t, 0, y);
     let mut n: u64 = 0;
     while y < top {
-        n += draw_row(pen, constant, t, d, shades, e, y as u16, im, zm);
-        e = edges_up(t, e, y);
+        n += draw_row(pen, constant, t, d, shades, y as u16, im, zm);
         y += 1;
     }
     n

@@ -1,12 +1,11 @@
 // The covered columns of a row, by one division an edge.
 ghost use mathlib.Core.Path.{_≡_};
 ghost use Prim.Native.Nat.{_+_, _≤_};
-ghost use Rattle.triangle.specs.Edge.{edgeAt, closed};
-ghost use Rattle.triangle.specs.Loops.{edgesAt, short, Cuts, Spanned};
+ghost use Rattle.triangle.specs.Edge.{closed};
+ghost use Rattle.triangle.specs.Loops.{short, Cuts, Spanned};
 use crate::Corners;
-use crate::Edge;
-use crate::Edges;
 use crate::Span;
+use crate::cover::edge_at;
 use crate::cover::is_closed;
 use picture::Pen;
 use picture::Vertex;
@@ -23,11 +22,12 @@ fn short_of(a: Vertex, b: Vertex) -> usize
     1
 }
 
-// What the edge from a to b, e at column 0, keeps of the columns s of row y.
-fn cut(a: Vertex, b: Vertex, e: Edge, y: usize, s: Span) -> Span
-    requires { ⌜ (e ≡ edgeAt a b 0 y) × (y ≤ 65535) ⌝ }
+// What the edge from a to b keeps of the columns s of row y.
+fn cut(a: Vertex, b: Vertex, y: usize, s: Span) -> Span
+    requires { ⌜ y ≤ 65535 ⌝ }
     ensures { λ r. ⌜ Cuts a b y s r ⌝ }
 {
+    let e = edge_at(a, b, 0, y);
     let plus = e.plus;
     let minus = e.minus + short_of(a, b);
     let ay = a.y as usize;
@@ -55,9 +55,8 @@ fn cut(a: Vertex, b: Vertex, e: Edge, y: usize, s: Span) -> Span
     s
 }
 
-// The covered columns of row y, whose edges at column 0 are e, within the window and the memory.
-pub(crate) fn spanned(pen: Pen, t: Corners, e: Edges, y: u16) -> Span
-    requires { ⌜ e ≡ edgesAt t 0 y ⌝ }
+// The covered columns of row y within the window and the memory.
+pub(crate) fn spanned(pen: Pen, t: Corners, y: u16) -> Span
     ensures { λ r. ⌜ Spanned pen t y r ⌝ }
 {
     let a = t.a;
@@ -68,7 +67,7 @@ pub(crate) fn spanned(pen: Pen, t: Corners, e: Edges, y: u16) -> Span
         lo: pen.left as usize,
         hi,
     };
-    let p = cut(a, b, e.ab, y as usize, s);
-    let q = cut(b, c, e.bc, y as usize, p);
-    cut(c, a, e.ca, y as usize, q)
+    let p = cut(a, b, y as usize, s);
+    let q = cut(b, c, y as usize, p);
+    cut(c, a, y as usize, q)
 }

@@ -1,5 +1,5 @@
 -- `dextolumen_bench_pack` meets its contract. Assumes nothing.
-use mathlib.Core.Path.{ap, ap₂, _∙_}
+use mathlib.Core.Path.{ap, _∙_}
 use Rattle.stream.specs.Calls.{Outcome}
 use borrow.Author.Needs.{needs}
 use Rattle.bench.proofs.dextolumen_bench_pack.Statement.{statement}

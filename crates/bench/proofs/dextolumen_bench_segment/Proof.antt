@@ -1,5 +1,5 @@
 -- `dextolumen_bench_segment` meets its contract. Assumes nothing.
-use mathlib.Core.Path.{ap, ap₂, _∙_}
+use mathlib.Core.Path.{ap₂, _∙_}
 use lib.ListN.{length}
 use Rattle.picture.specs.declared.Pen.{Pen}
 use Rattle.picture.specs.Place.{rowsOf}

@@ -11,15 +11,15 @@ use Rattle.triangle.proofs.Rows.{carried-told}
 use Rattle.triangle.proofs.draw.carried_run.Statement.{statement}
 use Rattle.triangle.proofs.draw.carried_run.Tie as tie
 
-edges-along-requires : tie.Need-edges-along-requires
-edges-along-requires c κs = (c .pre .5, omega (arith, c .pre .3 .wide, c .pre .4, c .good .0), omega arith)
+edges-at-requires : tie.Need-edges-at-requires
+edges-at-requires c κs = (omega (arith, c .pre .3 .wide, c .pre .4, c .good .0), omega arith)
 
 begin-requires : tie.Need-begin-requires
 begin-requires c κs =
     let s = c .before in
     let a = s .args in
     let k = s .pre .3 in (
-      ready-of (a .t) (a .s .lo) (a .y) (a .d) _ (s .pre .0) (s .pre .1) (omega (arith, s .pre .1, s .pre .2 .fits)) (k .columns (a .s .lo) (omega arith) (s .pre .4) .2) (c .edges-along .ensures),
+      ready-of (a .t) (a .s .lo) (a .y) (a .d) _ (s .pre .0) (s .pre .1) (omega (arith, s .pre .1, s .pre .2 .fits)) (k .columns (a .s .lo) (omega arith) (s .pre .4) .2) (c .edges-at .ensures),
       omega (arith, s .pre .1, s .pre .2 .fits),
       (λ e. let g = s .pre .2 .short e in (omega (arith, s .pre .1, g .few), rw (s .pre .1) (g .most))),
     )
@@ -29,7 +29,7 @@ begin-requires-2 c κs =
     let s = c .before .before in
     let a = s .args in
     let k = s .pre .3 in (
-      ready-of (a .t) (a .s .lo) (a .y) (a .d) _ (s .pre .0) (s .pre .1) (omega (arith, s .pre .1, s .pre .2 .fits)) (k .columns (a .s .lo) (omega arith) (s .pre .4) .2) (c .before .edges-along .ensures),
+      ready-of (a .t) (a .s .lo) (a .y) (a .d) _ (s .pre .0) (s .pre .1) (omega (arith, s .pre .1, s .pre .2 .fits)) (k .columns (a .s .lo) (omega arith) (s .pre .4) .2) (c .before .edges-at .ensures),
       omega (arith, s .pre .1, s .pre .2 .fits),
       (λ e. let g = s .pre .2 .short e in (omega (arith, s .pre .1, g .few), rw (s .pre .1) (g .most))),
     )
@@ -42,7 +42,7 @@ returns c =
     let t = a .t in
     let k = s .pre .3 in
     let g = s .pre .2 in
-    let e = c .before .before .edges-along .ensures in
+    let e = c .before .before .edges-at .ensures in
     let cov : (j : ℕ) → a .s .lo + j < a .s .hi → covers t (a .s .lo + j) (a .y) ≡ true = λ j l. k .columns (a .s .lo + j) (omega arith) l .2 in
     record {
       so =
@@ -60,4 +60,4 @@ returns c =
 
 pub carried-run-spec : {M : Type 1} → statement M
 carried-run-spec =
-    tie.close (tie.spec edges-along-requires begin-requires begin-requires-2 returns)
+    tie.close (tie.spec edges-at-requires begin-requires begin-requires-2 returns)

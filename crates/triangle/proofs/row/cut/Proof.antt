@@ -1,9 +1,8 @@
 -- `row::cut` meets its contract. Assumes nothing.
 use mathlib.Core.Path.{_≡_, refl, ap}
 use native.Mathlib.Omega.{arith}
-use Prim.Native.Nat.{_+_, _-_, _≤_}
+use Prim.Native.Nat.{_+_, _-_}
 use Rattle.triangle.proofs.Covers.{cut-all, cut-first, cut-none, cut-end}
-use Rattle.triangle.proofs.Steps.{edge-low}
 use Rattle.triangle.specs.Edge.{closed}
 use Rattle.triangle.specs.Loops.{short}
 use Rattle.triangle.specs.Edge.{plusOf, minusOf}
@@ -13,21 +12,21 @@ use borrow.Author.Needs.{needs}
 use Rattle.triangle.proofs.row.cut.Statement.{statement}
 use Rattle.triangle.proofs.row.cut.Tie as tie
 
-eqs : (k : tie.After-short-of) → let a = k .before .args in
-    (a .e .plus ≡ plusOf (a .a .x) (a .a .y) (a .b .x) (a .b .y) 0 (a .y))
-    × (a .e .minus + k .short-of .result ≡ minusOf (a .a .x) (a .a .y) (a .b .x) (a .b .y) 0 (a .y) + short (closed (a .a) (a .b)))
+eqs : (k : tie.After-short-of) → let a = k .before .before .args in
+    (k .before .edge-at .result .plus ≡ plusOf (a .a .x) (a .a .y) (a .b .x) (a .b .y) 0 (a .y))
+    × (k .before .edge-at .result .minus + k .short-of .result ≡ minusOf (a .a .x) (a .a .y) (a .b .x) (a .b .y) 0 (a .y) + short (closed (a .a) (a .b)))
 eqs k =
-    let e = k .before .pre .0 in
+    let e = k .before .edge-at .ensures .0 in
     (ap (λ (e : Edge). e .plus) e, omega (arith, ap (λ (e : Edge). e .minus) e, k .short-of .ensures .0))
 
-low : (s : tie.Start) → let e = s .args .e in (e .plus ≤ 12884508675) × (e .minus ≤ 12884508675)
-low s = let a = s .args in edge-low (a .a) (a .b) (a .y) (a .e) (s .pre .0) (omega arith) (omega arith) (omega arith) (omega arith) (s .pre .1)
+edge-at-requires : tie.Need-edge-at-requires
+edge-at-requires c κs = search needs
 
 short-of-requires : tie.Need-short-of-requires
 short-of-requires c κs = search needs
 
 add-minus : tie.Need-add-minus
-add-minus c = omega (arith, low (c .before .before) .1, c .before .short-of .ensures .1)
+add-minus c = search needs
 
 cast-ay : tie.Need-cast-ay
 cast-ay c = search needs
@@ -36,7 +35,7 @@ cast-by : tie.Need-cast-by
 cast-by c = search needs
 
 returns : tie.Need-returns
-returns c = let k = c .before .before .before .before .before in let a = k .before .args in let e = eqs k in cut-all (a .a) (a .b) (a .y) (a .s) _ _ (e .0) (e .1) (omega (arith, c .before .if1 .taken)) (search needs)
+returns c = let k = c .before .before .before .before .before in let a = k .before .before .args in let e = eqs k in cut-all (a .a) (a .b) (a .y) (a .s) _ _ (e .0) (e .1) (omega (arith, c .before .if1 .taken)) (search needs)
 
 sub-first : tie.Need-sub-first
 sub-first c = search needs
@@ -51,36 +50,37 @@ div-first : tie.Need-div-first
 div-first c = search needs
 
 add-first : tie.Need-add-first
-add-first c = let k = c .before .before .before .before .before in let r = k .before .args .e in omega (arith, div-le-self (r .minus + k .short-of .result - r .plus - 1) (k .before .args .a .y - k .before .args .b .y), low (k .before) .1, k .short-of .ensures .1)
+add-first c = let k = c .before .before .before .before .before in let r = k .before .edge-at .result in omega (arith, div-le-self (r .minus + k .short-of .result - r .plus - 1) (k .before .before .args .a .y - k .before .before .args .b .y), k .before .edge-at .ensures .2, k .short-of .ensures .1)
 
 most-requires : tie.Need-most-requires
 most-requires c κs = search needs
 
 returns-2 : tie.Need-returns-2
-returns-2 c = rw (c .most .ensures) (let k = c .before .before .before .before .before .before in let a = k .before .args in let e = eqs k in cut-first (a .a) (a .b) (a .y) (a .s) _ _ (e .0) (e .1) _ (c .before .before .if1 .taken) (c .before .if2 .left) refl)
+returns-2 c = rw (c .most .ensures) (let k = c .before .before .before .before .before .before in let a = k .before .before .args in let e = eqs k in cut-first (a .a) (a .b) (a .y) (a .s) _ _ (e .0) (e .1) _ (c .before .before .if1 .taken) (c .before .if2 .left) refl)
 
 returns-3 : tie.Need-returns-3
-returns-3 c = let k = c .before .before .before .before .before in let a = k .before .args in let e = eqs k in cut-none (a .a) (a .b) (a .y) (a .s) _ _ (e .0) (e .1) (c .before .if1 .left) (c .if3 .taken)
+returns-3 c = let k = c .before .before .before .before .before in let a = k .before .before .args in let e = eqs k in cut-none (a .a) (a .b) (a .y) (a .s) _ _ (e .0) (e .1) (c .before .if1 .left) (c .if3 .taken)
 
 div-end : tie.Need-div-end
 div-end c = search needs
 
 add-end : tie.Need-add-end
-add-end c = let k = c .before .before .before .before .before .before in let r = k .before .args .e in omega (arith, div-le-self (r .plus - (r .minus + k .short-of .result)) (k .before .args .b .y - k .before .args .a .y), low (k .before) .0)
+add-end c = let k = c .before .before .before .before .before .before in let r = k .before .edge-at .result in omega (arith, div-le-self (r .plus - (r .minus + k .short-of .result)) (k .before .before .args .b .y - k .before .before .args .a .y), k .before .edge-at .ensures .1)
 
 least-requires : tie.Need-least-requires
 least-requires c κs = search needs
 
 returns-4 : tie.Need-returns-4
-returns-4 c = rw (c .least .ensures) (let k = c .before .before .before .before .before .before .before in let a = k .before .args in let e = eqs k in cut-end (a .a) (a .b) (a .y) (a .s) _ _ (e .0) (e .1) _ (c .before .if4 .taken) (c .before .before .if3 .left) refl)
+returns-4 c = rw (c .least .ensures) (let k = c .before .before .before .before .before .before .before in let a = k .before .before .args in let e = eqs k in cut-end (a .a) (a .b) (a .y) (a .s) _ _ (e .0) (e .1) _ (c .before .if4 .taken) (c .before .before .if3 .left) refl)
 
 returns-5 : tie.Need-returns-5
-returns-5 c = let k = c .before .before .before .before .before .before in let a = k .before .args in let e = eqs k in cut-all (a .a) (a .b) (a .y) (a .s) _ _ (e .0) (e .1) (c .if4 .left) (c .before .if3 .left)
+returns-5 c = let k = c .before .before .before .before .before .before in let a = k .before .before .args in let e = eqs k in cut-all (a .a) (a .b) (a .y) (a .s) _ _ (e .0) (e .1) (c .if4 .left) (c .before .if3 .left)
 
 pub cut-spec : {M : Type 1} → statement M
 cut-spec =
     tie.close
     (tie.spec
+    edge-at-requires
     short-of-requires
     add-minus
     cast-ay

@@ -1,7 +1,4 @@
 -- `row::spanned` meets its contract: three cuts of the columns of the window and the memory. Assumes nothing.
-use mathlib.Core.Path.{ap}
-use native.Mathlib.Omega.{arith}
-use Rattle.triangle.specs.declared.Edges.{Edges}
 use Rattle.triangle.proofs.Covers.{spanned-of}
 use borrow.Author.Needs.{needs}
 use Rattle.triangle.proofs.row.spanned.Statement.{statement}
@@ -23,13 +20,13 @@ cast-cut : tie.Need-cast-cut
 cast-cut c = search needs
 
 cut-requires : tie.Need-cut-requires
-cut-requires c κs = let s = c .before .before .before .before .before .before .before in (ap (λ (e : Edges). e .ab) (s .pre), omega arith)
+cut-requires c κs = search needs
 
 cut-requires-2 : tie.Need-cut-requires-2
-cut-requires-2 c κs = let s = c .before .before .before .before .before .before .before .before in (ap (λ (e : Edges). e .bc) (s .pre), omega arith)
+cut-requires-2 c κs = search needs
 
 cut-requires-3 : tie.Need-cut-requires-3
-cut-requires-3 c κs = let s = c .before .before .before .before .before .before .before .before .before in (ap (λ (e : Edges). e .ca) (s .pre), omega arith)
+cut-requires-3 c κs = search needs
 
 returns : tie.Need-returns
 returns c = let a = c .before .before .before .before .before .before .before .before .before .before .args in spanned-of (a .pen) (a .t) (a .y) _ _ _ _ (c .before .before .before .before .least .ensures) (c .before .before .cut .ensures) (c .before .cut2 .ensures) (c .cut3 .ensures)
