@@ -35,14 +35,10 @@ closing-fits : (n : ℕ) → Fits 1 (closing n)
 unfolding closing
 closing-fits n = ⊎-elim (λ e. rw (closing-same n 0 e) none) (λ e. rw (closing-same n 1 e) (more zero-bit (more zero-bit (more zero-bit (more zero-bit none))))) (parity n)
 
--- a stream's words have at most 20 bits, and what is packed is bytes
+-- a stream's words have at most 20 bits
 pub unpack-fits : (s : List ℕ) → Fits 20 (unpackOf s)
 unfolding unpackOf whole
 unpack-fits s = cut-fits 20 (length (joined 8 s) / 20) (joined-fit 8 s)
-
-pub pack-fits : (ws : List ℕ) → Fits 8 (packOf ws)
-unfolding packOf whole
-pack-fits ws = cut-fits 8 (length (joined 20 ws ++ closing (length ws)) / 8) (fits-append (joined-fit 20 ws) (closing-fits (length ws)))
 
 -- whole bytes of bits, cut and joined again
 whole-joined : (k : ℕ) {bs : List ℕ} → Fits 1 bs → length bs / k * k ≡ length bs → joined k (whole k bs) ≡ bs

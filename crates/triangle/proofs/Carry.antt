@@ -11,7 +11,7 @@ use Rattle.triangle.specs.declared.Edges.{Edges}
 use Rattle.triangle.specs.Edge.{covers, amount, areaOf}
 use Rattle.triangle.specs.Number.{massOf, mixed, shade}
 use Rattle.triangle.specs.Loops.{edgesAt, Turned, Ready, massBy, scaled, Paces, Near, Drifts, Runs}
-use Rattle.triangle.proofs.Plane.{mean-most, mixed-most, right-plus, right-minus}
+use Rattle.triangle.proofs.Plane.{mean-most, right-plus, right-minus}
 use Rattle.triangle.proofs.Covers.{covered-ready, covered-within}
 
 -- ---- bare numbers
@@ -177,10 +177,6 @@ module _ (t : Corners) (k : Turned t) (f : ℕ) (few : 2 * areaOf t ≤ 65536) (
   pub mass-at : (x y : ℕ) → covers t x y ≡ true → massBy t p q r x y ≤ 131071 * areaOf t
   mass-at x y h = mass-most _ _ _ _ p q r (ready x y h .whole) hp hq hr
 
-  pub scaled-fits : (x y : ℕ) → covers t x y ≡ true → scaled t f p q r x y < 18446744073709551616
-  unfolding scaled
-  scaled-fits x y h = sum-fits (areaOf t) f few most _ (mass-at x y h)
-
   -- the rise and the fall of a step, and what they make
   module _ (rise fall : ℕ) (er : rise ≡ p * t .b .y + q * t .c .y + r * t .a .y) (ef : fall ≡ p * t .c .y + q * t .a .y + r * t .b .y) where
     pub paces-up : fall ≤ rise → Paces t f p q r (min (rise - fall) (65535 * areaOf t) * (2 * f))
@@ -211,9 +207,6 @@ module _ (t : Corners) (k : Turned t) (f : ℕ) (few : 2 * areaOf t ≤ 65536) (
       → scaled t f p q r x y / 281474976710656 ≡ mixed (amount (edgesAt t x y .bc)) (amount (edgesAt t x y .ca)) (amount (edgesAt t x y .ab)) (areaOf t) p q r
   unfolding scaled mixed
   number least x y h = told _ (2 * areaOf t) f (omega (arith, ready x y h .some)) least most (sum-small (areaOf t) f few most _ (mass-at x y h))
-
-  pub number-fits : 281474976710656 ≤ f * (2 * areaOf t) → (x y : ℕ) → covers t x y ≡ true → scaled t f p q r x y / 281474976710656 ≤ 65535
-  number-fits least x y h = rw (number least x y h) (mixed-most _ _ _ _ p q r (ready x y h .whole) (ready x y h .some) 65535 hp hq hr)
 
 -- ---- a long sum, one pixel to the right
 

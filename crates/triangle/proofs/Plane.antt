@@ -94,11 +94,6 @@ pub turn-minus : (ax ay bx by cx cy : ℕ) → minusOf ax ay cx cy bx by ≡ plu
 unfolding plusOf minusOf
 turn-minus ax ay bx by cx cy = omega (arith, mul-comm cx ay, mul-comm cy bx)
 
-pub plus-fits : (ax ay bx by x y : ℕ) → ax ≤ 65535 → ay ≤ 65535 → bx ≤ 65535 → by ≤ 65535 → x ≤ 65535 → y ≤ 65535 → plusOf ax ay bx by x y ≤ 12884508675
-unfolding plusOf
-plus-fits ax ay bx by x y h1 h2 h3 h4 h5 h6 =
-    omega (arith, product-fits bx y (omega arith) (omega arith), product-fits ax by (omega arith) (omega arith), product-fits ay x (omega arith) (omega arith))
-
 module _ (ax ay bx by cx cy x y : ℕ)
     (turns : minusOf ax ay bx by cx cy < plusOf ax ay bx by cx cy)
     (ab : minusOf ax ay bx by x y ≤ plusOf ax ay bx by x y)
@@ -164,11 +159,6 @@ right-plus ax ay bx by x y = omega (arith, mul-add ay x 1)
 pub right-minus : (ax ay bx by x y : ℕ) → minusOf ax ay bx by (x + 1) y ≡ minusOf ax ay bx by x y + by
 unfolding minusOf
 right-minus ax ay bx by x y = omega (arith, mul-add by x 1)
-
-pub minus-fits : (ax ay bx by x y : ℕ) → ax ≤ 65535 → ay ≤ 65535 → bx ≤ 65535 → by ≤ 65535 → x ≤ 65535 → y ≤ 65535 → minusOf ax ay bx by x y ≤ 12884508675
-unfolding minusOf
-minus-fits ax ay bx by x y h1 h2 h3 h4 h5 h6 =
-    omega (arith, product-fits bx ay (omega arith) (omega arith), product-fits ax y (omega arith) (omega arith), product-fits by x (omega arith) (omega arith))
 
 -- ---- the columns that an edge keeps of a row
 

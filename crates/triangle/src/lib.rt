@@ -9,56 +9,56 @@ use picture::Carried;
 use picture::Vertex;
 
 // Three corners that turn anticlockwise, and the vertex that completed them.
-pub struct Corners {
-    pub a: Vertex,
-    pub b: Vertex,
-    pub c: Vertex,
-    pub last: Vertex,
+pub(crate) struct Corners {
+    pub(crate) a: Vertex,
+    pub(crate) b: Vertex,
+    pub(crate) c: Vertex,
+    pub(crate) last: Vertex,
 }
 
 // An edge's expression at a pixel: plus less minus.
-pub struct Edge {
-    pub plus: usize,
-    pub minus: usize,
+pub(crate) struct Edge {
+    pub(crate) plus: usize,
+    pub(crate) minus: usize,
 }
 
 // The three edges of a triangle at a pixel.
-pub struct Edges {
-    pub ab: Edge,
-    pub bc: Edge,
-    pub ca: Edge,
+pub(crate) struct Edges {
+    pub(crate) ab: Edge,
+    pub(crate) bc: Edge,
+    pub(crate) ca: Edge,
 }
 
 // The columns of a row from lo up to and without hi.
-pub struct Span {
-    pub lo: usize,
-    pub hi: usize,
+pub(crate) struct Span {
+    pub(crate) lo: usize,
+    pub(crate) hi: usize,
 }
 
 // How the numbers of a triangle are carried along its rows: the factor of a sum, or `long` for sums that want a division a row, and what a
 // step to the right adds to I and to Z, modulo 2^64.
-pub struct Slopes {
-    pub long: bool,
-    pub f: usize,
-    pub i: usize,
-    pub z: usize,
+pub(crate) struct Slopes {
+    pub(crate) long: bool,
+    pub(crate) f: usize,
+    pub(crate) i: usize,
+    pub(crate) z: usize,
 }
 
 // How the numbers of a triangle come to its pixels: the completing vertex's, carried along the rows, or by divisions.
-pub enum Shades {
+pub(crate) enum Shades {
     Flat,
     Carried(Slopes),
     Divided,
 }
 
 // I and Z along a row's run of covered pixels.
-pub struct Run {
-    pub i: Carried,
-    pub z: Carried,
+pub(crate) struct Run {
+    pub(crate) i: Carried,
+    pub(crate) z: Carried,
 }
 
 // How a row is drawn: as one run, or each pixel by itself.
-pub enum Way {
+pub(crate) enum Way {
     Along(Run),
     Each,
 }

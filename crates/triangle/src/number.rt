@@ -13,26 +13,6 @@ use crate::Slopes;
 use crate::cover::times;
 use picture::place::least;
 
-// The corner numbers p, q, r, weighted by u, v, w.
-fn blend(u: usize, v: usize, w: usize, d: usize, p: u16, q: u16, r: u16) -> u16
-    requires { ⌜ (u + v + w ≡ d) × (0 < d) × (d ≤ 12884508675) ⌝ }
-    ensures { λ k. ⌜ k ≡ mixed u v w d p q r ⌝ }
-{
-    let n = (p as usize) * u + (q as usize) * v + (r as usize) * w;
-    ((2 * n + d) / (2 * d)) as u16
-}
-
-// The number at a pixel with the edges e, from the corner numbers p, q, r.
-pub(crate) fn number(t: Corners, d: usize, e: Edges, p: u16, q: u16, r: u16) -> u16
-    requires { ⌜ Ready t d e ⌝ }
-    ensures { λ k. ⌜ k ≡ mixed (amount (e .bc)) (amount (e .ca)) (amount (e .ab)) d p q r ⌝ }
-{
-    let u = e.bc.plus - e.bc.minus;
-    let v = e.ca.plus - e.ca.minus;
-    let w = e.ab.plus - e.ab.minus;
-    blend(u, v, w, d, p, q, r)
-}
-
 // The sum of the corner numbers p, q, r at a covered pixel.
 fn mass(t: Corners, d: usize, e: Edges, p: u16, q: u16, r: u16) -> usize
     requires { ⌜ Ready t d e ⌝ }
@@ -43,6 +23,14 @@ fn mass(t: Corners, d: usize, e: Edges, p: u16, q: u16, r: u16) -> usize
     let w = e.ab.plus - e.ab.minus;
     let n = (p as usize) * u + (q as usize) * v + (r as usize) * w;
     2 * n + d
+}
+
+// The number at a pixel with the edges e, from the corner numbers p, q, r.
+pub(crate) fn number(t: Corners, d: usize, e: Edges, p: u16, q: u16, r: u16) -> u16
+    requires { ⌜ Ready t d e ⌝ }
+    ensures { λ k. ⌜ k ≡ mixed (amount (e .bc)) (amount (e .ca)) (amount (e .ab)) d p q r ⌝ }
+{
+    (mass(t, d, e, p, q, r) / (2 * d)) as u16
 }
 
 // r over m, times 2^48, rounded down.
