@@ -7,9 +7,8 @@ use mathlib.Core.List.{List}
 use Prim.Native.Nat.{ℕ, _<_}
 use lib.Dec.{eqb}
 use lib.ListN.{length, getD, drop}
-use borrow.Author.Tests.{eq-eqb, ne-eqb, eqb-true, eqb-false}
+use borrow.Author.Tests.{eq-eqb, ne-eqb, eqb-true}
 use Rattle.picture.specs.Picture.{Picture, picture}
-use Rattle.picture.proofs.Fold.{drawn-i, drawn-z}
 use Rattle.machine.specs.Run.{Outcome, outcome, ran, runFrom}
 use Rattle.machine.specs.Machine.{Machine, Memories, memories, drawing, accepted, refused, numberOf, stepOf}
 use Rattle.machine.proofs.Runs.{turn-refused}

@@ -4,4 +4,5 @@ pub mod Spans
 pub mod Cells
 pub mod Offers
 pub mod Rows
+pub mod Members
 pub mod Settled

@@ -22,6 +22,11 @@ same-test true b f g = sym (f refl)
 same-test false true f g = g refl
 same-test false false f g = refl
 
+-- a pixel inside lies in a column of the line and in a row in use
+pub inside-parts : (frame : Frame) (rows x y : ℕ) → inMemory frame rows x y ≡ true → (x < frame .line) × (y < rows)
+unfolding inMemory
+inside-parts frame rows x y h = let k = both (ltb x (frame .line)) (ltb y rows) h in (ltb-true _ _ (k .0), ltb-true _ _ (k .1))
+
 module _ (frame : Frame) (ni nz : ℕ) where
   pub rows-none : frame .line ≡ 0 → rowsOf frame ni nz ≡ 0
   unfolding rowsOf
@@ -63,9 +68,8 @@ module _ (frame : Frame) (ni nz : ℕ) where
 
   -- the place of a pixel inside lies below both lengths
   module _ (x y : ℕ) (h : inMemory frame (rowsOf frame ni nz) x y ≡ true) where
-    pub inside-at : (x < frame .line) × (y < rowsOf frame ni nz)
-    unfolding inMemory
-    inside-at = let k = both (ltb x (frame .line)) (ltb y (rowsOf frame ni nz)) h in (ltb-true _ _ (k .0), ltb-true _ _ (k .1))
+    inside-at : (x < frame .line) × (y < rowsOf frame ni nz)
+    inside-at = inside-parts frame (rowsOf frame ni nz) x y h
 
     pub place-below : (placeOf frame x y < ni) × (placeOf frame x y < nz)
     unfolding placeOf
