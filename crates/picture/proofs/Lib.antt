@@ -5,4 +5,5 @@ pub mod Cells
 pub mod Offers
 pub mod Rows
 pub mod Members
+pub mod Passed
 pub mod Settled

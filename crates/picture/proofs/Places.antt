@@ -1,8 +1,8 @@
 -- Where pixels lie: a pixel inside the memory has a place of its own, below the lent lengths. Assumes nothing.
 use mathlib.Core.Path.{_≡_, refl, sym, ap, _∙_}
 use mathlib.Core.Bool.{Bool, true, false, cond, _&&_, true≢false}
-use Prim.Native.Nat.{ℕ, _+_, _*_, _/_, _%_, _≤_, _<_, zero-le, min}
-use native.Mathlib.Nat.{add-assoc, min-le-right, le-div-iff-mul-le, suc-mul, mul-le-mul}
+use Prim.Native.Nat.{ℕ, suc, _+_, _*_, _/_, _%_, _≤_, _<_, zero-le, min}
+use native.Mathlib.Nat.{add-assoc, min-le-right, le-div-iff-mul-le, suc-mul, mul-le-mul, mul-le-mul-right}
 use native.Mathlib.Numerals.{add-one}
 use native.Mathlib.Omega.{arith}
 use lib.Arith.{digits-div, digits-mod}
@@ -77,6 +77,11 @@ module _ (frame : Frame) (ni nz : ℕ) where
         let k = row-ends y (λ e. omega (arith, inside-at .0)) (inside-at .1) in
         let e : (y + 1) * frame .line ≡ y * frame .line + frame .line = ap (λ (i : ℕ). i * frame .line) (add-one y) ∙ suc-mul y (frame .line) in
         (omega (arith, inside-at .0, k .1), omega (arith, inside-at .0, k .2))
+
+-- and below the pixels of the rows
+pub place-low : (frame : Frame) (rows x y : ℕ) → x < frame .line → y < rows → placeOf frame x y < rows * frame .line
+unfolding placeOf
+place-low frame rows x y h k = omega (arith, suc-mul y (frame .line), mul-le-mul-right {m = suc y} {n = rows} (frame .line) k)
 
 -- no two pixels inside share a place
 pub place-apart : (frame : Frame) (x y x′ y′ : ℕ) → x < frame .line → x′ < frame .line → placeOf frame x y ≡ placeOf frame x′ y′ → (x ≡ x′) × (y ≡ y′)
