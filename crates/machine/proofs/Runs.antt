@@ -2,17 +2,24 @@
 -- it ends. Assumes nothing.
 use mathlib.Core.Path.{_≡_, refl, sym, ap, _∙_, subst}
 use mathlib.Core.Logic.{_≢_}
-use mathlib.Core.Bool.{Bool, true, false}
 use mathlib.Core.List.{List, [], _∷_, _++_, foldl-append}
 use Prim.Native.Nat.{ℕ, suc, _+_, _%_, _^_, _≤_, _<_}
+use native.Mathlib.Decide.{ℕ-discrete}
 use native.Mathlib.Numerals.{add-one}
 use native.Mathlib.Omega.{arith}
-use lib.Dec.{eqb}
 use lib.ListN.{length, getD, take, drop, drop-of-length-le}
 use lib.Seq.{drop-cons}
-use borrow.Author.Tests.{eq-eqb, ne-eqb, eqb-true, eqb-false}
+use borrow.Author.Tests.{eq-eqb, ne-eqb}
 use Rattle.machine.specs.Run.{Outcome, outcome, Step, Ran, ran, advance, runFrom, runOf}
 use Rattle.machine.specs.Along.{Along, Stopped}
+
+-- a refusal is 0, or it is not
+pub zero-or-not : {A : Type 0} (n : ℕ) → (n ≡ 0 → A) → (n ≢ 0 → A) → A
+zero-or-not {A} n yea nay = go (ℕ-discrete n 0)
+  where
+    go : Dec (n ≡ 0) → A
+    go (yes e) = yea e
+    go (no e) = nay e
 
 module _ {W R M : Type 0} (step : Step W R M) where
   -- ---- one word
@@ -38,18 +45,16 @@ module _ {W R M : Type 0} (step : Step W R M) where
     advance-stays e = rw (ne-eqb _ _ e)
 
     -- one of the three it is
-    data Comes : Type 0 where
+    pub data Comes : Type 0 where
       took : a .refusal ≡ 0 → step (a .registers) w (a .memories) .refusal ≡ 0 → Comes
       halted : a .refusal ≡ 0 → step (a .registers) w (a .memories) .refusal ≢ 0 → Comes
       stood : a .refusal ≢ 0 → Comes
 
-    comes : Comes
-    comes = go (eqb (a .refusal) 0) refl (eqb (step (a .registers) w (a .memories) .refusal) 0) refl
-      where
-        go : (t : Bool) → eqb (a .refusal) 0 ≡ t → (u : Bool) → eqb (step (a .registers) w (a .memories) .refusal) 0 ≡ u → Comes
-        go true e true f = took (eqb-true _ _ e) (eqb-true _ _ f)
-        go true e false f = halted (eqb-true _ _ e) (eqb-false _ _ f)
-        go false e u f = stood (eqb-false _ _ e)
+    pub comes : Comes
+    comes =
+        zero-or-not (a .refusal)
+        (λ goes. zero-or-not (step (a .registers) w (a .memories) .refusal) (λ e. took goes e) (λ e. halted goes e))
+        (λ stopped. stood stopped)
 
   -- ---- several
 
@@ -105,11 +110,7 @@ module _ {W R M : Type 0} (step : Step W R M) where
 
   -- a run that is not refused was not refused where it began
   pub run-begun : (ws : List W) (a : Ran R M) → runFrom step a ws .refusal ≡ 0 → a .refusal ≡ 0
-  run-begun ws a e = go (eqb (a .refusal) 0) refl
-    where
-      go : (t : Bool) → eqb (a .refusal) 0 ≡ t → a .refusal ≡ 0
-      go true q = eqb-true _ _ q
-      go false q = sym (ap (λ (b : Ran R M). b .refusal) (stays ws a (eqb-false _ _ q))) ∙ e
+  run-begun ws a e = zero-or-not (a .refusal) (λ goes. goes) (λ stopped. sym (ap (λ (b : Ran R M). b .refusal) (stays ws a stopped)) ∙ e)
 
   -- its first word was accepted
   pub run-first : (w : W) (ws : List W) (a : Ran R M) → runFrom step a (w ∷ ws) .refusal ≡ 0
@@ -219,3 +220,8 @@ module _ {W R M : Type 0} (step : Step W R M) where
       go (took e f) = moved _ (advance-accepted a w e f) (each (a .registers) w (a .memories) (h .0 e) f p)
       go (halted e f) = moved _ (advance-refused a w e f) p
       go (stood e) = moved _ (advance-stays a w e) p
+
+  -- what every word leaves of the memories, a run leaves
+  pub run-leaves : {A : Type 0} (f : M → A) (ok : R → W → M → Type 0) → ((r : R) (w : W) (m : M) → ok r w m → f (step r w m .memories) ≡ f m)
+      → (ws : List W) (a : Ran R M) → Along step ok a ws → f (runFrom step a ws .memories) ≡ f (a .memories)
+  run-leaves f ok each ws a h = run-keeps (λ r m. f m ≡ f (a .memories)) ok (λ r w m k e same. each r w m k ∙ same) ws a h refl

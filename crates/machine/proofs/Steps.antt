@@ -2,16 +2,14 @@
 -- Assumes nothing.
 use mathlib.Core.Path.{_≡_, refl, sym, ap, ap₂, _∙_}
 use mathlib.Core.Logic.{_≢_}
-use mathlib.Core.Bool.{Bool, true, false, cond}
 use mathlib.Core.List.{List}
 use Prim.Native.Nat.{ℕ, _<_}
-use lib.Dec.{eqb}
 use lib.ListN.{length, getD, drop}
-use borrow.Author.Tests.{eq-eqb, ne-eqb, eqb-true}
+use borrow.Author.Tests.{eq-eqb, ne-eqb}
 use Rattle.picture.specs.Picture.{Picture, picture}
 use Rattle.machine.specs.Run.{Outcome, outcome, ran, runFrom}
 use Rattle.machine.specs.Machine.{Machine, Memories, memories, drawing, accepted, refused, numberOf, stepOf}
-use Rattle.machine.proofs.Runs.{turn-refused}
+use Rattle.machine.proofs.Runs.{zero-or-not, turn-refused}
 
 module _ (M : Machine) (r : M .Registers) (w : M .Word) (m : Memories) where
   -- a word whose number is 0 is accepted
@@ -24,15 +22,14 @@ module _ (M : Machine) (r : M .Registers) (w : M .Word) (m : Memories) where
   unfolding stepOf
   step-refused e = rw (ne-eqb _ _ e)
 
+  -- what holds of the outcome in either case holds of the word's
+  pub step-either : (P : Outcome (M .Registers) Memories → Type 0) → (numberOf M r w m ≡ 0 → P (accepted (M .next r w) (drawing M r w m)))
+      → (numberOf M r w m ≢ 0 → P (refused (numberOf M r w m) r m)) → P (stepOf M r w m)
+  step-either P yea nay = zero-or-not (numberOf M r w m) (λ e. rw (step-accepted e) (yea e)) (λ e. rw (step-refused e) (nay e))
+
   -- an outcome tells the word's number
   pub step-number : stepOf M r w m .refusal ≡ numberOf M r w m
-  unfolding stepOf
-  step-number = go (eqb (numberOf M r w m) 0) refl
-    where
-      go : (b : Bool) → eqb (numberOf M r w m) 0 ≡ b
-          → cond b (accepted (M .next r w) (drawing M r w m)) (refused (numberOf M r w m) r m) .refusal ≡ numberOf M r w m
-      go true e = sym (eqb-true _ _ e)
-      go false e = refl
+  step-number = step-either (λ o. o .refusal ≡ numberOf M r w m) (λ e. sym e) (λ e. refl)
 
   -- ---- for code that has found the number, the drawing and the next registers
 
