@@ -44,12 +44,13 @@ module _ {W R M : Type 0} (step : Step W R M) where
     unfolding advance
     advance-stays e = rw (ne-eqb _ _ e)
 
-    -- one of the three it is
+    -- the three that may come of a word: it is taken, it stops the run, or the run had stopped
     pub data Comes : Type 0 where
       took : a .refusal ≡ 0 → step (a .registers) w (a .memories) .refusal ≡ 0 → Comes
       halted : a .refusal ≡ 0 → step (a .registers) w (a .memories) .refusal ≢ 0 → Comes
       stood : a .refusal ≢ 0 → Comes
 
+    -- one of them comes
     pub comes : Comes
     comes =
         zero-or-not (a .refusal)

@@ -34,9 +34,9 @@ module _ (M : Machine) (r : M .Registers) (w : M .Word) (m : Memories) where
   -- ---- for code that has found the number, the drawing and the next registers
 
   -- what an accepted word's code has found is the word's outcome
-  pub told-accepted : {n : ℕ} {next : M .Registers} {i z : List ℕ} {p : ℕ} → n ≡ numberOf M r w m → n ≡ 0 → next ≡ M .next r w → picture i z p ≡ drawing M r w m
+  pub told-accepted : {n : ℕ} {next : M .Registers} {i z : List ℕ} {p : ℕ} → n ≡ numberOf M r w m → n ≡ 0 → picture i z p ≡ drawing M r w m → next ≡ M .next r w
       → outcome 0 p next (memories i z) ≡ stepOf M r w m
-  told-accepted number zero next drew = ap₂ (λ (q : M .Registers) (d : Picture). accepted q d) next drew ∙ sym (step-accepted (sym number ∙ zero))
+  told-accepted number zero drew next = ap₂ (λ (q : M .Registers) (d : Picture). accepted q d) next drew ∙ sym (step-accepted (sym number ∙ zero))
 
   -- what a refused word's code has found is the word's outcome
   pub told-refused : {n : ℕ} → n ≡ numberOf M r w m → n ≢ 0 → outcome n 0 r m ≡ stepOf M r w m

@@ -104,7 +104,7 @@ module _ (M : Machine) where
       ∙ mod-add-mod (a .sum + length (touchedNext M a w)) (2 ^ 64) rest
       ∙ ap (λ (n : ℕ). n % 2 ^ 64) (add-assoc (a .sum) (length (touchedNext M a w)) rest ∙ ap (λ (n : ℕ). a .sum + n) (sym (length-append (touchedNext M a w) _)))
 
-  -- a place where no pixel of a run passes is none where one of its words passes
+  -- where no pixel of a run passes, no pixel of one of its words does
   untouched-along : (at : ℕ) (ws : List (M .Word)) (a : Ran (M .Registers) Memories) → (List·Memᴰ at (touchedFrom M a ws) → ⊥)
       → Along (stepOf M) (λ r w m. List·Memᴰ at (touchedBy M r w m) → ⊥) a ws
   unfolding touchedFrom
@@ -115,13 +115,13 @@ module _ (M : Machine) where
   )
 
   module _ (ws : List (M .Word)) (a : Ran (M .Registers) Memories) (at : ℕ) where
-    -- it keeps both its numbers
+    -- a place where no pixel of a run passes keeps both its numbers
     pub run-untouched : (List·Memᴰ at (touchedFrom M a ws) → ⊥) → cellIn (runFrom (stepOf M) a ws .memories) at ≡ cellIn (a .memories) at
     run-untouched h =
         run-leaves (stepOf M) (λ (c : Memories). cellIn c at) (λ r w m. List·Memᴰ at (touchedBy M r w m) → ⊥) (λ r w m. step-untouched M r w m at) ws a
         (untouched-along at ws a h)
 
-    -- of a machine that draws inside, so does a place that is above the rows in use at each word
+    -- of a machine that draws inside, a place that is above the rows in use at each word keeps both its numbers
     pub run-above : Inside M → Along (stepOf M) (Above M at) a ws → cellIn (runFrom (stepOf M) a ws .memories) at ≡ cellIn (a .memories) at
     run-above inside =
         run-leaves (stepOf M) (λ (c : Memories). cellIn c at) (Above M at) (λ r w m. step-above M r w m inside at) ws a

@@ -48,3 +48,7 @@ every-kept P pen rows p h o m = go (offered pen rows p) refl m
     go : (t : Bool) → offered pen rows p ≡ t → List·Memᴰ o (cond t (p ∷ []) []) → P o
     go true e u = subst P (sym (List·Memᴰ·eq-of-singleton u)) (h e)
     go false e u = absurd (List·Memᴰ·not-nil u)
+
+-- what is kept of a pixel is offered
+pub kept-offered : (pen : Pen) (rows : ℕ) (p o : Offer) → List·Memᴰ o (keep pen rows p) → offered pen rows o ≡ true
+kept-offered pen rows p = every-kept (λ o. offered pen rows o ≡ true) pen rows p (λ e. e)
