@@ -82,10 +82,12 @@ awaits r = ltb 0 (wants (awaited r))
 
 -- ---- the table
 
--- the numbers from 3 on, each with when it applies
-abbrev pub judging : Registers → Word → List Bool
-judging r w =
-    (not (isInit w) && isCold r)  -- 3: any word but INIT before the first accepted INIT
+-- the numbers from 1 on, each with when it applies; `unfit` says that the record or the memories are
+abbrev pub table : Bool → Registers → Word → List Bool
+table unfit r w =
+    isUnknown w  -- 1: command above 15
+    ∷ unfit  -- 2: the memories differ in length, or the record breaks a bound
+    ∷ (not (isInit w) && isCold r)  -- 3: any word but INIT before the first accepted INIT
     ∷ isReserved w  -- 4: command 7 or C hex
     ∷ isUnmodelled w  -- 5: command 0, 9 or A hex; AUX 2, 7 or 11
     ∷ (not (isParm w || isInit w) && awaits r)  -- 6: a parameter is awaited and the word is neither PARM nor INIT
@@ -95,25 +97,18 @@ judging r w =
     ∷ not (fits r w)  -- 10: X or PX that fits no open figure
     ∷ []
 
--- the whole table, over memories of two lengths
-abbrev pub table : ℕ → ℕ → Registers → Word → List Bool
-table ni nz r w =
-    isUnknown w  -- 1: command above 15
-    ∷ (not (eqb ni nz) || not (inBounds r))  -- 2: the memories differ in length, or the record breaks a bound
-    ∷ judging r w
-
 -- the lowest number that applies, counted from n on; 0 where none does
 abbrev pub lowest : ℕ → List Bool → ℕ
 lowest n [] = 0
 lowest n (b ∷ bs) = cond b n (lowest (suc n) bs)
 
--- the refusals 3 to 10 of a word
-unfoldable pub judgedOf : Registers → Word → ℕ
-judgedOf r w = lowest 3 (judging r w)
+-- memories of two lengths, or the record, are not such as a word may meet
+abbrev pub isUnfit : ℕ → ℕ → Registers → Bool
+isUnfit ni nz r = not (eqb ni nz) || not (inBounds r)
 
--- the number that a word gets over memories of two lengths
+-- the number that a word gets over memories of two lengths: the lowest that applies, 0 for none
 unfoldable pub refusalOf : ℕ → ℕ → Registers → Word → ℕ
-refusalOf ni nz r w = lowest 1 (table ni nz r w)
+refusalOf ni nz r w = lowest 1 (table (isUnfit ni nz r) r w)
 
 -- the record after a word: unchanged if it is refused
 unfoldable pub next : ℕ → ℕ → Registers → Word → Registers

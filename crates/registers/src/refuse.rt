@@ -4,7 +4,7 @@ ghost use mathlib.Core.Bool.{false, not};
 ghost use mathlib.Core.List.{[], _∷_};
 ghost use lib.Dec.{ltb};
 ghost use Rattle.registers.specs.declared.word.Word.the-variants.{Aux};
-ghost use Rattle.registers.specs.Refusal.{isUnknown, isUnmodelled, awaits, lowest, judgedOf, refusalOf};
+ghost use Rattle.registers.specs.Refusal.{isUnknown, isUnmodelled, awaits, table, lowest, refusalOf};
 use crate::Registers;
 use crate::allow::coordinate_fits;
 use crate::allow::is_coordinate_allowed;
@@ -101,9 +101,9 @@ impl Registers {
         0 < wanted(s)
     }
 
-    // The refusals 3 to 10 of a word, the lowest that applies; 0 for none.
-    pub fn judged(self, word: Word) -> u64
-        ensures { λ r. ⌜ r ≡ judgedOf self word ⌝ }
+    // The number that a word gets where the record and the memories are fit, the lowest that applies; 0 for none.
+    fn judged(self, word: Word) -> u64
+        ensures { λ r. ⌜ r ≡ lowest 1 (table false self word) ⌝ }
     {
         let cold = self.started == 0;
         let waits = self.is_awaiting();
@@ -127,8 +127,7 @@ impl Registers {
             ),
             Word::Reserved => if cold { 3 } else { 4 },
             Word::Unmodelled => if cold { 3 } else { 5 },
-            // asked before, so that no number is left to it
-            Word::Unknown => coordinate_number(cold, waits, true, true),
+            Word::Unknown => 1,
         }
     }
 
@@ -136,11 +135,8 @@ impl Registers {
     pub fn refusal(self, word: Word, ni: usize, nz: usize) -> u64
         ensures { λ r. ⌜ r ≡ refusalOf ni nz self word ⌝ }
     {
-        if is_unknown(word) {
-            return 1;
-        }
         if !(ni == nz) | !self.is_sound() {
-            return 2;
+            return if is_unknown(word) { 1 } else { 2 };
         }
         self.judged(word)
     }

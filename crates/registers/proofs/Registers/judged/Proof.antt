@@ -1,5 +1,4 @@
 -- `Registers::judged` meets its contract: of each kind of word the table keeps the numbers that its arm asks for. Assumes nothing.
-use Rattle.registers.specs.Refusal.{judgedOf}
 use borrow.Author.Needs.{needs}
 use Rattle.registers.proofs.Registers.judged.Statement.{statement}
 use Rattle.registers.proofs.Registers.judged.Tie as tie
@@ -58,44 +57,32 @@ enum-told-2 c = search needs
 enum-told-3 : tie.Need-enum-told-3
 enum-told-3 c = search needs
 
-coordinate-number-requires-2 : tie.Need-coordinate-number-requires-2
-coordinate-number-requires-2 c κs = search needs
-
 returns : tie.Need-returns
-unfolding judgedOf
 returns c = rw (c .before .before .before .word .given .1, ← c .before .is-init-allowed .ensures) (c .init-number .ensures)
 
 returns-2 : tie.Need-returns-2
-unfolding judgedOf
 returns-2 c = rw (c .before .before .word2 .given .1, ← c .before .before .before .before .before .is-awaiting .ensures) (c .aux-number .ensures)
 
 returns-3 : tie.Need-returns-3
-unfolding judgedOf
 returns-3 c = rw (c .before .before .before .before .word3 .given .1, ← c .before .before .before .before .before .before .before .is-awaiting .ensures, ← c .before .before .subcommand-of .ensures, ← c .before .is-parameter-allowed .ensures) (c .parm-number .ensures)
 
 returns-4 : tie.Need-returns-4
-unfolding judgedOf
 returns-4 c = rw (c .before .before .before .before .word4 .given .1, ← c .before .before .before .before .before .before .before .is-awaiting .ensures, ← c .before .before .before .before .before .before .shape-of .ensures, ← c .before .before .is-coordinate-allowed .ensures, ← c .before .coordinate-fits .ensures) (c .coordinate-number .ensures)
 
 returns-5 : tie.Need-returns-5
-unfolding judgedOf
 returns-5 c = rw (c .before .enum-told .given .1, c .if1 .taken)
 
 returns-6 : tie.Need-returns-6
-unfolding judgedOf
 returns-6 c = rw (c .before .enum-told .given .1, c .if1 .left)
 
 returns-7 : tie.Need-returns-7
-unfolding judgedOf
 returns-7 c = rw (c .before .enum-told2 .given .1, c .if2 .taken)
 
 returns-8 : tie.Need-returns-8
-unfolding judgedOf
 returns-8 c = rw (c .before .enum-told2 .given .1, c .if2 .left)
 
 returns-9 : tie.Need-returns-9
-unfolding judgedOf
-returns-9 c = rw (c .before .enum-told3 .given .1, ← c .before .before .before .before .is-awaiting .ensures) (c .coordinate-number2 .ensures)
+returns-9 c = rw (c .enum-told3 .given .1)
 
 pub judged-spec : {M : Type 1} → statement M
 judged-spec =
@@ -119,7 +106,6 @@ judged-spec =
     enum-told
     enum-told-2
     enum-told-3
-    coordinate-number-requires-2
     returns
     returns-2
     returns-3
