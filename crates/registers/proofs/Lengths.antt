@@ -3,14 +3,14 @@ use mathlib.Core.Path.{_≡_, refl, subst}
 use mathlib.Core.Bool.{Bool, true, false, _&&_, _||_}
 use mathlib.Core.List.{List, [], _∷_}
 use mathlib.Core.Logic.{_⊎_, inl, inr, ⊎-elim}
-use Prim.Native.Nat.{ℕ, _%_, _≤_, _<_}
-use lib.Dec.{T, leb, eqb}
+use Prim.Native.Nat.{ℕ, _<_}
+use lib.Dec.{T, eqb}
 use lib.ListN.{getD}
 use borrow.Author.Tests.{eqb-true}
 use Rattle.registers.specs.Lines.{lineOf}
 use Rattle.registers.specs.Record.{frameOf}
 use Rattle.registers.specs.Bounds.{frameFits}
-use Rattle.registers.proofs.Truth.{and-both, both}
+use Rattle.registers.proofs.Truth.{both}
 use Rattle.registers.proofs.Table.{at}
 
 -- the table, as the code has it
