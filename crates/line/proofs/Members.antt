@@ -1,4 +1,4 @@
--- What a segment offers: pixels of its mode's kind that are offered, with numbers of 16 bits, one at most for each step. Assumes nothing.
+-- What a segment offers: pixels of its mode's kind that are offered, with numbers no greater than its vertices', one at most for each step. Assumes nothing.
 use mathlib.Core.Path.{refl}
 use mathlib.Core.Bool.{Bool, true, false, cond}
 use mathlib.Core.List.{[], List·Memᴰ, List·Memᴰ·not-nil}
@@ -27,44 +27,44 @@ kindOf One = Line1
 kindOf Two = Line2
 
 module _ (pen : Pen) (rows : ℕ) (style : Style) (a b : Vertex) where
-  module _ (first : Numbers a) (second : Numbers b) (fore : style .foreground ≤ 65535) (back : style .background ≤ 65535) where
-    dash-member : (kind : Kind) (ground : Bool) (k : ℕ) (o : Offer) → List·Memᴰ o (dashOffers pen rows kind ground style a b k) → Member pen rows kind o
+  module _ (n : ℕ) (first : Numbers n a) (second : Numbers n b) (fore : style .foreground ≤ n) (back : style .background ≤ n) where
+    dash-member : (kind : Kind) (ground : Bool) (k : ℕ) (o : Offer) → List·Memᴰ o (dashOffers pen rows kind ground style a b k) → Member pen rows kind n o
     unfolding dashOffers
     dash-member kind ground k o = go (isSet style k) ground
       where
-        inked : (colour : ℕ) → colour ≤ 65535 → List·Memᴰ o (keep pen rows (offer kind (xAt a b k) (yAt a b k) colour 0)) → Member pen rows kind o
-        inked colour h = every-kept (Member pen rows kind) pen rows _ (λ e. record { of-kind = refl; is-offered = e; i = h; z = zero-le }) o
+        inked : (colour : ℕ) → colour ≤ n → List·Memᴰ o (keep pen rows (offer kind (xAt a b k) (yAt a b k) colour 0)) → Member pen rows kind n o
+        inked colour h = every-kept (Member pen rows kind n) pen rows _ (λ e. record { of-kind = refl; is-offered = e; i = h; z = zero-le }) o
 
         go : (t g : Bool)
             → List·Memᴰ o
             (cond t (keep pen rows (offer kind (xAt a b k) (yAt a b k) (style .foreground) 0))
             (cond g (keep pen rows (offer kind (xAt a b k) (yAt a b k) (style .background) 0)) []))
-            → Member pen rows kind o
+            → Member pen rows kind n o
         go true g m = inked (style .foreground) fore m
         go false true m = inked (style .background) back m
         go false false m = absurd (List·Memᴰ·not-nil m)
 
-    shade-member : (k : ℕ) → k ≤ larger a b → (o : Offer) → List·Memᴰ o (shadeOffers pen rows a b k) → Member pen rows Line2 o
+    shade-member : (k : ℕ) → k ≤ larger a b → (o : Offer) → List·Memᴰ o (shadeOffers pen rows a b k) → Member pen rows Line2 n o
     unfolding shadeOffers
     shade-member k h =
-        every-kept (Member pen rows Line2) pen rows _
+        every-kept (Member pen rows Line2 n) pen rows _
         (λ e.
         record {
           of-kind = refl;
           is-offered = e;
-          i = number-le (larger a b) k (a .i) (b .i) 65535 h (first .i) (second .i);
-          z = number-le (larger a b) k (a .z) (b .z) 65535 h (first .z) (second .z);
+          i = number-le (larger a b) k (a .i) (b .i) n h (first .i) (second .i);
+          z = number-le (larger a b) k (a .z) (b .z) n h (first .z) (second .z);
         })
 
-    step-member : (m : Mode) (k : ℕ) → k ≤ larger a b → (o : Offer) → List·Memᴰ o (stepOffers pen rows style m a b k) → Member pen rows (kindOf m) o
+    step-member : (m : Mode) (k : ℕ) → k ≤ larger a b → (o : Offer) → List·Memᴰ o (stepOffers pen rows style m a b k) → Member pen rows (kindOf m) n o
     step-member Zero k h = dash-member Line0 true k
     step-member One k h = dash-member Line1 false k
     step-member Two k h = shade-member k h
 
     -- each offer of a segment
-    pub segment-member : (o : Offer) → List·Memᴰ o (segmentOffers pen rows style a b) → Member pen rows (kindOf (style .mode)) o
+    pub segment-member : (o : Offer) → List·Memᴰ o (segmentOffers pen rows style a b) → Member pen rows (kindOf (style .mode)) n o
     unfolding segmentOffers
-    segment-member = every-span (Member pen rows (kindOf (style .mode))) _ (larger a b + 1) (λ k h. step-member (style .mode) k (omega arith))
+    segment-member = every-span (Member pen rows (kindOf (style .mode)) n) _ (larger a b + 1) (λ k h. step-member (style .mode) k (omega arith))
 
   -- ---- how many pass
 

@@ -77,7 +77,7 @@ side-told a b s k h r l =
 
 module _ (pen : Pen) (rows : ℕ) (a b : Vertex) (s : Slope) (k : ℕ) (p : Pixel) (e : p ≡ pixelAt a b k) where
   pub shade-offers : {i z : Ramp} {ni nz : ℕ} → OnStep a b s k → RampAt (s .n) k (a .i) (b .i) i → RampAt (s .n) k (a .z) (b .z) z
-      → Numbers a → Numbers b → ni ≡ i .whole % 65536 → nz ≡ z .whole % 65536
+      → Numbers 65535 a → Numbers 65535 b → ni ≡ i .whole % 65536 → nz ≡ z .whole % 65536
       → keep pen rows (offer Line2 (p .x) (p .y) ni nz) ≡ shadeOffers pen rows a b k
   unfolding shadeOffers
   shade-offers h i z u v ei ez =

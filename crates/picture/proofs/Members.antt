@@ -1,5 +1,5 @@
--- What holds of each offer of a figure: it is offered, so it lies inside the memory, it is of the figure's kind, and its numbers have 16
--- bits. Assumes nothing.
+-- What holds of each offer of a figure: it is offered, so it lies inside the memory, it is of the figure's kind, and its numbers
+-- are no greater than those of the figure's vertices. Assumes nothing.
 use mathlib.Core.Path.{_≡_, refl, sym, subst}
 use mathlib.Core.Logic.{⊎-elim}
 use mathlib.Core.Bool.{Bool, true, false, cond}
@@ -14,17 +14,17 @@ use Rattle.picture.specs.Draw.{spans}
 use Rattle.picture.proofs.Places.{inside-parts}
 use Rattle.picture.proofs.Offers.{offered-inside}
 
--- a vertex's numbers have 16 bits
-pub record Numbers (v : Vertex) : Type 0 where
-  pub i : v .i ≤ 65535
-  pub z : v .z ≤ 65535
+-- a vertex's numbers are at most n
+pub record Numbers (n : ℕ) (v : Vertex) : Type 0 where
+  pub i : v .i ≤ n
+  pub z : v .z ≤ n
 
--- an offer of a figure of this kind
-pub record Member (pen : Pen) (rows : ℕ) (kind : Kind) (o : Offer) : Type 0 where
+-- an offer of a figure of this kind, with numbers at most n
+pub record Member (pen : Pen) (rows : ℕ) (kind : Kind) (n : ℕ) (o : Offer) : Type 0 where
   pub of-kind : o .kind ≡ kind
   pub is-offered : offered pen rows o ≡ true
-  pub i : o .i ≤ 65535
-  pub z : o .z ≤ 65535
+  pub i : o .i ≤ n
+  pub z : o .z ≤ n
 
 -- an offered pixel lies in a column of the line and in a row in use
 pub offered-at : (pen : Pen) (rows : ℕ) (o : Offer) → offered pen rows o ≡ true → (o .x < pen .frame .line) × (o .y < rows)

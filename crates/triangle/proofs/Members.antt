@@ -1,4 +1,4 @@
--- What a triangle offers: pixels of its kind that are offered, with numbers of 16 bits, no more of them than the memory has pixels.
+-- What a triangle offers: pixels of its kind that are offered, with numbers no greater than its vertices', no more of them than the memory has pixels.
 -- Assumes nothing.
 use mathlib.Core.Path.{_≡_, refl}
 use mathlib.Core.Bool.{Bool, true, false, cond}
@@ -22,22 +22,22 @@ use Rattle.triangle.proofs.Rows.{row-length}
 use Rattle.triangle.proofs.Turning.{triangle-either}
 
 module _ (pen : Pen) (rows : ℕ) (constant : Bool) where
-  module _ (t : Corners) (a : Numbers (t .a)) (b : Numbers (t .b)) (c : Numbers (t .c)) (last : Numbers (t .last)) (turned : Turned t) where
-    -- one of two numbers, each with 16 bits
-    number-fits : (p q r l x y : ℕ) → p ≤ 65535 → q ≤ 65535 → r ≤ 65535 → l ≤ 65535 → covers t x y ≡ true → cond constant l (shade t p q r x y) ≤ 65535
+  module _ (n : ℕ) (t : Corners) (a : Numbers n (t .a)) (b : Numbers n (t .b)) (c : Numbers n (t .c)) (last : Numbers n (t .last)) (turned : Turned t) where
+    -- one of two numbers, neither above n
+    number-fits : (p q r l x y : ℕ) → p ≤ n → q ≤ n → r ≤ n → l ≤ n → covers t x y ≡ true → cond constant l (shade t p q r x y) ≤ n
     number-fits p q r l x y hp hq hr hl h = go constant
       where
-        go : (k : Bool) → cond k l (shade t p q r x y) ≤ 65535
+        go : (k : Bool) → cond k l (shade t p q r x y) ≤ n
         go true = hl
-        go false = shade-between t turned x y h 0 65535 p q r zero-le zero-le zero-le hp hq hr .1
+        go false = shade-between t turned x y h 0 n p q r zero-le zero-le zero-le hp hq hr .1
 
-    pixel-member : (x y : ℕ) (o : Offer) → List·Memᴰ o (offersAt pen rows constant t x y) → Member pen rows (kindOf constant) o
+    pixel-member : (x y : ℕ) (o : Offer) → List·Memᴰ o (offersAt pen rows constant t x y) → Member pen rows (kindOf constant) n o
     unfolding offersAt pixelAt
     pixel-member x y o m = go (covers t x y) refl m
       where
-        go : (k : Bool) → covers t x y ≡ k → List·Memᴰ o (cond k (keep pen rows (pixelAt constant t x y)) []) → Member pen rows (kindOf constant) o
+        go : (k : Bool) → covers t x y ≡ k → List·Memᴰ o (cond k (keep pen rows (pixelAt constant t x y)) []) → Member pen rows (kindOf constant) n o
         go true h u =
-            every-kept (Member pen rows (kindOf constant)) pen rows (pixelAt constant t x y)
+            every-kept (Member pen rows (kindOf constant) n) pen rows (pixelAt constant t x y)
             (λ e.
             record {
               of-kind = refl;
@@ -48,17 +48,17 @@ module _ (pen : Pen) (rows : ℕ) (constant : Bool) where
             o u
         go false h u = absurd (List·Memᴰ·not-nil u)
 
-    turned-member : (o : Offer) → List·Memᴰ o (turnedOffers pen rows constant t) → Member pen rows (kindOf constant) o
+    turned-member : (o : Offer) → List·Memᴰ o (turnedOffers pen rows constant t) → Member pen rows (kindOf constant) n o
     turned-member =
         every-span _ (rowOffers pen rows constant t) rows
         (λ y h. every-span _ (λ x. offersAt pen rows constant t x y) (pen .frame .line) (λ x k. pixel-member x y))
 
   module _ (a b c : Vertex) where
     -- each offer of a triangle
-    pub triangle-member : Numbers a → Numbers b → Numbers c → (o : Offer) → List·Memᴰ o (triangleOffers pen rows constant a b c) → Member pen rows (kindOf constant) o
-    triangle-member ha hb hc =
-        triangle-either pen rows constant a b c (λ os. (o : Offer) → List·Memᴰ o os → Member pen rows (kindOf constant) o) (λ o m. absurd (List·Memᴰ·not-nil m))
-        (turned-member (cornersOf a b c c) ha hb hc hc) (turned-member (cornersOf a c b c) ha hc hb hc)
+    pub triangle-member : (n : ℕ) → Numbers n a → Numbers n b → Numbers n c → (o : Offer) → List·Memᴰ o (triangleOffers pen rows constant a b c) → Member pen rows (kindOf constant) n o
+    triangle-member n ha hb hc =
+        triangle-either pen rows constant a b c (λ os. (o : Offer) → List·Memᴰ o os → Member pen rows (kindOf constant) n o) (λ o m. absurd (List·Memᴰ·not-nil m))
+        (turned-member n (cornersOf a b c c) ha hb hc hc) (turned-member n (cornersOf a c b c) ha hc hb hc)
 
     -- no more pixels of a triangle pass than the rows in use have
     pub triangle-counts : (p : Picture) → drawn pen (triangleOffers pen rows constant a b c) p .passed ≤ p .passed + rows * pen .frame .line
