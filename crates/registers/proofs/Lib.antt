@@ -1,3 +1,5 @@
+pub mod Commands
+pub mod Forms
 pub mod Keys
 pub mod Kept
 pub mod Lengths

@@ -1,0 +1,82 @@
+-- What the table of numbers asks of a word, told by its command and data, as document 01 tells it. All questions are answered together, for
+-- the sixteen commands one by one and for those above. Assumes nothing.
+use mathlib.Core.Path.{_≡_, refl, sym, ap, _∙_}
+use mathlib.Core.Bool.{Bool, false, _&&_, _||_}
+use mathlib.Core.Logic.{_↔_}
+use Prim.Native.Nat.{ℕ, _<_, _≤_}
+use native.Mathlib.Omega.{arith}
+use lib.Dec.{T, ltb, eqb, ltb→lt}
+use borrow.Author.Tests.{lt-ltb, ltb-true, ne-eqb}
+use Rattle.registers.specs.declared.word.Word.{Word}
+use Rattle.registers.specs.declared.word.Word.the-variants.{Unknown}
+use Rattle.registers.specs.declared.Registers.{Registers}
+use Rattle.registers.specs.Word.{commands, decode}
+use Rattle.registers.specs.Refusal.{isInit, isParm, isUnknown, isReserved, isUnmodelled, isAbove, refusalOf}
+use Rattle.registers.proofs.Table.{everywhere}
+use Rattle.registers.proofs.Refusals.{given-1}
+
+record Answers : Type 0 where
+  unknown : Bool
+  reserved : Bool
+  init : Bool
+  parm : Bool
+  unmodelled : Bool
+  above : Bool
+
+abbrev ofWord : Word → Answers
+ofWord w = record { unknown = isUnknown w; reserved = isReserved w; init = isInit w; parm = isParm w; unmodelled = isUnmodelled w; above = isAbove w }
+
+module _ (d : ℕ) where
+  abbrev ofCommand : ℕ → Answers
+  ofCommand c =
+      record {
+        unknown = ltb 15 c;
+        reserved = eqb c 7 || eqb c 12;
+        init = eqb c 15;
+        parm = eqb c 13;
+        unmodelled = eqb c 0 || eqb c 9 || eqb c 10 || (eqb c 14 && (eqb d 2 || eqb d 7 || eqb d 11));
+        above = eqb c 14 && ltb 12 d;
+      }
+
+  past : (c : ℕ) → 16 ≤ c → ofWord Unknown ≡ ofCommand c
+  past c h =
+      let differs : (k : ℕ) → T (ltb k 16) → eqb c k ≡ false = λ k l. ne-eqb c k (λ e. absurd (omega (arith, h, ltb→lt k 16 l, e))) in
+      let up : 15 < c = omega (arith, h) in
+      rw (lt-ltb 15 c up, differs 0 tt, differs 7 tt, differs 9 tt, differs 10 tt, differs 12 tt, differs 13 tt, differs 14 tt, differs 15 tt)
+
+  told : (c : ℕ) → ofWord (decode c d) ≡ ofCommand c
+  unfolding decode
+  told =
+      everywhere (λ c w. ofWord w ≡ ofCommand c) Unknown (commands d)
+      (refl, (refl, (refl, (refl, (refl, (refl, (refl, (refl, (refl, (refl, (refl, (refl, (refl, (refl, (refl, (refl, tt)))))))))))))))) past
+
+module _ (c d : ℕ) where
+  -- above 15 no command is known
+  pub decode-unknown : isUnknown (decode c d) ≡ ltb 15 c
+  decode-unknown = ap (λ (a : Answers). a .unknown) (told d c)
+
+  -- 7 and C hex are reserved
+  pub decode-reserved : isReserved (decode c d) ≡ eqb c 7 || eqb c 12
+  decode-reserved = ap (λ (a : Answers). a .reserved) (told d c)
+
+  -- F hex is INIT
+  pub decode-init : isInit (decode c d) ≡ eqb c 15
+  decode-init = ap (λ (a : Answers). a .init) (told d c)
+
+  -- D hex is PARM
+  pub decode-parm : isParm (decode c d) ≡ eqb c 13
+  decode-parm = ap (λ (a : Answers). a .parm) (told d c)
+
+  -- 0, 9 and A hex are not modelled, nor are AUX 2, 7 and 11
+  pub decode-unmodelled : isUnmodelled (decode c d) ≡ eqb c 0 || eqb c 9 || eqb c 10 || (eqb c 14 && (eqb d 2 || eqb d 7 || eqb d 11))
+  decode-unmodelled = ap (λ (a : Answers). a .unmodelled) (told d c)
+
+  -- AUX with data above 12 is AUX above 12
+  pub decode-above : isAbove (decode c d) ≡ eqb c 14 && ltb 12 d
+  decode-above = ap (λ (a : Answers). a .above) (told d c)
+
+  -- 1 is given exactly when the command is above 15
+  pub refusal-1 : (ni nz : ℕ) (r : Registers) → (refusalOf ni nz r (decode c d) ≡ 1) ↔ (15 < c)
+  refusal-1 ni nz r =
+      let q = given-1 ni nz r (decode c d) in
+      (λ e. ltb-true 15 c (sym decode-unknown ∙ q .0 e), λ h. q .1 (decode-unknown ∙ lt-ltb 15 c h))

@@ -1,0 +1,318 @@
+-- What words leave in the record: what is no longer parked or open is cleared, so that one state has one record; INIT turns both write
+-- enables off, and HCONTROL alone turns one on. And the vertices of what a word completes. Assumes nothing.
+use mathlib.Core.Path.{_≡_, refl, sym, ap, _∙_, subst}
+use mathlib.Core.Bool.{Bool, true, false, cond, true≢false}
+use mathlib.Core.List.{List}
+use Prim.Native.Nat.{ℕ, _+_, _≤_, _<_}
+use native.Mathlib.Omega.{arith}
+use lib.Dec.{ltb, eqb}
+use lib.Seq.{getD-set-other}
+use borrow.Author.Tests.{ltb-true, ltb-false, leb-true, eqb-true}
+use Rattle.picture.specs.declared.Vertex.{Vertex}
+use Rattle.registers.specs.declared.word.Word.{Word}
+use Rattle.registers.specs.declared.word.Word.the-variants.{Init, Aux, Parm, At, Reserved, Unmodelled, Unknown}
+use Rattle.registers.specs.declared.word.Coordinate.{Coordinate}
+use Rattle.registers.specs.declared.word.Coordinate.the-variants.{I, Z, Y, X, T1x, T2x, Lx, Px}
+use Rattle.registers.specs.declared.subcommand.Subcommand.{Subcommand}
+use Rattle.registers.specs.declared.subcommand.Subcommand.the-variants.{Nothing, Pmode, Lmode, Zcontrol, Hcontrol, Tpattern, Window as Win, Color, Lpattern, Mask, Lstatus}
+use Rattle.registers.specs.declared.shape.Shape.{Shape}
+use Rattle.registers.specs.declared.shape.Shape.the-variants.{Closed, Strip, Fan, Line}
+use Rattle.registers.specs.declared.shape.Completed.{Completed}
+use Rattle.registers.specs.declared.shape.Completed.the-variants.{Nothing as None, Triangle, Segment}
+use Rattle.registers.specs.declared.Figure.{Figure}
+use Rattle.registers.specs.declared.Parked.{Parked}
+use Rattle.registers.specs.declared.Registers.{Registers}
+use Rattle.registers.specs.Record.{noVertex, opened, noFigure, endBit, isOn, awaiting, nothingAwaited, settings, resetOf, withParked}
+use Rattle.registers.specs.Subcommand.{subcommandOf, wants}
+use Rattle.registers.specs.Figure.{shapeOf, vertexOf, isPair, paired, grownOf, completes, figureAfter, vertexCompletes}
+use Rattle.registers.specs.Next.{value, awaited, joinedOf, counted, effectOf, parmOf, coordinateOf, coordinateCompletes, after, completedBy, penOf}
+use Rattle.registers.specs.Allowed.{isCoordinate, coordinateAllowed, allowed}
+use Rattle.registers.specs.Bounds.{vertexFits, figureFits}
+use Rattle.registers.specs.Refusal.{isInit, isParm, isAbove, refusalOf, next}
+use Rattle.registers.proofs.Truth.{both, chosen}
+use Rattle.registers.proofs.Table.{everywhere}
+use Rattle.registers.proofs.Parking.{parm-more, parm-last}
+use Rattle.registers.proofs.Refusals.{accepted-when}
+use Rattle.registers.proofs.Kept.{Sound, parts, vertices, vertex-fits}
+
+-- ---- parameters are parked until the last has come
+
+module _ (r : Registers) (v : ℕ) where
+  -- a parameter that is not the last is parked, and nothing else changes
+  pub parked-more : r .parked .came + 1 < wants (awaited r) → after r (Parm v) ≡ withParked r (counted (joinedOf (r .parked) v))
+  unfolding after
+  parked-more h = sym (parm-more r v (joinedOf (r .parked) v) refl h)
+
+  -- with the last all take effect
+  pub last-effect : wants (awaited r) ≤ r .parked .came + 1
+      → after r (Parm v) ≡ withParked (effectOf r (awaited r) (joinedOf (r .parked) v .values)) nothingAwaited
+  unfolding after
+  last-effect h = sym (parm-last r v (joinedOf (r .parked) v) nothingAwaited _ refl h refl refl)
+
+  -- and nothing is parked any more
+  pub last-cleared : wants (awaited r) ≤ r .parked .came + 1 → after r (Parm v) .parked ≡ nothingAwaited
+  last-cleared h = ap (λ (k : Registers). k .parked) (last-effect h)
+
+-- ---- INIT
+
+module _ (r : Registers) (d : ℕ) where
+  -- after INIT no figure is open
+  pub init-closes : after r (Init d) .figure ≡ noFigure
+  unfolding after settings
+  init-closes = refl
+
+  -- nothing is awaited
+  pub init-clears : after r (Init d) .parked ≡ nothingAwaited
+  unfolding after settings
+  init-clears = refl
+
+  -- the I enable is off
+  pub init-ienable : penOf (after r (Init d)) .ienable ≡ false
+  unfolding after settings
+  init-ienable = refl
+
+  -- and the Z enable
+  pub init-zenable : penOf (after r (Init d)) .zenable ≡ false
+  unfolding after settings
+  init-zenable = refl
+
+-- ---- figures
+
+module _ (r : Registers) (n : ℕ) where
+  -- T1X keeps its vertex as the only one of a strip
+  pub strip-opened : after r (At T1x n) .figure ≡ opened 1 (vertexOf r n)
+  unfolding after coordinateOf
+  strip-opened = refl
+
+  -- T2X keeps its vertex as the only one of a fan
+  pub fan-opened : after r (At T2x n) .figure ≡ opened 2 (vertexOf r n)
+  unfolding after coordinateOf
+  fan-opened = refl
+
+  -- LX keeps its vertex as the start of a line
+  pub line-opened : after r (At Lx n) .figure ≡ opened 3 (vertexOf r n)
+  unfolding after coordinateOf
+  line-opened = refl
+
+  -- with END 1 no figure is open after a segment
+  pub end-closes : shapeOf (r .figure .shape) ≡ Line → isOn endBit (r .modes .lstatus) ≡ true → figureAfter r n ≡ noFigure
+  unfolding grownOf
+  end-closes s e = rw (s, e)
+
+  -- whether X ends it
+  pub x-closes : shapeOf (r .figure .shape) ≡ Line → isOn endBit (r .modes .lstatus) ≡ true → after r (At X n) .figure ≡ noFigure
+  unfolding after coordinateOf
+  x-closes = end-closes
+
+  -- or PX
+  pub px-closes : shapeOf (r .figure .shape) ≡ Line → isOn endBit (r .modes .lstatus) ≡ true → after r (At Px n) .figure ≡ noFigure
+  unfolding after coordinateOf
+  px-closes = end-closes
+
+-- ---- one record for one state
+
+-- with nothing awaited nothing is parked, and places of parameters that have not come are 0
+pub record TidyParked (p : Parked) : Type 0 where
+  pub nothing : p .subcommand ≡ 13 → p ≡ nothingAwaited
+  pub ahead : (k : ℕ) → p .came ≤ k → value (p .values) k ≡ 0
+
+-- a closed figure has no vertex, and one with a single vertex has no second
+pub record TidyFigure (f : Figure) : Type 0 where
+  pub closed : f .shape ≡ 0 → f ≡ noFigure
+  pub single : isPair f ≡ false → f .second ≡ noVertex
+
+-- a record in which nothing stands that no word will read
+pub record Tidy (r : Registers) : Type 0 where
+  pub parked : TidyParked (r .parked)
+  pub figure : TidyFigure (r .figure)
+
+tidy-awaiting : (n : ℕ) → (n ≡ 13 → awaiting n ≡ nothingAwaited) → TidyParked (awaiting n)
+tidy-awaiting n e =
+    record { nothing = e; ahead = λ k h. everywhere (λ i x. x ≡ 0) 0 (awaiting n .values) (refl, (refl, (refl, (refl, (refl, tt))))) (λ i l. refl) k }
+
+tidy-nothing : TidyParked nothingAwaited
+tidy-nothing = tidy-awaiting 13 (λ e. refl)
+
+tidy-none : TidyFigure noFigure
+tidy-none = record { closed = λ e. refl; single = λ e. refl }
+
+tidy-open : (shape : ℕ) (v : Vertex) → (shape ≡ 0 → ⊥) → TidyFigure (opened shape v)
+tidy-open shape v ne = record { closed = λ e. absurd (ne e); single = λ e. refl }
+
+tidy-pair : (shape : ℕ) (a b : Vertex) → (shape ≡ 0 → ⊥) → TidyFigure (paired shape a b)
+tidy-pair shape a b ne = record { closed = λ e. absurd (ne e); single = λ e. absurd (true≢false e) }
+
+tidy-grown : (shape : Shape) (end : Bool) (f : Figure) (v : Vertex) → TidyFigure f → TidyFigure (grownOf shape end f v)
+unfolding grownOf
+tidy-grown Closed end f v t = t
+tidy-grown Strip end f v t = chosen TidyFigure (isPair f) _ _ (λ p. tidy-pair 1 (f .second) v (λ e. omega (arith, e))) (λ p. tidy-pair 1 (f .first) v (λ e. omega (arith, e)))
+tidy-grown Fan end f v t = tidy-pair 2 (f .first) v (λ e. omega (arith, e))
+tidy-grown Line end f v t = chosen TidyFigure end _ _ (λ p. tidy-none) (λ p. tidy-open 3 v (λ e. omega (arith, e)))
+
+tidy-counted : (p : Parked) (v : ℕ) → p .came + 1 < wants (subcommandOf (p .subcommand)) → TidyParked p → TidyParked (counted (joinedOf p v))
+unfolding subcommandOf
+tidy-counted p v h t =
+    record {
+      nothing = λ e. let l : p .came + 1 < 0 = subst (λ (n : ℕ). p .came + 1 < wants (subcommandOf n)) e h in absurd (omega (arith, l));
+      ahead = λ k l. getD-set-other (p .values) (p .came) k v 0 (λ e. absurd (omega (arith, l, e))) ∙ t .ahead k (omega (arith, l));
+    }
+
+-- parameters open and close no figure
+pub effect-figure : (r : Registers) (s : Subcommand) (l : List ℕ) → effectOf r s l .figure ≡ r .figure
+unfolding effectOf
+effect-figure r Nothing l = refl
+effect-figure r Pmode l = refl
+effect-figure r Lmode l = refl
+effect-figure r Zcontrol l = refl
+effect-figure r Hcontrol l = refl
+effect-figure r Tpattern l = refl
+effect-figure r Win l = refl
+effect-figure r Color l = refl
+effect-figure r Lpattern l = refl
+effect-figure r Mask l = refl
+effect-figure r Lstatus l = refl
+
+module _ (r : Registers) (t : Tidy r) where
+  tidy-coordinate : (c : Coordinate) (n : ℕ) → Tidy (coordinateOf r c n)
+  unfolding coordinateOf
+  tidy-coordinate I n = record { parked = t .parked; figure = t .figure }
+  tidy-coordinate Z n = record { parked = t .parked; figure = t .figure }
+  tidy-coordinate Y n = record { parked = t .parked; figure = t .figure }
+  tidy-coordinate X n = record { parked = t .parked; figure = tidy-grown (shapeOf (r .figure .shape)) _ (r .figure) (vertexOf r n) (t .figure) }
+  tidy-coordinate T1x n = record { parked = t .parked; figure = tidy-open 1 (vertexOf r n) (λ e. omega (arith, e)) }
+  tidy-coordinate T2x n = record { parked = t .parked; figure = tidy-open 2 (vertexOf r n) (λ e. omega (arith, e)) }
+  tidy-coordinate Lx n = record { parked = t .parked; figure = tidy-open 3 (vertexOf r n) (λ e. omega (arith, e)) }
+  tidy-coordinate Px n = record { parked = t .parked; figure = tidy-grown (shapeOf (r .figure .shape)) _ (r .figure) (vertexOf r n) (t .figure) }
+
+  tidy-parm : (v : ℕ) → Tidy (parmOf r v)
+  unfolding parmOf
+  tidy-parm v =
+      chosen Tidy (ltb (r .parked .came + 1) (wants (awaited r))) _ _
+      (λ e. record { parked = tidy-counted (r .parked) v (ltb-true _ _ e) (t .parked); figure = t .figure })
+      (λ e. record { parked = tidy-nothing; figure = subst TidyFigure (sym (effect-figure r (awaited r) _)) (t .figure) })
+
+  tidy-after : (w : Word) → isAbove w ≡ false → Tidy (after r w)
+  unfolding after settings
+  tidy-after (Init d) a = record { parked = tidy-nothing; figure = tidy-none }
+  tidy-after (Aux n) a = record { parked = tidy-awaiting n (λ e. absurd (omega (arith, e, ltb-false 12 n a))); figure = t .figure }
+  tidy-after (Parm v) a = tidy-parm v
+  tidy-after (At c n) a = tidy-coordinate c n
+  tidy-after Reserved a = t
+  tidy-after Unmodelled a = t
+  tidy-after Unknown a = t
+
+  -- no word leaves in a tidy record what no word will read
+  pub next-tidy : (ni nz : ℕ) (w : Word) → Tidy (next ni nz r w)
+  unfolding next
+  next-tidy ni nz w =
+      chosen Tidy (eqb (refusalOf ni nz r w) 0) (after r w) r (λ e. tidy-after w (accepted-when ni nz r w .0 (eqb-true _ _ e) .listed)) (λ e. t)
+
+-- nor does reset
+pub reset-tidy : Tidy resetOf
+unfolding settings
+reset-tidy = record { parked = tidy-nothing; figure = tidy-none }
+
+-- ---- the write enables
+
+effect-hcontrol : (r : Registers) (s : Subcommand) (l : List ℕ) → (s ≡ Hcontrol → ⊥) → effectOf r s l .modes .hcontrol ≡ r .modes .hcontrol
+unfolding effectOf
+effect-hcontrol r Nothing l h = refl
+effect-hcontrol r Pmode l h = refl
+effect-hcontrol r Lmode l h = refl
+effect-hcontrol r Zcontrol l h = refl
+effect-hcontrol r Hcontrol l h = absurd (h refl)
+effect-hcontrol r Tpattern l h = refl
+effect-hcontrol r Win l h = refl
+effect-hcontrol r Color l h = refl
+effect-hcontrol r Lpattern l h = refl
+effect-hcontrol r Mask l h = refl
+effect-hcontrol r Lstatus l h = refl
+
+coordinate-hcontrol : (r : Registers) (c : Coordinate) (n : ℕ) → coordinateOf r c n .modes .hcontrol ≡ r .modes .hcontrol
+unfolding coordinateOf
+coordinate-hcontrol r I n = refl
+coordinate-hcontrol r Z n = refl
+coordinate-hcontrol r Y n = refl
+coordinate-hcontrol r X n = refl
+coordinate-hcontrol r T1x n = refl
+coordinate-hcontrol r T2x n = refl
+coordinate-hcontrol r Lx n = refl
+coordinate-hcontrol r Px n = refl
+
+parm-hcontrol : (r : Registers) (v : ℕ) → (awaited r ≡ Hcontrol → ⊥) → parmOf r v .modes .hcontrol ≡ r .modes .hcontrol
+unfolding parmOf
+parm-hcontrol r v h =
+    chosen (λ (k : Registers). k .modes .hcontrol ≡ r .modes .hcontrol) (ltb (r .parked .came + 1) (wants (awaited r))) _ _ (λ e. refl) (λ e. effect-hcontrol r (awaited r) _ h)
+
+-- a word that is neither the parameter of HCONTROL nor INIT leaves the hardware bits, and with them both write enables, as they were
+pub hcontrol-alone : (r : Registers) (w : Word) → (isParm w ≡ true → awaited r ≡ Hcontrol → ⊥) → isInit w ≡ false
+    → after r w .modes .hcontrol ≡ r .modes .hcontrol
+unfolding after
+hcontrol-alone r (Init d) h i = absurd (true≢false i)
+hcontrol-alone r (Aux n) h i = refl
+hcontrol-alone r (Parm v) h i = parm-hcontrol r v (h refl)
+hcontrol-alone r (At c n) h i = coordinate-hcontrol r c n
+hcontrol-alone r Reserved h i = refl
+hcontrol-alone r Unmodelled h i = refl
+hcontrol-alone r Unknown h i = refl
+
+-- INIT sets the hardware bits to 0
+pub hcontrol-init : (r : Registers) (d : ℕ) → after r (Init d) .modes .hcontrol ≡ 0
+unfolding after settings
+hcontrol-init r d = refl
+
+-- ---- what is drawn
+
+-- a vertex whose coordinates are at most 8191
+pub record Near (v : Vertex) : Type 0 where
+  pub across : v .x ≤ 8191
+  pub up : v .y ≤ 8191
+
+-- all vertices of a completed figure are such
+abbrev pub AllNear : Completed → Type 0
+AllNear None = Unit {0}
+AllNear (Triangle a b c) = Near a × Near b × Near c
+AllNear (Segment a b) = Near a × Near b
+
+near : (v : Vertex) → vertexFits v ≡ true → Near v
+unfolding vertexFits
+near v h = let q = both (isCoordinate (v .x)) (isCoordinate (v .y)) h in record { across = leb-true _ _ (q .0); up = leb-true _ _ (q .1) }
+
+triangle-near : (f : Figure) (v : Vertex) → figureFits f ≡ true → vertexFits v ≡ true → AllNear (cond (isPair f) (Triangle (f .first) (f .second) v) None)
+triangle-near f v h k = let q = vertices f h in chosen AllNear (isPair f) _ _ (λ t. (near (f .first) (q .0), near (f .second) (q .1), near v k)) (λ t. tt)
+
+completes-near : (shape : Shape) (inv : Bool) (f : Figure) (v : Vertex) → figureFits f ≡ true → vertexFits v ≡ true → AllNear (completes shape inv f v)
+unfolding completes
+completes-near Closed inv f v h k = tt
+completes-near Strip inv f v h k = triangle-near f v h k
+completes-near Fan inv f v h k = triangle-near f v h k
+completes-near Line inv f v h k = chosen AllNear inv _ _ (λ t. tt) (λ t. (near (f .first) (vertices f h .0), near v k))
+
+module _ (r : Registers) (s : Sound r) where
+  vertex-near : (n : ℕ) → isCoordinate n ≡ true → AllNear (vertexCompletes r n)
+  vertex-near n h = completes-near (shapeOf (r .figure .shape)) _ (r .figure) (vertexOf r n) (s .figure) (vertex-fits r s n h)
+
+  coordinate-near : (c : Coordinate) (n : ℕ) → coordinateAllowed c n ≡ true → AllNear (coordinateCompletes r c n)
+  unfolding coordinateCompletes
+  coordinate-near I n h = tt
+  coordinate-near Z n h = tt
+  coordinate-near Y n h = tt
+  coordinate-near X n h = vertex-near n h
+  coordinate-near T1x n h = tt
+  coordinate-near T2x n h = tt
+  coordinate-near Lx n h = tt
+  coordinate-near Px n h = vertex-near n h
+
+  word-near : (w : Word) → allowed r w ≡ true → AllNear (completedBy r w)
+  unfolding completedBy
+  word-near (Init d) h = tt
+  word-near (Aux n) h = tt
+  word-near (Parm v) h = tt
+  word-near (At c n) h = coordinate-near c n h
+  word-near Reserved h = tt
+  word-near Unmodelled h = tt
+  word-near Unknown h = tt
+
+-- the vertices of what an accepted word completes have coordinates of at most 8191
+pub completed-near : (ni nz : ℕ) (r : Registers) (w : Word) → refusalOf ni nz r w ≡ 0 → AllNear (completedBy r w)
+completed-near ni nz r w e = let a = accepted-when ni nz r w .0 e in word-near r (parts r (a .sound)) w (a .valued)
