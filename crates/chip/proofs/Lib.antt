@@ -1,3 +1,4 @@
 pub mod Figures
 pub mod Words
 pub mod Streams
+pub mod Demands

@@ -1,2 +1,3 @@
 pub mod Chip
 pub mod Stream
+pub mod Demands
