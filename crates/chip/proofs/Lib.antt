@@ -2,3 +2,4 @@ pub mod Figures
 pub mod Words
 pub mod Streams
 pub mod Demands
+pub mod Laws

@@ -206,21 +206,39 @@ module _ {W R M : Type 0} (step : Step W R M) where
   always-along h [] a = tt
   always-along h (w ∷ ws) a = (λ goes. h (a .registers) w (a .memories), always-along h ws (advance step a w))
 
+  -- what an accepted word keeps, one word more keeps
+  advance-keeps : (P : R → M → Type 0) (a : Ran R M) (w : W)
+      → (a .refusal ≡ 0 → step (a .registers) w (a .memories) .refusal ≡ 0 → P (step (a .registers) w (a .memories) .registers) (step (a .registers) w (a .memories) .memories))
+      → P (a .registers) (a .memories) → P (advance step a w .registers) (advance step a w .memories)
+  advance-keeps P a w each p = go (comes a w)
+    where
+      moved : (b : Ran R M) → advance step a w ≡ b → P (b .registers) (b .memories) → P (advance step a w .registers) (advance step a w .memories)
+      moved b e q = subst (λ (c : Ran R M). P (c .registers) (c .memories)) (sym e) q
+
+      go : Comes a w → P (advance step a w .registers) (advance step a w .memories)
+      go (took e f) = moved _ (advance-accepted a w e f) (each e f)
+      go (halted e f) = moved _ (advance-refused a w e f) p
+      go (stood e) = moved _ (advance-stays a w e) p
+
   -- what every accepted word keeps, a run keeps
   pub run-keeps : (P : R → M → Type 0) (ok : R → W → M → Type 0)
       → ((r : R) (w : W) (m : M) → ok r w m → step r w m .refusal ≡ 0 → P r m → P (step r w m .registers) (step r w m .memories))
       → (ws : List W) (a : Ran R M) → Along step ok a ws → P (a .registers) (a .memories)
       → P (runFrom step a ws .registers) (runFrom step a ws .memories)
   run-keeps P ok each [] a h p = p
-  run-keeps P ok each (w ∷ ws) a h p = run-keeps P ok each ws (advance step a w) (h .1) (go (comes a w))
-    where
-      moved : (b : Ran R M) → advance step a w ≡ b → P (b .registers) (b .memories) → P (advance step a w .registers) (advance step a w .memories)
-      moved b e q = subst (λ (c : Ran R M). P (c .registers) (c .memories)) (sym e) q
+  run-keeps P ok each (w ∷ ws) a h p =
+      run-keeps P ok each ws (advance step a w) (h .1) (advance-keeps P a w (λ e f. each (a .registers) w (a .memories) (h .0 e) f p) p)
 
-      go : Comes a w → P (advance step a w .registers) (advance step a w .memories)
-      go (took e f) = moved _ (advance-accepted a w e f) (each (a .registers) w (a .memories) (h .0 e) f p)
-      go (halted e f) = moved _ (advance-refused a w e f) p
-      go (stood e) = moved _ (advance-stays a w e) p
+  -- and it may be used at each of its words
+  pub along-with : (P : R → Type 0) (ok also : R → W → M → Type 0) → ((r : R) (w : W) (m : M) → P r → ok r w m → also r w m)
+      → ((r : R) (w : W) (m : M) → P r → ok r w m → step r w m .refusal ≡ 0 → P (step r w m .registers))
+      → (ws : List W) (a : Ran R M) → P (a .registers) → Along step ok a ws → Along step also a ws
+  along-with P ok also gives keeps [] a p h = tt
+  along-with P ok also gives keeps (w ∷ ws) a p h = (
+    λ goes. gives (a .registers) w (a .memories) p (h .0 goes),
+    along-with P ok also gives keeps ws (advance step a w)
+    (advance-keeps (λ r m. P r) a w (λ e f. keeps (a .registers) w (a .memories) p (h .0 e) f) p) (h .1),
+  )
 
   -- what every word leaves of the memories, a run leaves
   pub run-leaves : {A : Type 0} (f : M → A) (ok : R → W → M → Type 0) → ((r : R) (w : W) (m : M) → ok r w m → f (step r w m .memories) ≡ f m)
