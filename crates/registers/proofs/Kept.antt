@@ -1,13 +1,13 @@
 -- No record that reset and words leave breaks a bound (document 01, number 2). Reset and INIT set what is in bounds; any other accepted word
 -- replaces one part of the record, by values that were allowed. Assumes nothing.
-use mathlib.Core.Path.{_≡_, refl}
-use mathlib.Core.Bool.{Bool, true, false, not, _||_, or-true}
+use mathlib.Core.Path.{_≡_, refl, sym, _∙_}
+use mathlib.Core.Bool.{Bool, true, false, not, _||_, or-true, false≢true}
 use mathlib.Core.List.{List, [], _∷_}
 use Prim.Native.Nat.{ℕ, zero, suc, _+_, _-_, _≤_, _<_}
 use native.Mathlib.Omega.{arith}
 use lib.Dec.{leb, ltb, eqb, leb·zero}
 use lib.ListN.{set}
-use borrow.Author.Tests.{lt-ltb, ltb-true, le-leb, leb-true, ne-eqb, eqb-true, eqb-false, not-true}
+use borrow.Author.Tests.{lt-ltb, ltb-true, le-leb, leb-true, eq-eqb, ne-eqb, eqb-true, eqb-false, not-true}
 use Rattle.picture.specs.declared.Vertex.{Vertex}
 use Rattle.registers.specs.declared.word.Word.{Word}
 use Rattle.registers.specs.declared.word.Word.the-variants.{Init, Aux, Parm, At, Reserved, Unmodelled, Unknown}
@@ -31,11 +31,11 @@ use Rattle.registers.specs.Figure.{shapeOf, vertexOf, isPair, grownOf, f
 use Rattle.registers.specs.Next.{value, awaited, joinedOf, counted, effectOf, parmOf, coordinateOf, after}
 use Rattle.registers.specs.Allowed.{isCoordinate, isBorder, onlyBits, initAllowed, parameterAllowed, coordinateAllowed, allowed}
 use Rattle.registers.specs.Bounds.{frameFits, modesFit, windowFits, vertexFits, figureFits, valuesFit, parkedFits, inBounds}
-use Rattle.registers.specs.Refusal.{isUnmodelled, isAbove, refusalOf, next}
+use Rattle.registers.specs.Refusal.{isUnmodelled, isAbove, isUnfit, refusalOf, next}
 use Rattle.registers.proofs.Truth.{and-both, All, chain-all, all-chain, chosen}
 use Rattle.registers.proofs.Table.{everywhere}
 use Rattle.registers.proofs.Lengths.{line-fits}
-use Rattle.registers.proofs.Refusals.{Accepted, accepted-when}
+use Rattle.registers.proofs.Refusals.{Accepted, accepted-when, given-2}
 
 -- ---- the bounds, part by part
 
@@ -359,3 +359,10 @@ module _ (ni nz : ℕ) (r : Registers) where
     pub next-kept : inBounds r ≡ true → inBounds (next ni nz r w) ≡ true
     unfolding next
     next-kept h = chosen (λ k. inBounds k ≡ true) (eqb (refusalOf ni nz r w) 0) (after r w) r (λ t. after-kept (eqb-true _ _ t)) (λ t. h)
+
+-- over memories of one length a record that breaks no bound never gets 2
+pub kept-fit : (n : ℕ) (r : Registers) (w : Word) → inBounds r ≡ true → refusalOf n n r w ≡ 2 → ⊥
+kept-fit n r w h e = false≢true (sym fit ∙ given-2 n n r w .0 e .0)
+  where
+    fit : isUnfit n n r ≡ false
+    fit = rw (eq-eqb n n refl, h)
