@@ -1,5 +1,5 @@
--- What words leave in the record: what is no longer parked or open is cleared, so that one state has one record; INIT turns both write
--- enables off, and HCONTROL alone turns one on. And the vertices of what a word completes. Assumes nothing.
+-- What words leave in the record: what is no longer parked or open is cleared; INIT turns both write enables off, and HCONTROL alone turns
+-- one on. And the vertices of what a word completes. Assumes nothing.
 use mathlib.Core.Path.{_≡_, refl, sym, ap, _∙_, subst}
 use mathlib.Core.Bool.{Bool, true, false, cond, true≢false}
 use mathlib.Core.List.{List}
@@ -109,7 +109,7 @@ module _ (r : Registers) (n : ℕ) where
   unfolding after coordinateOf
   px-closes = end-closes
 
--- ---- one record for one state
+-- ---- nothing stands parked or open that no word will read
 
 -- with nothing awaited nothing is parked, and places of parameters that have not come are 0
 pub record TidyParked (p : Parked) : Type 0 where
@@ -121,7 +121,7 @@ pub record TidyFigure (f : Figure) : Type 0 where
   pub closed : f .shape ≡ 0 → f ≡ noFigure
   pub single : isPair f ≡ false → f .second ≡ noVertex
 
--- a record in which nothing stands that no word will read
+-- a record with both
 pub record Tidy (r : Registers) : Type 0 where
   pub parked : TidyParked (r .parked)
   pub figure : TidyFigure (r .figure)
@@ -201,13 +201,13 @@ module _ (r : Registers) (t : Tidy r) where
   tidy-after Unmodelled a = t
   tidy-after Unknown a = t
 
-  -- no word leaves in a tidy record what no word will read
+  -- words keep a record tidy
   pub next-tidy : (ni nz : ℕ) (w : Word) → Tidy (next ni nz r w)
   unfolding next
   next-tidy ni nz w =
       chosen Tidy (eqb (refusalOf ni nz r w) 0) (after r w) r (λ e. tidy-after w (accepted-when ni nz r w .0 (eqb-true _ _ e) .listed)) (λ e. t)
 
--- nor does reset
+-- and reset leaves a tidy one
 pub reset-tidy : Tidy resetOf
 unfolding settings
 reset-tidy = record { parked = tidy-nothing; figure = tidy-none }

@@ -1,13 +1,13 @@
 -- No record that reset and words leave breaks a bound (document 01, number 2). Reset and INIT set what is in bounds; any other accepted word
 -- replaces one part of the record, by values that were allowed. Assumes nothing.
-use mathlib.Core.Path.{_≡_, refl}
-use mathlib.Core.Bool.{Bool, true, false, not, _||_, or-true}
+use mathlib.Core.Path.{_≡_, refl, sym, _∙_}
+use mathlib.Core.Bool.{Bool, true, false, not, _||_, or-true, false≢true}
 use mathlib.Core.List.{List, [], _∷_}
 use Prim.Native.Nat.{ℕ, zero, suc, _+_, _-_, _≤_, _<_}
 use native.Mathlib.Omega.{arith}
 use lib.Dec.{leb, ltb, eqb, leb·zero}
 use lib.ListN.{set}
-use borrow.Author.Tests.{lt-ltb, ltb-true, le-leb, leb-true, ne-eqb, eqb-true, eqb-false, not-true}
+use borrow.Author.Tests.{lt-ltb, ltb-true, le-leb, leb-true, eq-eqb, ne-eqb, eqb-true, eqb-false, not-true}
 use Rattle.picture.specs.declared.Vertex.{Vertex}
 use Rattle.registers.specs.declared.word.Word.{Word}
 use Rattle.registers.specs.declared.word.Word.the-variants.{Init, Aux, Parm, At, Reserved, Unmodelled, Unknown}
@@ -25,17 +25,17 @@ use Rattle.registers.specs.declared.Figure.{Figure}
 use Rattle.registers.specs.declared.Parked.{Parked}
 use Rattle.registers.specs.declared.Registers.{Registers}
 use Rattle.registers.specs.Lines.{chipsIn, unitIn, pageIn, codeIn, lineOf}
-use Rattle.registers.specs.Record.{noVertex, opened, invBit, frameOf, awaiting, nothingAwaited, window, settings, resetOf, initOf, withPmode, withLmode, withZcontrol, withHcontrol, withLstatus, withModes, withWindow, withDash, withLatch, withFigure, withParked}
+use Rattle.registers.specs.Record.{noVertex, opened, invBit, frameOf, awaiting, nothingAwaited, window, settings, resetOf, initOf, withPmode, withLmode, withZcontrol, withHcontrol, withLstatus, withTransparency, withPlanes, withModes, withWindow, withDash, withLatch, withFigure, withParked}
 use Rattle.registers.specs.Subcommand.{subcommands, subcommandOf, wants}
 use Rattle.registers.specs.Figure.{shapeOf, vertexOf, isPair, grownOf, figureAfter}
 use Rattle.registers.specs.Next.{value, awaited, joinedOf, counted, effectOf, parmOf, coordinateOf, after}
 use Rattle.registers.specs.Allowed.{isCoordinate, isBorder, onlyBits, initAllowed, parameterAllowed, coordinateAllowed, allowed}
 use Rattle.registers.specs.Bounds.{frameFits, modesFit, windowFits, vertexFits, figureFits, valuesFit, parkedFits, inBounds}
-use Rattle.registers.specs.Refusal.{isUnmodelled, isAbove, refusalOf, next}
+use Rattle.registers.specs.Refusal.{isUnmodelled, isAbove, isUnfit, refusalOf, next}
 use Rattle.registers.proofs.Truth.{and-both, All, chain-all, all-chain, chosen}
 use Rattle.registers.proofs.Table.{everywhere}
 use Rattle.registers.proofs.Lengths.{line-fits}
-use Rattle.registers.proofs.Refusals.{Accepted, accepted-when}
+use Rattle.registers.proofs.Refusals.{Accepted, accepted-when, given-2}
 
 -- ---- the bounds, part by part
 
@@ -122,8 +122,11 @@ module _ (m : Modes) (h : modesFit m ≡ true) where
   lstatus-fits v e = modes-fit (withLstatus m v) (each .0, (each .1 .0, (each .1 .1 .0, (each .1 .1 .1 .0, (e, tt)))))
 
   -- the two that any number may be
-  free-fits : (transparency planes : ℕ) → modesFit (record { pmode = m .pmode; lmode = m .lmode; zcontrol = m .zcontrol; hcontrol = m .hcontrol; lstatus = m .lstatus; transparency = transparency; planes = planes }) ≡ true
-  free-fits transparency planes = modes-fit _ each
+  transparency-fits : (v : ℕ) → modesFit (withTransparency m v) ≡ true
+  transparency-fits v = modes-fit (withTransparency m v) each
+
+  planes-fits : (v : ℕ) → modesFit (withPlanes m v) ≡ true
+  planes-fits v = modes-fit (withPlanes m v) each
 
 -- ---- parameters
 
@@ -206,11 +209,11 @@ effect-sound r Pmode l h a f = sound-modes h _ (pmode-fits (r .modes) (h .modes)
 effect-sound r Lmode l h a f = sound-modes h _ (lmode-fits (r .modes) (h .modes) (value l 0) a)
 effect-sound r Zcontrol l h a f = sound-modes h _ (zcontrol-fits (r .modes) (h .modes) (value l 0) a)
 effect-sound r Hcontrol l h a f = sound-modes h _ (hcontrol-fits (r .modes) (h .modes) (value l 0) a)
-effect-sound r Tpattern l h a f = sound-modes h _ (free-fits (r .modes) (h .modes) (value l 0) (r .modes .planes))
+effect-sound r Tpattern l h a f = sound-modes h _ (transparency-fits (r .modes) (h .modes) (value l 0))
 effect-sound r Win l h a f = sound-window h _ (borders-fit l f)
 effect-sound r Color l h a f = sound-dash h _
 effect-sound r Lpattern l h a f = sound-dash h _
-effect-sound r Mask l h a f = sound-modes h _ (free-fits (r .modes) (h .modes) (r .modes .transparency) (value l 0))
+effect-sound r Mask l h a f = sound-modes h _ (planes-fits (r .modes) (h .modes) (value l 0))
 effect-sound r Lstatus l h a f = sound-modes h _ (lstatus-fits (r .modes) (h .modes) (value l 0) a)
 
 -- ---- what is awaited
@@ -239,20 +242,23 @@ aux-fits n m a =
 
 -- one more has come
 module _ (p : Parked) (h : parkedFits p ≡ true) (v : ℕ) (a : parameterAllowed (subcommandOf (p .subcommand)) (p .came) v ≡ true) where
-  each-parked : All ((eqb (p .subcommand) 13 || ltb 0 (wants (subcommandOf (p .subcommand)))) ∷ leb (p .came) (wants (subcommandOf (p .subcommand)) - 1) ∷ valuesFit (subcommandOf (p .subcommand)) (p .values) ∷ [])
+  abbrev kind : Subcommand
+  kind = subcommandOf (p .subcommand)
+
+  each-parked : All ((eqb (p .subcommand) 13 || ltb 0 (wants kind)) ∷ leb (p .came) (wants kind - 1) ∷ valuesFit kind (p .values) ∷ [])
   unfolding parkedFits
-  each-parked = chain-all (eqb (p .subcommand) 13 || ltb 0 (wants (subcommandOf (p .subcommand)))) (_ ∷ _ ∷ []) h
+  each-parked = chain-all (eqb (p .subcommand) 13 || ltb 0 (wants kind)) (_ ∷ _ ∷ []) h
 
-  joined-values : valuesFit (subcommandOf (p .subcommand)) (set (p .values) (p .came) v) ≡ true
-  joined-values = values-set (subcommandOf (p .subcommand)) (p .values) (p .came) v a (each-parked .1 .1 .0)
+  joined-values : valuesFit kind (set (p .values) (p .came) v) ≡ true
+  joined-values = values-set kind (p .values) (p .came) v a (each-parked .1 .1 .0)
 
-  joined-first : parameterAllowed (subcommandOf (p .subcommand)) 0 (value (set (p .values) (p .came) v) 0) ≡ true
-  joined-first = first-allowed (subcommandOf (p .subcommand)) (p .values) (p .came) v (leb-true _ _ (each-parked .1 .0)) joined-values a
+  joined-first : parameterAllowed kind 0 (value (set (p .values) (p .came) v) 0) ≡ true
+  joined-first = first-allowed kind (p .values) (p .came) v (leb-true _ _ (each-parked .1 .0)) joined-values a
 
-  counted-fits : p .came + 1 < wants (subcommandOf (p .subcommand)) → parkedFits (counted (joinedOf p v)) ≡ true
+  counted-fits : p .came + 1 < wants kind → parkedFits (counted (joinedOf p v)) ≡ true
   unfolding parkedFits
   counted-fits l =
-      let room : p .came + 1 ≤ wants (subcommandOf (p .subcommand)) - 1 = omega (arith, l) in
+      let room : p .came + 1 ≤ wants kind - 1 = omega (arith, l) in
       and-both (and-both (each-parked .0) (le-leb _ _ room)) joined-values
 
 parm-sound : (r : Registers) (v : ℕ) → Sound r → allowed r (Parm v) ≡ true → Sound (parmOf r v)
@@ -359,3 +365,10 @@ module _ (ni nz : ℕ) (r : Registers) where
     pub next-kept : inBounds r ≡ true → inBounds (next ni nz r w) ≡ true
     unfolding next
     next-kept h = chosen (λ k. inBounds k ≡ true) (eqb (refusalOf ni nz r w) 0) (after r w) r (λ t. after-kept (eqb-true _ _ t)) (λ t. h)
+
+-- over memories of one length a record that breaks no bound never gets 2
+pub kept-fit : (n : ℕ) (r : Registers) (w : Word) → inBounds r ≡ true → refusalOf n n r w ≡ 2 → ⊥
+kept-fit n r w h e = false≢true (sym fit ∙ given-2 n n r w .0 e .0)
+  where
+    fit : isUnfit n n r ≡ false
+    fit = rw (eq-eqb n n refl, h)
