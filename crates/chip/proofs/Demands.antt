@@ -1,11 +1,9 @@
 -- The order's demands 1 and 2, of every outcome that the promises of `step` and `run` allow. Assumes nothing.
 use mathlib.Core.Path.{_≡_, refl, sym, ap, _∙_, subst}
 use mathlib.Core.Logic.{_≢_}
-use mathlib.Core.List.{List, List·Memᴰ}
-use Prim.Native.Nat.{ℕ, _%_, _^_}
-use lib.ListN.{length, getD}
+use mathlib.Core.List.{List}
+use Prim.Native.Nat.{ℕ}
 use borrow.Author.Tests.{eq-eqb, ne-eqb}
-use Rattle.picture.specs.Picture.{Picture}
 use Rattle.picture.specs.Cell.{Cell}
 use Rattle.stream.proofs.Settled.{words-back, bytes-back}
 use Rattle.registers.specs.declared.Registers.{Registers}
@@ -14,7 +12,7 @@ use Rattle.registers.specs.Word.{decode, wordOf}
 use Rattle.machine.specs.Run.{Outcome, Ran, ran, runOf}
 use Rattle.machine.specs.Along.{Stopped}
 use Rattle.machine.specs.Machine.{Memories, memories, stepOf}
-use Rattle.machine.specs.Touched.{cellIn, touchedBy, touchedOf}
+use Rattle.machine.specs.Touched.{cellIn}
 use Rattle.machine.proofs.Steps.{step-number, refused-leaves, accepted-leaves}
 use Rattle.machine.proofs.Runs.{zero-or-not, run-stopped, index-whole}
 use Rattle.machine.proofs.Touched.{step-counts, step-untouched, run-untouched, reset-counts}

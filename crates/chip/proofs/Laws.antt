@@ -1,20 +1,24 @@
 -- What words and runs keep: bounds, places where nothing is drawn, the Z memory under lines of the modes 0 and 1, and both memories while the
 -- enables are off. Assumes nothing.
 use mathlib.Core.Path.{_≡_, refl, sym, ap, _∙_, subst}
-use mathlib.Core.Bool.{Bool, true, false, cond}
-use mathlib.Core.List.{List, [], List·Memᴰ, List·Memᴰ·not-nil}
-use Prim.Native.Nat.{ℕ, zero, suc, _+_, _*_, _^_, _≤_, _<_}
+use mathlib.Core.Bool.{true, false, _&&_}
+use mathlib.Core.List.{List, List·Memᴰ, List·Memᴰ·not-nil}
+use Prim.Native.Nat.{ℕ, zero, suc, _+_, _*_, _%_, _^_, _≤_, _<_}
 use native.Mathlib.Nat.{mul-le-mul}
 use native.Mathlib.Omega.{arith}
+use lib.Dec.{leb, eqb}
 use lib.ListN.{length}
-use Rattle.picture.specs.declared.Pen.{Pen}
+use borrow.Author.Tests.{leb-true}
 use Rattle.picture.specs.declared.Vertex.{Vertex}
 use Rattle.picture.specs.Offer.{Offer, offered}
-use Rattle.picture.specs.Picture.{isDeep}
-use Rattle.picture.proofs.Members.{offered-at}
-use Rattle.triangle.proofs.Members.{triangle-member}
-use Rattle.line.specs.declared.Mode.the-variants.{Zero, One, Two}
-use Rattle.line.proofs.Members.{kindOf, segment-member}
+use Rattle.picture.specs.Picture.{isDeep, Picture, picture, drawn}
+use Rattle.picture.proofs.Fold.{drawn-nil}
+use Rattle.picture.proofs.Places.{rows-low}
+use Rattle.picture.proofs.Members.{Member, offered-at}
+use Rattle.triangle.specs.Offers.{kindOf as triangleKind}
+use Rattle.triangle.proofs.Members.{triangle-member, triangle-counts}
+use Rattle.line.specs.Segment.{larger}
+use Rattle.line.proofs.Members.{kindOf, segment-member, segment-counts}
 use Rattle.registers.specs.declared.Registers.{Registers}
 use Rattle.registers.specs.declared.word.Word.{Word}
 use Rattle.registers.specs.declared.word.Word.the-variants.{Init, Aux, Parm, At, Reserved, Unmodelled, Unknown}
@@ -24,23 +28,24 @@ use Rattle.registers.specs.declared.shape.Completed.{Completed}
 use Rattle.registers.specs.declared.shape.Completed.the-variants.{Nothing, Triangle, Segment}
 use Rattle.registers.specs.declared.shape.Shape.the-variants.{Line}
 use Rattle.registers.specs.declared.subcommand.Subcommand.the-variants.{Hcontrol}
-use Rattle.registers.specs.Record.{isOn, invBit, resetOf}
+use Rattle.registers.specs.Record.{isOn, invBit, iBit, zBit, resetOf}
 use Rattle.registers.specs.Figure.{shapeOf, vertexOf, completes, vertexCompletes}
 use Rattle.registers.specs.Next.{awaited, coordinateCompletes, after, completedBy, penOf}
-use Rattle.registers.specs.Bounds.{inBounds}
-use Rattle.registers.specs.Refusal.{isInit, isParm, refusalOf}
-use Rattle.registers.proofs.Truth.{chosen}
-use Rattle.registers.proofs.Kept.{reset-kept, after-kept}
-use Rattle.registers.proofs.Forms.{hcontrol-alone, hcontrol-init}
+use Rattle.registers.specs.Bounds.{frameFits, inBounds}
+use Rattle.registers.specs.Refusal.{isInit, isParm}
+use Rattle.registers.proofs.Truth.{both, chosen}
+use Rattle.registers.proofs.Kept.{parts, reset-kept, after-kept}
+use Rattle.registers.proofs.Refusals.{accepted-when}
+use Rattle.registers.proofs.Forms.{Near, AllNear, completed-near, hcontrol-alone, hcontrol-init}
 use Rattle.machine.specs.Run.{Ran, runFrom, runOf}
 use Rattle.machine.specs.Along.{Along}
-use Rattle.machine.specs.Machine.{Memories, rowsIn, numberOf, stepOf}
+use Rattle.machine.specs.Machine.{Memories, rowsIn, stepOf}
 use Rattle.machine.specs.Promises.{Inside, Above, Off}
 use Rattle.machine.proofs.Runs.{along-with}
 use Rattle.machine.proofs.Steps.{step-either}
 use Rattle.machine.specs.Touched.{cellIn}
 use Rattle.machine.proofs.Touched.{step-above, run-above}
-use Rattle.machine.proofs.Kept.{step-off, step-shallow, run-off, run-invariant}
+use Rattle.machine.proofs.Kept.{step-shallow, run-off, run-invariant}
 use Rattle.chip.specs.Chip.{modeOf, isConstant, styleOf, figureOffers, chip}
 
 -- ---- bounds
@@ -55,20 +60,26 @@ run-kept ws m = run-invariant chip ws _ (λ r. inBounds r ≡ true) (λ r w k e 
 
 -- ---- where pixels lie
 
+-- each offer of a triangle, and of a segment; its numbers are no greater than all of theirs together
+triangle-offer : (rows : ℕ) (r : Registers) (a b c : Vertex) (o : Offer) → List·Memᴰ o (figureOffers rows r (Triangle a b c))
+    → Member (penOf r) rows (triangleKind (isConstant r)) (a .i + a .z + (b .i + b .z) + (c .i + c .z)) o
+unfolding figureOffers
+triangle-offer rows r a b c =
+    triangle-member (penOf r) rows (isConstant r) a b c _ (record { i = omega arith; z = omega arith }) (record { i = omega arith; z = omega arith })
+    (record { i = omega arith; z = omega arith })
+
+segment-offer : (rows : ℕ) (r : Registers) (a b : Vertex) (o : Offer) → List·Memᴰ o (figureOffers rows r (Segment a b))
+    → Member (penOf r) rows (kindOf (modeOf (r .modes .lmode))) (a .i + a .z + (b .i + b .z) + (r .dash .foreground + r .dash .background)) o
+unfolding figureOffers
+segment-offer rows r a b =
+    segment-member (penOf r) rows (styleOf r) a b _ (record { i = omega arith; z = omega arith }) (record { i = omega arith; z = omega arith }) (omega arith) (omega arith)
+
 -- each offer of a completed figure is offered, in document 01's sense
 pub figure-offered : (rows : ℕ) (r : Registers) (f : Completed) (o : Offer) → List·Memᴰ o (figureOffers rows r f) → offered (penOf r) rows o ≡ true
 unfolding figureOffers
 figure-offered rows r Nothing o u = absurd (List·Memᴰ·not-nil u)
-figure-offered rows r (Triangle a b c) o u =
-    let n = a .i + a .z + (b .i + b .z) + (c .i + c .z) in
-    triangle-member (penOf r) rows (isConstant r) a b c n (record { i = omega arith; z = omega arith }) (record { i = omega arith; z = omega arith })
-    (record { i = omega arith; z = omega arith }) o u
-    .is-offered
-figure-offered rows r (Segment a b) o u =
-    let n = a .i + a .z + (b .i + b .z) + (r .dash .foreground + r .dash .background) in
-    segment-member (penOf r) rows (styleOf r) a b n (record { i = omega arith; z = omega arith }) (record { i = omega arith; z = omega arith })
-    (omega arith) (omega arith) o u
-    .is-offered
+figure-offered rows r (Triangle a b c) o u = triangle-offer rows r a b c o u .is-offered
+figure-offered rows r (Segment a b) o u = segment-offer rows r a b o u .is-offered
 
 -- every pixel that the chip offers has x below the line length, and lies in a row in use
 pub inside : Inside chip
@@ -86,37 +97,116 @@ run-beyond ws a at = run-above chip ws a at inside
 -- ---- lines of the modes 0 and 1
 
 -- while a line is open, a word completes a segment of it or nothing
-line-completes : (P : Completed → Type 0) (r : Registers) → shapeOf (r .figure .shape) ≡ Line → P Nothing → ((a b : Vertex) → P (Segment a b))
-    → (w : Word) → P (completedBy r w)
-unfolding completedBy coordinateCompletes
-line-completes P r e none some (Init d) = none
-line-completes P r e none some (Aux n) = none
-line-completes P r e none some (Parm v) = none
-line-completes P r e none some (At c n) = coordinate c
-  where
-    vertex : P (vertexCompletes r n)
-    unfolding completes
-    vertex = rw e (chosen P (isOn invBit (r .modes .lstatus)) Nothing (Segment (r .figure .first) (vertexOf r n)) (λ t. none) (λ t. some _ _))
+module _ (P : Completed → Type 0) (r : Registers) (line : shapeOf (r .figure .shape) ≡ Line) (none : P Nothing) (some : (a b : Vertex) → P (Segment a b)) where
+  vertex-completes : (n : ℕ) → P (vertexCompletes r n)
+  unfolding completes
+  vertex-completes n =
+      rw line (chosen P (isOn invBit (r .modes .lstatus)) Nothing (Segment (r .figure .first) (vertexOf r n)) (λ t. none) (λ t. some _ _))
 
-    coordinate : (k : Coordinate) → P (coordinateCompletes r k n)
-    unfolding coordinateCompletes
-    coordinate I = none
-    coordinate Z = none
-    coordinate Y = none
-    coordinate X = vertex
-    coordinate T1x = none
-    coordinate T2x = none
-    coordinate Lx = none
-    coordinate Px = vertex
-line-completes P r e none some Reserved = none
-line-completes P r e none some Unmodelled = none
-line-completes P r e none some Unknown = none
+  coordinate-completes : (c : Coordinate) (n : ℕ) → P (coordinateCompletes r c n)
+  unfolding coordinateCompletes
+  coordinate-completes I n = none
+  coordinate-completes Z n = none
+  coordinate-completes Y n = none
+  coordinate-completes X n = vertex-completes n
+  coordinate-completes T1x n = none
+  coordinate-completes T2x n = none
+  coordinate-completes Lx n = none
+  coordinate-completes Px n = vertex-completes n
 
+  line-completes : (w : Word) → P (completedBy r w)
+  unfolding completedBy
+  line-completes (Init d) = none
+  line-completes (Aux n) = none
+  line-completes (Parm v) = none
+  line-completes (At c n) = coordinate-completes c n
+  line-completes Reserved = none
+  line-completes Unmodelled = none
+  line-completes Unknown = none
+
+-- the modes 0 and 1 have no depth
 flat-mode : (n : ℕ) → n ≤ 1 → isDeep (kindOf (modeOf n)) ≡ false
 unfolding modeOf
 flat-mode zero h = refl
 flat-mode (suc zero) h = refl
 flat-mode (suc (suc n)) h = absurd (omega arith)
 
-flat-offers : (rows : ℕ) (r : Registers) → r .modes .lmode ≤ 1 → (f : Completed) → (o : Offer) → List·Memᴰ o (figureOffers rows r f) → isDeep (o .kind) ≡ false
-flat-offers rows r h f o u = ?
+flat-segment : (rows : ℕ) (r : Registers) → r .modes .lmode ≤ 1 → (a b : Vertex) (o : Offer) → List·Memᴰ o (figureOffers rows r (Segment a b)) → isDeep (o .kind) ≡ false
+unfolding figureOffers
+flat-segment rows r h a b o u = ap isDeep (segment-offer rows r a b o u .of-kind) ∙ flat-mode (r .modes .lmode) h
+
+-- with a line open in line mode 0 or 1 every word leaves the Z memory whole
+pub flat-lines : (r : Registers) (w : Word) (m : Memories) → shapeOf (r .figure .shape) ≡ Line → r .modes .lmode ≤ 1 → stepOf chip r w m .memories .z ≡ m .z
+unfolding figureOffers
+flat-lines r w m line flat =
+    step-shallow chip r w m
+    (line-completes (λ f. (o : Offer) → List·Memᴰ o (figureOffers (rowsIn chip r m) r f) → isDeep (o .kind) ≡ false) r line
+    (λ o u. absurd (List·Memᴰ·not-nil u)) (flat-segment (rowsIn chip r m) r flat) w)
+
+-- ---- while the enables are off
+
+-- both write enables are off
+abbrev pub Disabled : Registers → Type 0
+Disabled r = (isOn iBit (r .modes .hcontrol) ≡ false) × (isOn zBit (r .modes .hcontrol) ≡ false)
+
+-- the word is no parameter of HCONTROL
+abbrev pub Unset : Registers → Word → Memories → Type 0
+Unset r w m = isParm w ≡ true → awaited r ≡ Hcontrol → ⊥
+
+-- after INIT both are off
+pub init-disables : (r : Registers) (d : ℕ) → Disabled (after r (Init d))
+init-disables r d = rw (hcontrol-init r d) (refl, refl)
+
+-- any other word but a parameter of HCONTROL leaves them
+disabled-kept : (r : Registers) (w : Word) → Disabled r → (isParm w ≡ true → awaited r ≡ Hcontrol → ⊥) → isInit w ≡ false → Disabled (after r w)
+disabled-kept r w off unset other =
+    subst (λ (h : ℕ). (isOn iBit h ≡ false) × (isOn zBit h ≡ false)) (sym (hcontrol-alone r w unset other)) off
+
+disabled-after : (r : Registers) (w : Word) → Disabled r → (isParm w ≡ true → awaited r ≡ Hcontrol → ⊥) → Disabled (after r w)
+disabled-after r (Init d) off unset = init-disables r d
+disabled-after r (Aux n) off unset = disabled-kept r (Aux n) off unset refl
+disabled-after r (Parm v) off unset = disabled-kept r (Parm v) off unset refl
+disabled-after r (At c n) off unset = disabled-kept r (At c n) off unset refl
+disabled-after r Reserved off unset = disabled-kept r Reserved off unset refl
+disabled-after r Unmodelled off unset = disabled-kept r Unmodelled off unset refl
+disabled-after r Unknown off unset = disabled-kept r Unknown off unset refl
+
+-- so nothing is stored after INIT until an enable is set: a run that begins with both off, and in which no parameter of HCONTROL comes,
+-- leaves both memories whole
+pub unstored : (ws : List Word) (a : Ran Registers Memories) → Disabled (a .registers) → Along (stepOf chip) Unset a ws → runFrom (stepOf chip) a ws .memories ≡ a .memories
+unstored ws a off unset =
+    run-off chip ws a
+    (along-with (stepOf chip) Disabled Unset (Off chip) (λ r w m p k. p)
+    (λ r w m p k e. step-either chip r w m (λ o. Disabled (o .registers)) (λ n. disabled-after r w p k) (λ n. p)) ws a off unset)
+
+-- ---- how many pixels pass
+
+larger-low : (a b : Vertex) → Near a → Near b → larger a b ≤ 8191
+unfolding larger
+larger-low a b h k = omega (arith, h .across, h .up, k .across, k .up)
+
+line-low : (r : Registers) → inBounds r ≡ true → r .frame .line ≤ 8768
+unfolding frameFits
+line-low r h =
+    let k = both (leb 256 (r .frame .line) && leb (r .frame .line) 8768) (eqb (r .frame .line % 64) 0) (parts r h .frame) in
+    leb-true _ _ (both (leb 256 (r .frame .line)) (leb (r .frame .line) 8768) (k .0) .1)
+
+-- no more than the rows in use have
+figure-counts : (rows : ℕ) (r : Registers) (f : Completed) (p : Picture) → AllNear f → rows ≤ 8192 → r .frame .line ≤ 8768
+    → drawn (penOf r) (figureOffers rows r f) p .passed ≤ p .passed + 71827456
+unfolding figureOffers
+figure-counts rows r Nothing p near h k = rw (drawn-nil (penOf r) p) (omega arith)
+figure-counts rows r (Triangle a b c) p near h k =
+    omega (arith, triangle-counts (penOf r) rows (isConstant r) a b c p, mul-le-mul {n₁ = rows} {m₁ = r .frame .line} {n₂ = 8192} {m₂ = 8768} h k)
+figure-counts rows r (Segment a b) p near h k = omega (arith, segment-counts (penOf r) rows (styleOf r) a b p, larger-low a b (near .0) (near .1))
+
+-- the count of one word is below 2 ^ 32
+pub count-low : (r : Registers) (w : Word) (m : Memories) → stepOf chip r w m .passed < 2 ^ 32
+count-low r w m =
+    step-either chip r w m (λ o. o .passed < 2 ^ 32)
+    (λ e.
+    let fits = accepted-when (length (m .i)) (length (m .z)) r w .0 e in
+    omega (arith,
+    figure-counts (rowsIn chip r m) r (completedBy r w) (picture (m .i) (m .z) 0) (completed-near (length (m .i)) (length (m .z)) r w e)
+    (rows-low (r .frame) (length (m .i)) (length (m .z))) (line-low r (fits .sound))))
+    (λ e. omega arith)

@@ -16,7 +16,7 @@ use Rattle.registers.specs.declared.word.Word.{Word}
 use Rattle.registers.specs.Record.{resetOf}
 use Rattle.registers.specs.Word.{wordOf}
 use Rattle.machine.specs.Run.{outcome, Ran, ran, runFrom, runOf}
-use Rattle.machine.specs.Machine.{Memories, memories, stepOf}
+use Rattle.machine.specs.Machine.{Memories, stepOf}
 use Rattle.machine.proofs.Runs.{turn-accepted, turn-none}
 use Rattle.machine.proofs.Steps.{turn-halts}
 use Rattle.chip.specs.declared.run.Ran.{Ran as Told}

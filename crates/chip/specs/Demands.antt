@@ -4,7 +4,7 @@ use mathlib.Core.Path.{_≡_}
 use mathlib.Core.Logic.{_≢_}
 use mathlib.Core.Bool.{true}
 use mathlib.Core.List.{List, List·Memᴰ}
-use Prim.Native.Nat.{ℕ, _%_, _^_, _≤_, _<_}
+use Prim.Native.Nat.{ℕ, _%_, _^_, _≤_}
 use lib.ListN.{length, getD, take}
 use Rattle.picture.specs.Place.{rowsOf}
 use Rattle.picture.specs.Picture.{picture, drawn}

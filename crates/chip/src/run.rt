@@ -1,8 +1,7 @@
 // A packed stream, from reset.
 ghost use mathlib.Core.Path.{_≡_};
-ghost use lib.ListN.{length};
 ghost use Rattle.stream.specs.Format.{wordAt};
-ghost use Rattle.registers.specs.Word.{wordOf, decode};
+ghost use Rattle.registers.specs.Word.{wordOf};
 ghost use Rattle.registers.specs.Record.{resetOf};
 ghost use Rattle.machine.specs.Run.{outcome, ran, runOf};
 ghost use Rattle.machine.specs.Machine.{memories, stepOf};

@@ -1,5 +1,5 @@
 -- A machine: what a word does follows from the registers and the word. What it draws is a list of offers that look at no memory.
-use mathlib.Core.Bool.{Bool, cond}
+use mathlib.Core.Bool.{cond}
 use mathlib.Core.List.{List}
 use Prim.Native.Nat.{ℕ}
 use lib.Dec.{eqb}

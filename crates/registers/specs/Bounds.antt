@@ -1,6 +1,6 @@
 -- The bounds on the fields of the register record (docs/REGISTERS.md lists them; number 2).
 use Prim.Native.Nat.{ℕ, _-_, _%_}
-use mathlib.Core.Bool.{Bool, true, false, _&&_, _||_}
+use mathlib.Core.Bool.{Bool, true, _&&_, _||_}
 use mathlib.Core.List.{List}
 use lib.Dec.{leb, ltb, eqb}
 use Rattle.picture.specs.declared.Frame.{Frame}

@@ -1,6 +1,6 @@
 -- The record after an accepted word, and the figure that the word completes (document 01, "Registers" and "Figures").
 use Prim.Native.Nat.{ℕ, _+_}
-use mathlib.Core.Bool.{Bool, cond}
+use mathlib.Core.Bool.{cond}
 use mathlib.Core.List.{List}
 use lib.Dec.{ltb}
 use lib.ListN.{getD, set}

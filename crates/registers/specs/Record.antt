@@ -1,7 +1,7 @@
 -- Parts of the register record, the record with one part replaced, and what INIT and reset set (document 01, "Registers").
 use Prim.Native.Nat.{ℕ}
 use mathlib.Core.Bool.{Bool, not}
-use mathlib.Core.List.{List, [], _∷_}
+use mathlib.Core.List.{[], _∷_}
 use lib.Bits.{bitAnd}
 use lib.Dec.{eqb}
 use Rattle.picture.specs.declared.Frame.{Frame}

@@ -1,6 +1,4 @@
 -- `run::run` meets its contract: 11, 12, 2, and then the words. Assumes nothing.
-use denote.Ref.{now}
-use Rattle.machine.specs.Machine.{memories}
 use Rattle.chip.proofs.Streams.{run-flawed, run-unlike, run-good}
 use borrow.Author.Needs.{needs}
 use Rattle.chip.proofs.run.run.Statement.{statement}

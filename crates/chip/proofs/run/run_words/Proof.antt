@@ -1,5 +1,5 @@
 -- `run::run_words` meets its contract. Its loop keeps that the whole run is the run of the words that are left, from where k words came to. Assumes nothing.
-use mathlib.Core.Path.{_≡_, refl, _∙_}
+use mathlib.Core.Path.{_≡_, refl}
 use Prim.Native.Nat.{_-_, _≤_}
 use native.Mathlib.Omega.{arith}
 use lib.ListN.{length}

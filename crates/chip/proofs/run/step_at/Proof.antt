@@ -1,12 +1,8 @@
 -- `run::step_at` meets its contract: a word of 20 bits is its command and its data. Assumes nothing.
 use denote.Ref.{now}
-use mathlib.Core.Path.{_≡_, ap, _∙_}
-use Prim.Native.Nat.{ℕ}
 use native.Mathlib.Omega.{arith}
 use Rattle.stream.proofs.Round.{word-fits}
 use Rattle.registers.specs.Word.{wordOf}
-use Rattle.machine.specs.Machine.{stepOf}
-use Rattle.chip.specs.Chip.{chip}
 use borrow.Author.Needs.{needs}
 use Rattle.chip.proofs.run.step_at.Statement.{statement}
 use Rattle.chip.proofs.run.step_at.Tie as tie
