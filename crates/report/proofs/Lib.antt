@@ -1,2 +1,5 @@
 pub mod Decimal
 pub mod Putting
+pub mod Lengths
+pub mod Calls
+pub mod Settled

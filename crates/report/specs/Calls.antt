@@ -1,5 +1,5 @@
 -- What writing the text tells and leaves, for every input (document 01, "Numbers that come back": 13).
-use Prim.Native.Nat.{ℕ, _+_}
+use Prim.Native.Nat.{ℕ, _+_, _≤_}
 use mathlib.Core.Path.{_≡_}
 use mathlib.Core.List.{List}
 use lib.ListN.{length}
@@ -26,6 +26,13 @@ sizeOf NoRoom = 0
 -- an answer, with what the call left
 abbrev pub told : Written → List ℕ → Outcome
 told answer left = record { refusal = refusalOf answer; size = sizeOf answer; left = left }
+
+-- ---- the parts of a text
+
+-- a text's length, and a bound on it
+pub record Sized (text : List ℕ) (most r : ℕ) : Type 0 where
+  pub size : r ≡ length text
+  pub small : r ≤ most
 
 -- a text put at a place: it stands there, all else is untouched, and the place after it is told
 pub record Put (text old : List ℕ) (at : ℕ) (new : List ℕ) (next : ℕ) : Type 0 where

@@ -3,7 +3,7 @@ ghost use Prim.Native.Nat.{_+_, _≤_};
 ghost use mathlib.Core.Path.{_≡_};
 ghost use lib.ListN.{length};
 ghost use Rattle.report.specs.Text.{named, heading};
-ghost use Rattle.report.specs.Calls.{Put};
+ghost use Rattle.report.specs.Calls.{Put, Sized};
 use crate::number::digits;
 use crate::number::put_field;
 
@@ -31,8 +31,7 @@ fn put_named(name: &[u8], n: u64, after: u8, out: &mut [u8], at: usize) -> usize
 
 // How many bytes the first line takes: its three names have 21.
 pub(crate) fn heading_size(words: u64, refusal: u64, passed: u64) -> usize
-    ensures { λ r. ⌜ r ≡ length (heading words refusal passed) ⌝ }
-    ensures { λ r. ⌜ r ≤ 84 ⌝ }
+    ensures { λ r. ⌜ Sized (heading words refusal passed) 84 r ⌝ }
 {
     digits(words) + digits(refusal) + digits(passed) + 24
 }

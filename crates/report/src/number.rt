@@ -3,7 +3,7 @@ ghost use mathlib.Core.Path.{_≡_};
 ghost use Prim.Native.Nat.{_+_, _%_, _≤_};
 ghost use lib.ListN.{length};
 ghost use Rattle.report.specs.Text.{decimal, field, pair};
-ghost use Rattle.report.specs.Calls.{Put};
+ghost use Rattle.report.specs.Calls.{Put, Sized};
 
 // The last digit of a number, in ASCII.
 fn digit(n: u64) -> u8
@@ -14,8 +14,7 @@ fn digit(n: u64) -> u8
 
 // How many digits a number has.
 pub(crate) fn digits(n: u64) -> usize
-    ensures { λ r. ⌜ r ≡ length (decimal n) ⌝ }
-    ensures { λ r. ⌜ r ≤ 20 ⌝ }
+    ensures { λ r. ⌜ Sized (decimal n) 20 r ⌝ }
 {
     let mut count = 1;
     let mut rest = n;
@@ -51,14 +50,6 @@ pub(crate) fn put_field(n: u64, after: u8, out: &mut [u8], at: usize) -> usize
     let next = put_number(n, out, at);
     out[next] = after;
     next + 1
-}
-
-// How many bytes two numbers take, a byte after each.
-pub(crate) fn pair_size(m: u64, n: u64) -> usize
-    ensures { λ r. ⌜ r ≡ length (pair m n 0) ⌝ }
-    ensures { λ r. ⌜ r ≤ 42 ⌝ }
-{
-    digits(m) + digits(n) + 2
 }
 
 // Puts two numbers, a space between them, and the byte after them.

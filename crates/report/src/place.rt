@@ -3,8 +3,8 @@ ghost use mathlib.Core.Path.{_≡_};
 ghost use Prim.Native.Nat.{_+_, _≤_};
 ghost use lib.ListN.{length, getD};
 ghost use Rattle.report.specs.Text.{columnOf, rowOf, shown};
-ghost use Rattle.report.specs.Calls.{Put};
-use crate::number::pair_size;
+ghost use Rattle.report.specs.Calls.{Put, Sized};
+use crate::number::digits;
 use crate::number::put_pair;
 
 // The number at a place of a memory; 0 past its end.
@@ -37,15 +37,15 @@ fn row(line: u16, place: usize) -> u64
     (place / (line as usize)) as u64
 }
 
-// How many bytes the line of a place takes.
+// How many bytes the line of a place takes: its four numbers, and a byte after each.
 pub(crate) fn place_size(line: u16, place: usize, i: u16, z: u16) -> usize
-    ensures { λ r. ⌜ r ≡ length (shown line place i z) ⌝ }
-    ensures { λ r. ⌜ r ≤ 84 ⌝ }
+    ensures { λ r. ⌜ Sized (shown line place i z) 84 r ⌝ }
 {
     if i == 0 {
         return 0;
     }
-    pair_size(column(line, place), row(line, place)) + pair_size(i as u64, z as u64)
+    let first = digits(column(line, place)) + digits(row(line, place));
+    first + digits(i as u64) + digits(z as u64) + 4
 }
 
 // Puts the line of a place.

@@ -13,7 +13,15 @@ use crate::place::place_size;
 use crate::place::put_place;
 
 // Whether the text is longer than the room. The size never grows past the room, so no sum of sizes can wrap.
-fn is_longer(words: u64, refusal: u64, passed: u64, line: u16, im: &[u16], zm: &[u16], room: usize) -> bool
+fn is_longer(
+    words: u64,
+    refusal: u64,
+    passed: u64,
+    line: u16,
+    im: &[u16],
+    zm: &[u16],
+    room: usize,
+) -> bool
     ensures { λ r. ⌜ r ≡ ltb room (length (report words refusal passed line (now (im .entry)) (now (zm .entry)))) ⌝ }
 {
     let mut size = heading_size(words, refusal, passed);
@@ -47,7 +55,15 @@ fn put_lines(line: u16, im: &[u16], zm: &[u16], out: &mut [u8], at: usize) -> us
 }
 
 // Writes the text to the front of `out`, or refuses where that is too short.
-pub fn write(words: u64, refusal: u64, passed: u64, line: u16, im: &[u16], zm: &[u16], out: &mut [u8]) -> Written
+pub fn write(
+    words: u64,
+    refusal: u64,
+    passed: u64,
+    line: u16,
+    im: &[u16],
+    zm: &[u16],
+    out: &mut [u8],
+) -> Written
     ensures { λ r. ⌜ told r (now (out .exit)) ≡ writing words refusal passed line (now (im .entry)) (now (zm .entry)) (now (out .entry)) ⌝ }
 {
     if is_longer(words, refusal, passed, line, im, zm, out.len()) {
