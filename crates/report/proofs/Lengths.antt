@@ -17,18 +17,14 @@ pub length-pair : (m n after : ℕ) → length (pair m n after) ≡ length (deci
 unfolding pair
 length-pair m n after = omega (arith, length-append (field m 32) (field n after), length-field m 32, length-field n after)
 
--- a place that shows
-pub shown-line : (line place i z : ℕ) → (i ≡ 0 → ⊥) → shown line place i z ≡ pair (columnOf line place) (rowOf line place) 32 ++ pair i z 10
-unfolding shown
-shown-line line place i z h = rw (ne-eqb i 0 h)
+-- a place that shows, by its column and its row
+module _ (line place i z : ℕ) {x y : ℕ} (h : i ≡ 0 → ⊥) (p : x ≡ columnOf line place) (q : y ≡ rowOf line place) where
+  pub shown-line : shown line place i z ≡ pair x y 32 ++ pair i z 10
+  unfolding shown
+  shown-line = rw (p, q, ne-eqb i 0 h)
 
-pub length-shown : (line place i z : ℕ) → (i ≡ 0 → ⊥)
-    → length (shown line place i z)
-    ≡ length (decimal (columnOf line place)) + length (decimal (rowOf line place)) + length (decimal i) + length (decimal z) + 4
-length-shown line place i z h =
-    let first = pair (columnOf line place) (rowOf line place) 32 in
-    rw (shown-line line place i z h)
-    (omega (arith, length-append first (pair i z 10), length-pair (columnOf line place) (rowOf line place) 32, length-pair i z 10))
+  pub length-shown : length (shown line place i z) ≡ length (pair x y 32) + length (pair i z 10)
+  length-shown = rw shown-line (length-append (pair x y 32) (pair i z 10))
 
 -- a place that does not
 pub shown-none : (line place i z : ℕ) → i ≡ 0 → shown line place i z ≡ []

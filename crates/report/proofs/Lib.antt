@@ -3,3 +3,4 @@ pub mod Putting
 pub mod Lengths
 pub mod Calls
 pub mod Settled
+pub mod Example

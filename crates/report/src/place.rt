@@ -48,14 +48,16 @@ pub(crate) fn place_size(line: u16, place: usize, i: u16, z: u16) -> usize
     first + digits(i as u64) + digits(z as u64) + 4
 }
 
-// Puts the line of a place.
+// Puts the line of a place, if it has one.
 pub(crate) fn put_place(line: u16, place: usize, i: u16, z: u16, out: &mut [u8], at: usize) -> usize
     requires { ⌜ at + length (shown line place i z) ≤ length (now out) ⌝ }
     ensures { λ r. ⌜ Put (shown line place i z) (now (out .entry)) at (now (out .exit)) r ⌝ }
 {
-    if i == 0 {
-        return at;
+    if i != 0 {
+        let x = column(line, place);
+        let y = row(line, place);
+        let next = put_pair(x, y, b' ', out, at);
+        return put_pair(i as u64, z as u64, b'\n', out, next);
     }
-    let next = put_pair(column(line, place), row(line, place), b' ', out, at);
-    put_pair(i as u64, z as u64, b'\n', out, next)
+    at
 }

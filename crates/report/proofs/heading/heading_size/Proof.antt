@@ -5,31 +5,24 @@ use Rattle.report.proofs.Lengths.{length-heading}
 use Rattle.report.proofs.heading.heading_size.Statement.{statement}
 use Rattle.report.proofs.heading.heading_size.Tie as tie
 
--- src/heading.rt:36:5
 digits-requires : tie.Need-digits-requires
 digits-requires c κs = search needs
 
--- src/heading.rt:36:21
 digits-requires-2 : tie.Need-digits-requires-2
 digits-requires-2 c κs = search needs
 
--- src/heading.rt:36:5
 add-result : tie.Need-add-result
 add-result c = search needs
 
--- src/heading.rt:36:39
 digits-requires-3 : tie.Need-digits-requires-3
 digits-requires-3 c κs = search needs
 
--- src/heading.rt:36:5
 add-result-2 : tie.Need-add-result-2
 add-result-2 c = search needs
 
--- src/heading.rt:36:5
 add-result-3 : tie.Need-add-result-3
 add-result-3 c = search needs
 
--- src/heading.rt:33:1
 returns : tie.Need-returns
 returns c =
     let a = c .before .before .before .args in

@@ -4,8 +4,7 @@ use Prim.Native.Nat.{ℕ}
 use native.Mathlib.Omega.{arith}
 use borrow.Author.Needs.{needs}
 use lib.ListN.{length}
-use Rattle.report.specs.Text.{decimal}
-use Rattle.report.proofs.Lengths.{shown-none, length-shown}
+use Rattle.report.proofs.Lengths.{shown-none, length-shown, length-pair}
 use Rattle.report.proofs.place.place_size.Statement.{statement}
 use Rattle.report.proofs.place.place_size.Tie as tie
 
@@ -49,10 +48,10 @@ returns-2 : tie.Need-returns-2
 returns-2 c =
     let e = c .before .before .before .before .before .before in
     let a = c .before .before .before .before .before .before .before .args in
-    let all = length-shown (a .line) (a .place) (a .i) (a .z) (e .if1 .left) in
-    let x = ap (λ (n : ℕ). length (decimal n)) (c .before .before .before .before .before .column .ensures) in
-    let y = ap (λ (n : ℕ). length (decimal n)) (c .before .before .before .row .ensures) in
-    record { size = omega (arith, all, x, y); small = omega arith }
+    let x = c .before .before .before .before .before .column in
+    let y = c .before .before .before .row in
+    let all = length-shown (a .line) (a .place) (a .i) (a .z) (e .if1 .left) (x .ensures) (y .ensures) in
+    record { size = omega (arith, all, length-pair (x .result) (y .result) 32, length-pair (a .i) (a .z) 10); small = omega arith }
 
 pub place-size-spec : {M : Type 1} → statement M
 place-size-spec =
