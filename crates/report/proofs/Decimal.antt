@@ -40,9 +40,9 @@ pub length-more : (n : ℕ) → 10 ≤ n → length (decimal n) ≡ length (deci
 length-more n h = rw (decimal-more n h) (length-append (decimal (n / 10)) ((48 + n % 10) ∷ []))
 
 -- a number below 10 ^ k has at most k digits
-short : (k n : ℕ) → n < 10 ^ suc k → length (decimal n) ≤ suc k
-short zero n h = omega (arith, length-small n (omega arith))
-short (suc k) n h = go (ltb n 10) refl (short k (n / 10) (omega (arith, pow-suc 10 (suc k))))
+pub decimal-below : (k n : ℕ) → n < 10 ^ suc k → length (decimal n) ≤ suc k
+decimal-below zero n h = omega (arith, length-small n (omega arith))
+decimal-below (suc k) n h = go (ltb n 10) refl (decimal-below k (n / 10) (omega (arith, pow-suc 10 (suc k))))
   where
     go : (b : Bool) → ltb n 10 ≡ b → length (decimal (n / 10)) ≤ suc k → length (decimal n) ≤ suc (suc k)
     go true t e = omega (arith, length-small n (ltb-true n 10 t))
@@ -50,7 +50,7 @@ short (suc k) n h = go (ltb n 10) refl (short k (n / 10) (omega (arith, pow-suc 
 
 -- a number of 64 bits has at most 20
 pub decimal-short : (n : ℕ) → n < 2 ^ 64 → length (decimal n) ≤ 20
-decimal-short n h = short 19 n (omega arith)
+decimal-short n h = decimal-below 19 n (omega arith)
 
 pub decimal-some : (n : ℕ) → 1 ≤ length (decimal n)
 decimal-some n = go (ltb n 10) refl
