@@ -6,7 +6,7 @@ use Prim.Native.Nat.{ℕ, _≤_}
 use borrow.Author.Tests.{ltb-true, ltb-false}
 use lib.ListN.{length}
 use lib.Dec.{ltb}
-use Rattle.stream.specs.Calls.{outcome}
+use Rattle.stream.specs.Calls.{written, outcome}
 use Rattle.stream.proofs.Calls.{no-room, room}
 use Rattle.report.specs.Text.{lines, heading, report}
 use Rattle.report.specs.Calls.{writing, told, Put}
@@ -25,10 +25,16 @@ module _ (words refusal passed line : ℕ) (im zm out : List ℕ) where
       → length (report words refusal passed line im zm) ≤ length out
   fits e t = ltb-false (length out) (length (report words refusal passed line im zm)) (sym e ∙ t)
 
-  pub written : {m left : List ℕ} {k n : ℕ} → length (report words refusal passed line im zm) ≤ length out
+  -- a text that fits is written
+  pub writes : length (report words refusal passed line im zm) ≤ length out
+      → writing words refusal passed line im zm out ≡ written (report words refusal passed line im zm) out
+  unfolding writing outcome
+  writes h = rw (room (report words refusal passed line im zm) out h)
+
+  pub done : {m left : List ℕ} {k n : ℕ} → length (report words refusal passed line im zm) ≤ length out
       → Put (heading words refusal passed) out 0 m k → Put (lines line im zm (length im)) m k left n
       → told (Done n) left ≡ writing words refusal passed line im zm out
-  unfolding writing outcome report
-  written h p q =
+  unfolding report
+  done h p q =
       let all = put-over h (put-append p q) in
-      rw (room (report words refusal passed line im zm) out h, all .0, all .1)
+      rw (writes h, all .0, all .1)

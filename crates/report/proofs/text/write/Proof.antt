@@ -2,7 +2,7 @@
 use native.Mathlib.Omega.{arith}
 use borrow.Author.Needs.{needs}
 use Rattle.report.proofs.Lengths.{length-report}
-use Rattle.report.proofs.Calls.{longer, fits, written}
+use Rattle.report.proofs.Calls.{longer, fits, done}
 use Rattle.report.proofs.text.write.Statement.{statement}
 use Rattle.report.proofs.text.write.Tie as tie
 
@@ -37,7 +37,7 @@ returns-2 c =
     let h = c .before .before .before .before .before .before .before .before .before in
     let a = h .before .before .before .before .args in
     let enough = fits (a .words) (a .refusal) (a .passed) (a .line) (a .im .now) (a .zm .now) (a .out .now) (h .is-longer .ensures) (c .before .before .before .before .before .before .before .before .if1 .left) in
-    written (a .words) (a .refusal) (a .passed) (a .line) (a .im .now) (a .zm .now) (a .out .now) enough (c .before .before .before .before .before .before .put-heading .ensures) (c .before .before .put-lines .ensures)
+    done (a .words) (a .refusal) (a .passed) (a .line) (a .im .now) (a .zm .now) (a .out .now) enough (c .before .before .before .before .before .before .put-heading .ensures) (c .before .before .put-lines .ensures)
 
 pub write-spec : {M : Type 1} → statement M
 write-spec =
