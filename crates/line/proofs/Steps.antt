@@ -1,17 +1,16 @@
 -- One step of a segment: where it is by the slope that was computed, and that it counts one pixel at most. Assumes nothing.
 use mathlib.Core.Path.{_≡_, refl, sym, ap, _∙_}
 use mathlib.Core.Bool.{Bool, true, false, cond, _||_, true≢false}
-use mathlib.Core.List.{List, [], _∷_}
-use Prim.Native.Nat.{ℕ, _+_, _%_, _≤_, _<_, zero-le}
-use native.Mathlib.Nat.{le-refl}
+use mathlib.Core.List.{List, []}
+use Prim.Native.Nat.{ℕ, _%_, _≤_, _<_, zero-le}
 use native.Mathlib.Omega.{arith}
-use lib.ListN.{getD}
 use Rattle.picture.specs.declared.Pen.{Pen}
 use Rattle.picture.specs.declared.Vertex.{Vertex}
-use Rattle.picture.specs.Place.{placeOf}
-use Rattle.picture.specs.Offer.{Offer, offer, offered, keep}
-use Rattle.picture.specs.Picture.{Picture, picture, passes, step, stepAt, drawn}
-use Rattle.picture.proofs.Fold.{drawn-nil, drawn-one}
+use Rattle.picture.specs.Offer.{Offer, offer, keep}
+use Rattle.picture.specs.Picture.{Picture, picture, drawn}
+use Rattle.picture.proofs.Fold.{drawn-nil}
+use Rattle.picture.proofs.Offers.{keep-counts}
+use Rattle.picture.proofs.Members.{Numbers}
 use Rattle.picture.specs.declared.Kind.{Kind}
 use Rattle.picture.specs.declared.Kind.the-variants.{Line2}
 use Rattle.line.specs.declared.Style.{Style}
@@ -35,11 +34,6 @@ module _ (a b : Vertex) (dx dy : ℕ) (e : dx ≡ distance (a .x) (b .x)) (f : d
   slope-steep h = let s = y-first a b (rw (e, f) at h) in rw (s .0, s .1, s .2, e, f)
 
 -- ---- where step k is
-
--- a vertex's numbers have 16 bits
-pub record Numbers (v : Vertex) : Type 0 where
-  pub i : v .i ≤ 65535
-  pub z : v .z ≤ 65535
 
 -- far along x and far along y is the pixel of step k, and neither leaves the box between the two points
 pub record Lands (a b : Vertex) (k across up : ℕ) : Type 0 where
@@ -117,22 +111,6 @@ dash-none pen rows a b k kind ground style set t g = rw (← t) (go _ _ set grou
     go p q false false h = refl
 
 -- ---- one pixel at most passes
-
-step-counts : (pen : Pen) (p : Picture) (o : Offer) → step pen p o .passed ≤ p .passed + 1
-unfolding step stepAt
-step-counts pen p o = go (passes pen (o .kind) (o .z) (getD (p .z) (placeOf (pen .frame) (o .x) (o .y)) 0)) _ _
-  where
-    go : (t : Bool) (i z : List ℕ) → cond t (picture i z (p .passed + 1)) p .passed ≤ p .passed + 1
-    go true i z = le-refl _
-    go false i z = omega arith
-
-pub keep-counts : (pen : Pen) (rows : ℕ) (o : Offer) (p : Picture) → drawn pen (keep pen rows o) p .passed ≤ p .passed + 1
-unfolding keep
-keep-counts pen rows o p = go (offered pen rows o)
-  where
-    go : (t : Bool) → drawn pen (cond t (o ∷ []) []) p .passed ≤ p .passed + 1
-    go true = rw (drawn-one pen o p) (step-counts pen p o)
-    go false = rw (drawn-nil pen p) (omega arith)
 
 -- a pixel that was put is what the step offers, and counts one at most
 pub put-step : (pen : Pen) (rows : ℕ) (o : Offer) (i₀ z₀ : List ℕ) {os : List Offer} {i z : List ℕ} {r : ℕ} → keep pen rows o ≡ os

@@ -1,2 +1,5 @@
 pub mod Run
 pub mod Machine
+pub mod Along
+pub mod Touched
+pub mod Promises

@@ -4,4 +4,6 @@ pub mod Spans
 pub mod Cells
 pub mod Offers
 pub mod Rows
+pub mod Members
+pub mod Passed
 pub mod Settled

@@ -2,7 +2,7 @@
 use mathlib.Core.Path.{_≡_, refl, sym, ap, _∙_}
 use mathlib.Core.Bool.{Bool, true, false, cond, not, _&&_, _||_}
 use mathlib.Core.List.{List, [], _∷_}
-use Prim.Native.Nat.{ℕ, _≤_, _<_, min, max}
+use Prim.Native.Nat.{ℕ, _+_, _≤_, _<_, min, max}
 use native.Mathlib.Omega.{arith}
 use lib.ListN.{length, getD, set}
 use lib.Seq.{set-getD}
@@ -16,6 +16,7 @@ use Rattle.picture.specs.Offer.{Offer, offer, isMasked, inWindow, shows,
 use Rattle.picture.specs.Picture.{isDeep, passes, inPlanes, newI, newZ, Picture, picture, stepAt, step, drawn}
 use Rattle.picture.specs.Draw.{placed, shown, seen}
 use Rattle.picture.proofs.Places.{both, place-below}
+use Rattle.picture.proofs.Fold.{drawn-passed}
 
 -- inside the window, the window asks nothing more
 pub keep-seen : (pen : Pen) (rows : ℕ) (o : Offer) → inWindow pen (o .x) (o .y) ≡ true → keep pen rows o ≡ seen pen rows o
@@ -39,6 +40,10 @@ keep-length pen rows o = go (offered pen rows o)
     go : (b : Bool) → length (cond b (o ∷ []) []) ≤ 1
     go true = omega arith
     go false = omega arith
+
+-- so at most one passes
+pub keep-counts : (pen : Pen) (rows : ℕ) (o : Offer) (p : Picture) → drawn pen (keep pen rows o) p .passed ≤ p .passed + 1
+keep-counts pen rows o p = omega (arith, drawn-passed pen (keep pen rows o) p, keep-length pen rows o)
 
 module _ (pen : Pen) (x y : ℕ) where
   pub window-in : pen .left ≤ x → x ≤ pen .right → pen .bottom ≤ y → y ≤ pen .top → inWindow pen x y ≡ true

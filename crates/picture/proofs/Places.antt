@@ -1,8 +1,8 @@
 -- Where pixels lie: a pixel inside the memory has a place of its own, below the lent lengths. Assumes nothing.
 use mathlib.Core.Path.{_≡_, refl, sym, ap, _∙_}
 use mathlib.Core.Bool.{Bool, true, false, cond, _&&_, true≢false}
-use Prim.Native.Nat.{ℕ, _+_, _*_, _/_, _%_, _≤_, _<_, zero-le, min}
-use native.Mathlib.Nat.{add-assoc, min-le-right, le-div-iff-mul-le, suc-mul, mul-le-mul}
+use Prim.Native.Nat.{ℕ, suc, _+_, _*_, _/_, _%_, _≤_, _<_, zero-le, min}
+use native.Mathlib.Nat.{add-assoc, min-le-right, le-div-iff-mul-le, suc-mul, mul-le-mul, mul-le-mul-right}
 use native.Mathlib.Numerals.{add-one}
 use native.Mathlib.Omega.{arith}
 use lib.Arith.{digits-div, digits-mod}
@@ -21,6 +21,11 @@ pub same-test : (a b : Bool) → (a ≡ true → b ≡ true) → (b ≡ true →
 same-test true b f g = sym (f refl)
 same-test false true f g = g refl
 same-test false false f g = refl
+
+-- a pixel inside lies in a column of the line and in a row in use
+pub inside-parts : (frame : Frame) (rows x y : ℕ) → inMemory frame rows x y ≡ true → (x < frame .line) × (y < rows)
+unfolding inMemory
+inside-parts frame rows x y h = let k = both (ltb x (frame .line)) (ltb y rows) h in (ltb-true _ _ (k .0), ltb-true _ _ (k .1))
 
 module _ (frame : Frame) (ni nz : ℕ) where
   pub rows-none : frame .line ≡ 0 → rowsOf frame ni nz ≡ 0
@@ -63,9 +68,8 @@ module _ (frame : Frame) (ni nz : ℕ) where
 
   -- the place of a pixel inside lies below both lengths
   module _ (x y : ℕ) (h : inMemory frame (rowsOf frame ni nz) x y ≡ true) where
-    pub inside-at : (x < frame .line) × (y < rowsOf frame ni nz)
-    unfolding inMemory
-    inside-at = let k = both (ltb x (frame .line)) (ltb y (rowsOf frame ni nz)) h in (ltb-true _ _ (k .0), ltb-true _ _ (k .1))
+    inside-at : (x < frame .line) × (y < rowsOf frame ni nz)
+    inside-at = inside-parts frame (rowsOf frame ni nz) x y h
 
     pub place-below : (placeOf frame x y < ni) × (placeOf frame x y < nz)
     unfolding placeOf
@@ -73,6 +77,11 @@ module _ (frame : Frame) (ni nz : ℕ) where
         let k = row-ends y (λ e. omega (arith, inside-at .0)) (inside-at .1) in
         let e : (y + 1) * frame .line ≡ y * frame .line + frame .line = ap (λ (i : ℕ). i * frame .line) (add-one y) ∙ suc-mul y (frame .line) in
         (omega (arith, inside-at .0, k .1), omega (arith, inside-at .0, k .2))
+
+-- and below the pixels of the rows
+pub place-low : (frame : Frame) (rows x y : ℕ) → x < frame .line → y < rows → placeOf frame x y < rows * frame .line
+unfolding placeOf
+place-low frame rows x y h k = omega (arith, suc-mul y (frame .line), mul-le-mul-right {m = suc y} {n = rows} (frame .line) k)
 
 -- no two pixels inside share a place
 pub place-apart : (frame : Frame) (x y x′ y′ : ℕ) → x < frame .line → x′ < frame .line → placeOf frame x y ≡ placeOf frame x′ y′ → (x ≡ x′) × (y ≡ y′)

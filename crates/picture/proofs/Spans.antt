@@ -61,6 +61,10 @@ pub spans-length : (f : ℕ → List Offer) (m n : ℕ) → ((k : ℕ) → lengt
 spans-length f m zero h = rw spans-zero (omega arith)
 spans-length f m (suc n) h = rw (spans-suc, length-append, suc-mul) (omega (arith, spans-length f m n h, h n))
 
+-- so no more than n times m of them pass
+pub spans-counts : (pen : Pen) (f : ℕ → List Offer) (m n : ℕ) (p : Picture) → ((k : ℕ) → length (f k) ≤ m) → drawn pen (spans f n) p .passed ≤ p .passed + n * m
+spans-counts pen f m n p h = omega (arith, drawn-passed pen (spans f n) p, spans-length f m n h)
+
 -- ---- a loop that has drawn the offers of f below x, and counted n of them
 
 pub record Reached (pen : Pen) (f : ℕ → List Offer) (i₀ z₀ i z : List ℕ) (n x : ℕ) : Type 0 where
@@ -91,4 +95,4 @@ module _ {pen : Pen} {f : ℕ → List Offer} {i₀ z₀ : List ℕ} {x : ℕ} w
 
   -- the count is bounded by what was offered
   pub reached-count : {i z : List ℕ} {n : ℕ} (m : ℕ) → Reached pen f i₀ z₀ i z n x → ((k : ℕ) → length (f k) ≤ m) → n ≤ x * m
-  reached-count m r h = omega (arith, ap (λ (p : Picture). p .passed) (r .so), drawn-passed pen (spans f x) (picture i₀ z₀ 0), spans-length f m x h)
+  reached-count m r h = omega (arith, ap (λ (p : Picture). p .passed) (r .so), spans-counts pen f m x (picture i₀ z₀ 0) h)

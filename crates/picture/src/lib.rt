@@ -5,6 +5,7 @@ mod pixel;
 pub mod place;
 
 // Where pixels lie: the line length.
+#[repr(C)]
 pub struct Frame {
     pub line: u16,
 }
@@ -33,6 +34,7 @@ pub enum Kind {
 }
 
 // A point of a figure, with its two numbers.
+#[repr(C)]
 pub struct Vertex {
     pub x: u16,
     pub y: u16,

@@ -76,6 +76,12 @@ unfolding fit
 fits-test none = refl
 fits-test (more h f) = rw (lt-ltb _ _ h) (fits-test f)
 
+-- one of numbers that fit, and 0 past them
+pub fits-at : {k : ℕ} {ns : List ℕ} → Fits k ns → (i : ℕ) → getD ns i 0 < 2 ^ k
+fits-at {k} none i = pow-pos k
+fits-at (more h f) zero = h
+fits-at (more h f) (suc i) = fits-at f i
+
 -- bits are set together as they are apart
 or-ge : (a b : ℕ) → (a ≤ bitOr a b) × (b ≤ bitOr a b)
 or-ge a b = (omega (arith, or-add-and a b, and-le-r a b), omega (arith, or-add-and a b, and-le-l a b))

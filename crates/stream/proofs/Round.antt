@@ -12,9 +12,9 @@ use lib.Dec.{eqb}
 use lib.ListN.{length, getD, take, drop, take-append-drop, length-drop, length-take, drop-of-length-le}
 use lib.Pow.{pow-mono}
 use lib.Seq.{take-all, drop-drop, getD-drop}
-use Rattle.stream.specs.Format.{bits, number, joined, cut, whole, closing, unpackOf, packOf}
+use Rattle.stream.specs.Format.{bits, number, joined, cut, whole, closing, unpackOf, packOf, wordAt}
 use Rattle.stream.specs.Calls.{badLength, badTail, checked}
-use Rattle.stream.proofs.Bits.{Fits, none, more, fits-append, fits-drop, fits-take, number-lt, bits-low}
+use Rattle.stream.proofs.Bits.{Fits, none, more, fits-at, fits-append, fits-drop, fits-take, number-lt, bits-low}
 use Rattle.stream.proofs.Cut.{length-joined, joined-fit, drop-joined, length-cut, cut-joined, joined-cut}
 use Rattle.stream.proofs.Stream.{parity, closing-same, length-pack, length-row, pack-end, pack-one}
 use Rattle.stream.proofs.Masks.{seam-number}
@@ -39,6 +39,11 @@ closing-fits n = ⊎-elim (λ e. rw (closing-same n 0 e) none) (λ e. rw (closin
 pub unpack-fits : (s : List ℕ) → Fits 20 (unpackOf s)
 unfolding unpackOf whole
 unpack-fits s = cut-fits 20 (length (joined 8 s) / 20) (joined-fit 8 s)
+
+-- and so has the word at each place
+pub word-fits : (s : List ℕ) (k : ℕ) → wordAt s k < 2 ^ 20
+unfolding wordAt
+word-fits s k = fits-at (unpack-fits s) k
 
 -- whole bytes of bits, cut and joined again
 whole-joined : (k : ℕ) {bs : List ℕ} → Fits 1 bs → length bs / k * k ≡ length bs → joined k (whole k bs) ≡ bs

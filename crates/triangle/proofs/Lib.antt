@@ -7,4 +7,5 @@ pub mod Between
 pub mod Amid
 pub mod Shared
 pub mod Once
+pub mod Members
 pub mod Integers

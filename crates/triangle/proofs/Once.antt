@@ -6,7 +6,7 @@ use mathlib.Core.List.{List, [], _∷_, _++_, append-nil}
 use Prim.Native.Nat.{ℕ, zero, suc, _≤_, _<_}
 use native.Mathlib.Omega.{arith}
 use borrow.Author.Tests.{eqb-true, eqb-false, ne-eqb}
-use lib.Dec.{ltb, eqb}
+use lib.Dec.{eqb}
 use lib.ListN.{length}
 use Rattle.picture.specs.declared.Vertex.{Vertex}
 use Rattle.picture.specs.declared.Pen.{Pen}
@@ -14,10 +14,11 @@ use Rattle.picture.specs.Offer.{Offer, offered, keep}
 use Rattle.picture.specs.Draw.{spans}
 use Rattle.picture.proofs.Spans.{spans-zero, spans-suc}
 use Rattle.triangle.specs.declared.Corners.{Corners}
-use Rattle.triangle.specs.Edge.{edgeAt, covers}
+use Rattle.triangle.specs.Edge.{covers}
 use Rattle.triangle.specs.Offers.{pixelAt, offersAt, rowOffers, turnedOffers, cornersOf, triangleOffers}
 use Rattle.triangle.specs.Shared.{atPixel}
 use Rattle.triangle.proofs.Rows.{offers-length}
+use Rattle.triangle.proofs.Turning.{triangle-either}
 
 differs : (i j x y : ℕ) → ((i ≡ x) × (j ≡ y) → ⊥) → eqb i x && eqb j y ≡ false
 differs i j x y h = go (eqb i x) refl
@@ -92,11 +93,6 @@ module _ (x y : ℕ) where
 
     -- of every pixel a triangle makes at most one offer
     pub triangle-once : (a b c : Vertex) → length (atPixel x y (triangleOffers pen rows constant a b c)) ≤ 1
-    unfolding triangleOffers
     triangle-once a b c =
-        go (ltb (edgeAt a b (c .x) (c .y) .minus) (edgeAt a b (c .x) (c .y) .plus)) (ltb (edgeAt a b (c .x) (c .y) .plus) (edgeAt a b (c .x) (c .y) .minus))
-      where
-        go : (p q : Bool) → length (atPixel x y (cond p (turnedOffers pen rows constant (cornersOf a b c c)) (cond q (turnedOffers pen rows constant (cornersOf a c b c)) []))) ≤ 1
-        go true q = turned-once (cornersOf a b c c)
-        go false true = turned-once (cornersOf a c b c)
-        go false false = rw at-nil (omega arith)
+        triangle-either pen rows constant a b c (λ os. length (atPixel x y os) ≤ 1) (rw at-nil (omega arith)) (λ t. turned-once (cornersOf a b c c))
+        (λ t. turned-once (cornersOf a c b c))

@@ -1,12 +1,14 @@
 -- The corners named so that they turn anticlockwise, by the computed expression. Assumes nothing.
-use mathlib.Core.Path.{_≡_, sym, ap, _∙_}
-use mathlib.Core.List.{[]}
+use mathlib.Core.Path.{_≡_, refl, sym, ap, _∙_}
+use mathlib.Core.List.{List, []}
 use Prim.Native.Nat.{ℕ, _-_, _<_}
 use native.Mathlib.Nat.{le-of-lt, le-of-eq}
-use borrow.Author.Tests.{lt-ltb, le-ltb}
-use mathlib.Core.Bool.{Bool}
+use lib.Dec.{ltb}
+use borrow.Author.Tests.{lt-ltb, le-ltb, ltb-true}
+use mathlib.Core.Bool.{Bool, true, false, cond}
 use Rattle.picture.specs.declared.Vertex.{Vertex}
 use Rattle.picture.specs.declared.Pen.{Pen}
+use Rattle.picture.specs.Offer.{Offer}
 use Rattle.picture.specs.Picture.{Picture, drawn}
 use Rattle.picture.proofs.Fold.{drawn-nil}
 use Rattle.triangle.specs.declared.Edge.{Edge}
@@ -51,6 +53,22 @@ module _ (pen : Pen) (rows : ℕ) (constant : Bool) (a b c : Vertex) where
   pub triangle-flat : edgeAt a b (c .x) (c .y) .minus ≡ edgeAt a b (c .x) (c .y) .plus → triangleOffers pen rows constant a b c ≡ []
   unfolding triangleOffers
   triangle-flat h = rw (le-ltb _ _ (le-of-eq (sym h)), le-ltb _ _ (le-of-eq h))
+
+  -- what holds of no offers, and of those of corners that turn anticlockwise by either naming, holds of the triangle's
+  pub triangle-either : (P : List Offer → Type 0) → P []
+      → (Turned (cornersOf a b c c) → P (turnedOffers pen rows constant (cornersOf a b c c)))
+      → (Turned (cornersOf a c b c) → P (turnedOffers pen rows constant (cornersOf a c b c)))
+      → P (triangleOffers pen rows constant a b c)
+  unfolding triangleOffers
+  triangle-either P none left right =
+      go (ltb (edgeAt a b (c .x) (c .y) .minus) (edgeAt a b (c .x) (c .y) .plus)) refl (ltb (edgeAt a b (c .x) (c .y) .plus) (edgeAt a b (c .x) (c .y) .minus)) refl
+    where
+      go : (p : Bool) → ltb (edgeAt a b (c .x) (c .y) .minus) (edgeAt a b (c .x) (c .y) .plus) ≡ p
+          → (q : Bool) → ltb (edgeAt a b (c .x) (c .y) .plus) (edgeAt a b (c .x) (c .y) .minus) ≡ q
+          → P (cond p (turnedOffers pen rows constant (cornersOf a b c c)) (cond q (turnedOffers pen rows constant (cornersOf a c b c)) []))
+      go true e q f = left (left-turned a b c (edgeAt a b (c .x) (c .y)) refl (ltb-true _ _ e))
+      go false e true f = right (right-turned a b c (edgeAt a b (c .x) (c .y)) refl (ltb-true _ _ f))
+      go false e false f = none
 
   module _ (e : Edge) (at : e ≡ edgeAt a b (c .x) (c .y)) where
     pub left-drawn : (p q : Picture) → e .minus < e .plus → q ≡ drawn pen (turnedOffers pen rows constant (cornersOf a b c c)) p

@@ -1,0 +1,110 @@
+-- A run over a stream's words as a loop makes it: what has been run, and what is left. Assumes nothing.
+use mathlib.Core.Path.{_≡_, refl, sym, ap, _∙_}
+use mathlib.Core.Logic.{_≢_}
+use mathlib.Core.Bool.{Bool, true, false, cond}
+use mathlib.Core.List.{List, [], _∷_, map}
+use Prim.Native.Nat.{ℕ, zero, suc, _+_, _%_, _^_, _≤_, _<_}
+use native.Mathlib.Omega.{arith}
+use lib.Dec.{eqb}
+use lib.ListN.{length, getD, drop, length-map}
+use borrow.Author.Tests.{eq-eqb, ne-eqb}
+use Rattle.stream.specs.Format.{unpackOf, wordAt}
+use Rattle.stream.specs.Calls.{checked}
+use Rattle.stream.proofs.Calls.{next-told, flaw-told, good}
+use Rattle.registers.specs.declared.Registers.{Registers}
+use Rattle.registers.specs.declared.word.Word.{Word}
+use Rattle.registers.specs.Record.{resetOf}
+use Rattle.registers.specs.Word.{wordOf}
+use Rattle.machine.specs.Run.{outcome, Ran, ran, runFrom, runOf}
+use Rattle.machine.specs.Machine.{Memories, memories, stepOf}
+use Rattle.machine.proofs.Runs.{turn-accepted, turn-none}
+use Rattle.machine.proofs.Steps.{turn-halts}
+use Rattle.chip.specs.declared.run.Ran.{Ran as Told}
+use Rattle.chip.specs.Chip.{chip}
+use Rattle.chip.specs.Stream.{wordsOf, flawOf, running}
+
+-- ---- the words
+
+getD-map : {A B : Type 0} (f : A → B) (l : List A) (k : ℕ) (d : A) → getD (map f l) k (f d) ≡ f (getD l k d)
+getD-map f [] k d = refl
+getD-map f (x ∷ l) zero d = refl
+getD-map f (x ∷ l) (suc k) d = getD-map f l k d
+
+module _ (bytes : List ℕ) where
+  word-at : (k : ℕ) → getD (wordsOf bytes) k (wordOf 0) ≡ wordOf (wordAt bytes k)
+  unfolding wordAt
+  word-at k = getD-map wordOf (unpackOf bytes) k 0
+
+  words-length : length (wordsOf bytes) ≡ length (unpackOf bytes)
+  words-length = length-map (unpackOf bytes) wordOf
+
+  -- ---- the loop
+
+  module _ (m₀ : Memories) where
+    -- the whole run is the run of the words that are left, from where k words came to
+    pub record Reached (m : Memories) (r : Registers) (sum k : ℕ) : Type 0 where
+      pub same : runOf (stepOf chip) resetOf (wordsOf bytes) m₀ ≡ runFrom (stepOf chip) (ran 0 k sum r m) (drop k (wordsOf bytes))
+
+    pub reached-start : {r : Registers} → r ≡ resetOf → Reached m₀ r 0 0
+    reached-start e = record { same = ap (λ (q : Registers). runFrom (stepOf chip) (ran 0 0 0 q m₀) (wordsOf bytes)) (sym e) }
+
+    module _ {m : Memories} {r : Registers} {sum k : ℕ} (so : Reached m r sum k) where
+      module _ (left : k < length (unpackOf bytes)) {n p : ℕ} {r′ : Registers} {m′ : Memories} (told : outcome n p r′ m′ ≡ stepOf chip r (wordOf (wordAt bytes k)) m) where
+        below : k < length (wordsOf bytes)
+        below = rw words-length left
+
+        here : outcome n p r′ m′ ≡ stepOf chip r (getD (wordsOf bytes) k (wordOf 0)) m
+        here = told ∙ ap (λ (w : Word). stepOf chip r w m) (sym (word-at k))
+
+        -- the next word is accepted
+        pub reached-more : n ≡ 0 → Reached m′ r′ ((sum + p) % 2 ^ 64) (k + 1)
+        reached-more e = record { same = so .same ∙ turn-accepted (stepOf chip) (wordsOf bytes) k (wordOf 0) below sum r m here e }
+
+        -- the next word is refused
+        pub reached-halt : n ≢ 0 → ran n k sum r′ m′ ≡ runOf (stepOf chip) resetOf (wordsOf bytes) m₀
+        reached-halt e = sym (so .same ∙ turn-halts chip (wordsOf bytes) k (wordOf 0) below sum r m here e)
+
+      -- no word is left
+      pub reached-end : length (unpackOf bytes) ≤ k → ran 0 k sum r m ≡ runOf (stepOf chip) resetOf (wordsOf bytes) m₀
+      reached-end h = sym (so .same ∙ turn-none (stepOf chip) (wordsOf bytes) k (ran 0 k sum r m) (rw words-length h))
+
+-- ---- before the first word
+
+abbrev pub endedOf : Told → Memories → Ran Registers Memories
+endedOf a m = ran (a .refusal) (a .index) (a .sum) (a .registers) m
+
+-- an answer of a run that took no word
+abbrev pub stopped : ℕ → Told
+stopped number = record { refusal = number; index = 0; sum = 0; registers = resetOf }
+
+module _ (bytes : List ℕ) (m : Memories) where
+  -- a number that the checks give stops the run before its first word
+  running-refused : {n : ℕ} → flawOf bytes m ≡ n → n ≢ 0 → ran n 0 0 resetOf m ≡ running bytes m
+  unfolding running
+  running-refused {n} e some = rw (e, ne-eqb n 0 some)
+
+  running-good : flawOf bytes m ≡ 0 → runOf (stepOf chip) resetOf (wordsOf bytes) m ≡ running bytes m
+  unfolding running
+  running-good e = rw e
+
+  -- past 11 and 12 the lengths decide
+  lengths-told : checked bytes 0 ≡ 0 → (b : Bool) → eqb (length (m .i)) (length (m .z)) ≡ b → flawOf bytes m ≡ cond b 0 2
+  unfolding flawOf
+  lengths-told e b f = let g = good bytes 0 e in next-told bytes (cond (eqb (length (m .i)) (length (m .z))) 0 2) (g .0) (g .1) ∙ ap (λ (t : Bool). cond t 0 2) f
+
+  module _ {n : ℕ} (number : n ≡ checked bytes 0) where
+    -- a stream with a flaw
+    pub run-flawed : {a : Told} → a ≡ stopped n → n ≢ 0 → endedOf a m ≡ running bytes m
+    unfolding flawOf
+    run-flawed answer some =
+        ap (λ (b : Told). endedOf b m) answer ∙ running-refused (flaw-told bytes (cond (eqb (length (m .i)) (length (m .z))) 0 2) (λ e. some (number ∙ e)) ∙ sym number) some
+
+    module _ (none : n ≡ 0) where
+      -- memories that differ in length
+      pub run-unlike : {a : Told} → a ≡ stopped 2 → (length (m .i) ≡ length (m .z) → ⊥) → endedOf a m ≡ running bytes m
+      run-unlike answer unlike =
+          ap (λ (b : Told). endedOf b m) answer ∙ running-refused (lengths-told (sym number ∙ none) false (ne-eqb _ _ unlike)) (λ e. absurd (omega arith))
+
+      -- a good stream over memories of one length
+      pub run-good : {a : Ran Registers Memories} → a ≡ runOf (stepOf chip) resetOf (wordsOf bytes) m → length (m .i) ≡ length (m .z) → a ≡ running bytes m
+      run-good ran like = ran ∙ running-good (lengths-told (sym number ∙ none) true (eq-eqb _ _ like))

@@ -1,0 +1,51 @@
+-- How the outcome of a word follows from what the code of a step has found. Assumes nothing.
+use mathlib.Core.Path.{_≡_, ap, _∙_}
+use mathlib.Core.Logic.{_≢_}
+use mathlib.Core.List.{List}
+use Prim.Native.Nat.{ℕ}
+use lib.ListN.{length}
+use Rattle.picture.specs.Picture.{picture}
+use Rattle.registers.specs.declared.Registers.{Registers}
+use Rattle.registers.specs.declared.word.Word.{Word}
+use Rattle.registers.specs.declared.shape.Completed.{Completed}
+use Rattle.registers.specs.declared.shape.Completed.the-variants.{Nothing}
+use Rattle.registers.specs.Next.{after, completedBy}
+use Rattle.registers.specs.Refusal.{refusalOf}
+use Rattle.machine.specs.Run.{outcome}
+use Rattle.machine.specs.Machine.{memories, stepOf}
+use Rattle.machine.proofs.Steps.{told-accepted, told-refused}
+use Rattle.chip.specs.declared.step.Answer.{Answer}
+use Rattle.chip.specs.Chip.{chip}
+use Rattle.chip.proofs.Figures.{figured, nothing-drawn}
+
+-- an answer of no pixels
+abbrev pub told : ℕ → Registers → Answer
+told number r = record { refusal = number; passed = 0; registers = r }
+
+-- the word that was decoded, and the number that it got
+module _ (r : Registers) (w : Word) (i z : List ℕ) {word : Word} {n : ℕ} (is : word ≡ w) (number : n ≡ refusalOf (length i) (length z) r word) where
+  given : n ≡ refusalOf (length i) (length z) r w
+  given = number ∙ ap (refusalOf (length i) (length z) r) is
+
+  -- a refused word
+  pub word-refused : {a : Answer} → a ≡ told n r → n ≢ 0
+      → outcome (a .refusal) (a .passed) (a .registers) (memories i z) ≡ stepOf chip r w (memories i z)
+  word-refused answer some =
+      ap (λ (b : Answer). outcome (b .refusal) (b .passed) (b .registers) (memories i z)) answer ∙ told-refused chip r w (memories i z) given some
+
+  module _ (none : n ≡ 0) where
+    -- an accepted word, with what it completed drawn
+    pub word-drawn : {next : Registers} {figure : Completed} {i′ z′ : List ℕ} {p : ℕ} → figure ≡ completedBy r word
+        → picture i′ z′ p ≡ figured r i z figure → next ≡ after r word
+        → outcome 0 p next (memories i′ z′) ≡ stepOf chip r w (memories i z)
+    word-drawn completes drew next =
+        told-accepted chip r w (memories i z) given none
+        (drew ∙ ap (figured r i z) (completes ∙ ap (completedBy r) is))
+        (next ∙ ap (after r) is)
+
+    -- an accepted word that completes nothing
+    pub word-quiet : {a : Answer} {next : Registers} → a ≡ told 0 next → Nothing ≡ completedBy r word → next ≡ after r word
+        → outcome (a .refusal) (a .passed) (a .registers) (memories i z) ≡ stepOf chip r w (memories i z)
+    word-quiet answer completes next =
+        ap (λ (b : Answer). outcome (b .refusal) (b .passed) (b .registers) (memories i z)) answer
+        ∙ word-drawn completes (nothing-drawn r i z) next

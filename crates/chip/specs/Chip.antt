@@ -1,0 +1,56 @@
+-- The chip: a machine whose words, registers and refusals are those of `registers`, and which offers what triangles and segments offer.
+use Prim.Native.Nat.{ℕ, _+_, _*_}
+use mathlib.Core.Bool.{Bool}
+use mathlib.Core.List.{List, [], _∷_}
+use lib.ListN.{getD}
+use lib.Dec.{eqb}
+use Rattle.picture.specs.Offer.{Offer}
+use Rattle.triangle.specs.Offers.{triangleOffers}
+use Rattle.line.specs.declared.Mode.{Mode}
+use Rattle.line.specs.declared.Mode.the-variants.{Zero, One, Two}
+use Rattle.line.specs.declared.Style.{Style}
+use Rattle.line.specs.Segment.{segmentOffers}
+use Rattle.registers.specs.declared.Registers.{Registers}
+use Rattle.registers.specs.declared.word.Word.{Word}
+use Rattle.registers.specs.declared.shape.Completed.{Completed}
+use Rattle.registers.specs.declared.shape.Completed.the-variants.{Nothing, Triangle, Segment}
+use Rattle.registers.specs.Record.{resetOf}
+use Rattle.registers.specs.Next.{after, completedBy, penOf}
+use Rattle.registers.specs.Refusal.{refusalOf}
+use Rattle.machine.specs.Machine.{Machine}
+
+-- the line mode that LMODE's word names
+unfoldable pub modeOf : ℕ → Mode
+modeOf n = getD (Zero ∷ One ∷ []) n Two
+
+-- PMODE 1: constant triangles
+abbrev pub isConstant : Registers → Bool
+isConstant r = eqb (r .modes .pmode) 1
+
+-- how lines are drawn, by the registers as they are when the completing word comes
+abbrev pub styleOf : Registers → Style
+styleOf r =
+    record {
+      mode = modeOf (r .modes .lmode);
+      pattern = r .dash .high * 65536 + r .dash .low;
+      foreground = r .dash .foreground;
+      background = r .dash .background;
+    }
+
+-- what a completed figure offers where so many rows are in use
+unfoldable pub figureOffers : ℕ → Registers → Completed → List Offer
+figureOffers rows r Nothing = []
+figureOffers rows r (Triangle a b c) = triangleOffers (penOf r) rows (isConstant r) a b c
+figureOffers rows r (Segment a b) = segmentOffers (penOf r) rows (styleOf r) a b
+
+abbrev pub chip : Machine
+chip =
+    record {
+      Registers = Registers;
+      Word = Word;
+      reset = resetOf;
+      refusal = refusalOf;
+      next = after;
+      pen = penOf;
+      offers = λ rows r w. figureOffers rows r (completedBy r w);
+    }

@@ -1,0 +1,28 @@
+-- Running a packed stream (document 01, "Numbers that come back").
+use Prim.Native.Nat.{ℕ}
+use mathlib.Core.Bool.{cond}
+use mathlib.Core.List.{List, map}
+use lib.ListN.{length}
+use lib.Dec.{eqb}
+use Rattle.stream.specs.Format.{unpackOf}
+use Rattle.stream.specs.Calls.{checked}
+use Rattle.registers.specs.declared.Registers.{Registers}
+use Rattle.registers.specs.declared.word.Word.{Word}
+use Rattle.registers.specs.Record.{resetOf}
+use Rattle.registers.specs.Word.{wordOf}
+use Rattle.machine.specs.Run.{Ran, ran, runOf}
+use Rattle.machine.specs.Machine.{Memories, stepOf}
+use Rattle.chip.specs.Chip.{chip}
+
+-- the words of a packed stream
+abbrev pub wordsOf : List ℕ → List Word
+wordsOf bytes = map wordOf (unpackOf bytes)
+
+-- what is checked before the first word, for an empty stream too: 11, 12, and then 2, the memories differ in length
+unfoldable pub flawOf : List ℕ → Memories → ℕ
+flawOf bytes m = checked bytes (cond (eqb (length (m .i)) (length (m .z))) 0 2)
+
+-- a stream runs from reset, word by word until one is refused; refused before the first word, index and sum are 0, the registers
+-- reset's, and the memories untouched
+unfoldable pub running : List ℕ → Memories → Ran Registers Memories
+running bytes m = cond (eqb (flawOf bytes m) 0) (runOf (stepOf chip) resetOf (wordsOf bytes) m) (ran (flawOf bytes m) 0 0 resetOf m)

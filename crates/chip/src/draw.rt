@@ -1,0 +1,60 @@
+// The figure that a word completed, drawn.
+ghost use mathlib.Core.Path.{_≡_};
+ghost use Prim.Native.Nat.{_+_, _*_};
+ghost use lib.ListN.{length};
+ghost use Rattle.picture.specs.Place.{rowsOf};
+ghost use Rattle.picture.specs.Picture.{picture, drawn};
+ghost use Rattle.registers.specs.Next.{penOf};
+ghost use Rattle.chip.specs.Chip.{modeOf, styleOf, figureOffers};
+use line::Mode;
+use line::Style;
+use line::segment;
+use registers::Registers;
+use registers::shape::Completed;
+use triangle::draw::triangle;
+
+// The line mode that LMODE's word names.
+fn mode_of(lmode: u16) -> Mode
+    ensures { λ r. ⌜ r ≡ modeOf lmode ⌝ }
+{
+    match lmode {
+        0 => Mode::Zero,
+        1 => Mode::One,
+        _ => Mode::Two,
+    }
+}
+
+// The line pattern of two words, bits 31 to 16 first.
+fn pattern_of(high: u16, low: u16) -> u32
+    ensures { λ r. ⌜ r ≡ high * 65536 + low ⌝ }
+{
+    (high as u32) * 65536 + (low as u32)
+}
+
+// How lines are drawn.
+fn style_of(r: Registers) -> Style
+    ensures { λ s. ⌜ s ≡ styleOf r ⌝ }
+{
+    let mode = mode_of(r.modes.lmode);
+    let pattern = pattern_of(r.dash.high, r.dash.low);
+    Style {
+        mode: mode,
+        pattern: pattern,
+        foreground: r.dash.foreground,
+        background: r.dash.background,
+    }
+}
+
+// Draws what a word completed. Answers how many pixels passed.
+pub(crate) fn draw(r: Registers, figure: Completed, im: &mut [u16], zm: &mut [u16]) -> u64
+    ensures { λ n. ⌜ picture (now (im .exit)) (now (zm .exit)) n ≡ drawn (penOf r) (figureOffers (rowsOf (r .frame) (length (now (im .entry))) (length (now (zm .entry)))) r figure) (picture (now (im .entry)) (now (zm .entry)) 0) ⌝ }
+{
+    let pen = r.pen();
+    let constant = r.modes.pmode == 1;
+    let style = style_of(r);
+    match figure {
+        Completed::Nothing => 0,
+        Completed::Triangle(a, b, c) => triangle(pen, constant, a, b, c, im, zm),
+        Completed::Segment(a, b) => segment(pen, style, a, b, im, zm),
+    }
+}

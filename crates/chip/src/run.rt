@@ -1,0 +1,91 @@
+// A packed stream, from reset.
+ghost use mathlib.Core.Path.{_≡_};
+ghost use lib.ListN.{length};
+ghost use Rattle.stream.specs.Format.{wordAt};
+ghost use Rattle.registers.specs.Word.{wordOf, decode};
+ghost use Rattle.registers.specs.Record.{resetOf};
+ghost use Rattle.machine.specs.Run.{outcome, ran, runOf};
+ghost use Rattle.machine.specs.Machine.{memories, stepOf};
+ghost use Rattle.chip.specs.Chip.{chip};
+ghost use Rattle.chip.specs.Stream.{wordsOf, running};
+use crate::step::Answer;
+use crate::step::step;
+use registers::Registers;
+use stream::read::flaw;
+use stream::read::held;
+use stream::read::word;
+
+// How a run ended: the number that refused a word or the stream, 0 for none; the index of that word, or how many words there are; the sum
+// of the counts of the words before it, modulo 2^64; and the registers.
+pub struct Ran {
+    pub refusal: u64,
+    pub index: u64,
+    pub sum: u64,
+    pub registers: Registers,
+}
+
+// The word at place k of a stream, taken.
+fn step_at(r: Registers, bytes: &[u8], k: usize, im: &mut [u16], zm: &mut [u16]) -> Answer
+    ensures { λ a. ⌜ outcome (a .refusal) (a .passed) (a .registers) (memories (now (im .exit)) (now (zm .exit))) ≡ stepOf chip r (wordOf (wordAt (now (bytes .entry)) k)) (memories (now (im .entry)) (now (zm .entry))) ⌝ }
+{
+    let w = word(bytes, k);
+    step(r, (w / 65536) as u8, (w % 65536) as u16, im, zm)
+}
+
+// The words of a stream, one after the other, until one is refused.
+fn run_words(bytes: &[u8], im: &mut [u16], zm: &mut [u16]) -> Ran
+    ensures { λ a. ⌜ ran (a .refusal) (a .index) (a .sum) (a .registers) (memories (now (im .exit)) (now (zm .exit))) ≡ runOf (stepOf chip) resetOf (wordsOf (now (bytes .entry))) (memories (now (im .entry)) (now (zm .entry))) ⌝ }
+{
+    let count = held(bytes);
+    let mut r = Registers::reset();
+    let mut sum: u64 = 0;
+    let mut k = 0;
+    while k < count {
+        let a = step_at(r, bytes, k, im, zm);
+        let next = a.registers;
+        if a.refusal != 0 {
+            return Ran {
+                refusal: a.refusal,
+                index: k as u64,
+                sum: sum,
+                registers: next,
+            };
+        }
+        sum = std::num::wrapping_add_u64(sum, a.passed);
+        r = next;
+        k += 1;
+    }
+    Ran {
+        refusal: 0,
+        index: k as u64,
+        sum: sum,
+        registers: r,
+    }
+}
+
+// A run that is refused before its first word.
+fn refused(number: u64) -> Ran
+    ensures { λ a. ⌜ a ≡ record { refusal = number; index = 0; sum = 0; registers = resetOf } ⌝ }
+{
+    let r = Registers::reset();
+    Ran {
+        refusal: number,
+        index: 0,
+        sum: 0,
+        registers: r,
+    }
+}
+
+// Runs a packed stream from reset: checks it and the memories, then takes word after word until one is refused.
+pub fn run(bytes: &[u8], im: &mut [u16], zm: &mut [u16]) -> Ran
+    ensures { λ a. ⌜ ran (a .refusal) (a .index) (a .sum) (a .registers) (memories (now (im .exit)) (now (zm .exit))) ≡ running (now (bytes .entry)) (memories (now (im .entry)) (now (zm .entry))) ⌝ }
+{
+    let number = flaw(bytes);
+    if number != 0 {
+        return refused(number);
+    }
+    if im.len() != zm.len() {
+        return refused(2);
+    }
+    run_words(bytes, im, zm)
+}

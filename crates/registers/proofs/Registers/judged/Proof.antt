@@ -1,0 +1,117 @@
+-- `Registers::judged` meets its contract: of each kind of word the table keeps the numbers that its arm asks for. Assumes nothing.
+use borrow.Author.Needs.{needs}
+use Rattle.registers.proofs.Registers.judged.Statement.{statement}
+use Rattle.registers.proofs.Registers.judged.Tie as tie
+
+is-awaiting-requires : tie.Need-is-awaiting-requires
+is-awaiting-requires c κs = search needs
+
+shape-of-requires : tie.Need-shape-of-requires
+shape-of-requires c κs = search needs
+
+enum-known-word : tie.Need-enum-known-word
+enum-known-word c = search needs
+
+is-init-allowed-requires : tie.Need-is-init-allowed-requires
+is-init-allowed-requires c κs = search needs
+
+init-number-requires : tie.Need-init-number-requires
+init-number-requires c κs = search needs
+
+enum-known-word-2 : tie.Need-enum-known-word-2
+enum-known-word-2 c = search needs
+
+aux-number-requires : tie.Need-aux-number-requires
+aux-number-requires c κs = search needs
+
+enum-known-word-3 : tie.Need-enum-known-word-3
+enum-known-word-3 c = search needs
+
+subcommand-of-requires : tie.Need-subcommand-of-requires
+subcommand-of-requires c κs = search needs
+
+is-parameter-allowed-requires : tie.Need-is-parameter-allowed-requires
+is-parameter-allowed-requires c κs = search needs
+
+parm-number-requires : tie.Need-parm-number-requires
+parm-number-requires c κs = search needs
+
+enum-known-word-4 : tie.Need-enum-known-word-4
+enum-known-word-4 c = search needs
+
+is-coordinate-allowed-requires : tie.Need-is-coordinate-allowed-requires
+is-coordinate-allowed-requires c κs = search needs
+
+coordinate-fits-requires : tie.Need-coordinate-fits-requires
+coordinate-fits-requires c κs = search needs
+
+coordinate-number-requires : tie.Need-coordinate-number-requires
+coordinate-number-requires c κs = search needs
+
+enum-told : tie.Need-enum-told
+enum-told c = search needs
+
+enum-told-2 : tie.Need-enum-told-2
+enum-told-2 c = search needs
+
+enum-told-3 : tie.Need-enum-told-3
+enum-told-3 c = search needs
+
+returns : tie.Need-returns
+returns c = rw (c .before .before .before .word .given .1, ← c .before .is-init-allowed .ensures) (c .init-number .ensures)
+
+returns-2 : tie.Need-returns-2
+returns-2 c = rw (c .before .before .word2 .given .1, ← c .before .before .before .before .before .is-awaiting .ensures) (c .aux-number .ensures)
+
+returns-3 : tie.Need-returns-3
+returns-3 c = rw (c .before .before .before .before .word3 .given .1, ← c .before .before .before .before .before .before .before .is-awaiting .ensures, ← c .before .before .subcommand-of .ensures, ← c .before .is-parameter-allowed .ensures) (c .parm-number .ensures)
+
+returns-4 : tie.Need-returns-4
+returns-4 c = rw (c .before .before .before .before .word4 .given .1, ← c .before .before .before .before .before .before .before .is-awaiting .ensures, ← c .before .before .before .before .before .before .shape-of .ensures, ← c .before .before .is-coordinate-allowed .ensures, ← c .before .coordinate-fits .ensures) (c .coordinate-number .ensures)
+
+returns-5 : tie.Need-returns-5
+returns-5 c = rw (c .before .enum-told .given .1, c .if1 .taken)
+
+returns-6 : tie.Need-returns-6
+returns-6 c = rw (c .before .enum-told .given .1, c .if1 .left)
+
+returns-7 : tie.Need-returns-7
+returns-7 c = rw (c .before .enum-told2 .given .1, c .if2 .taken)
+
+returns-8 : tie.Need-returns-8
+returns-8 c = rw (c .before .enum-told2 .given .1, c .if2 .left)
+
+returns-9 : tie.Need-returns-9
+returns-9 c = rw (c .enum-told3 .given .1)
+
+pub judged-spec : {M : Type 1} → statement M
+judged-spec =
+    tie.close
+    (tie.spec
+    is-awaiting-requires
+    shape-of-requires
+    enum-known-word
+    is-init-allowed-requires
+    init-number-requires
+    enum-known-word-2
+    aux-number-requires
+    enum-known-word-3
+    subcommand-of-requires
+    is-parameter-allowed-requires
+    parm-number-requires
+    enum-known-word-4
+    is-coordinate-allowed-requires
+    coordinate-fits-requires
+    coordinate-number-requires
+    enum-told
+    enum-told-2
+    enum-told-3
+    returns
+    returns-2
+    returns-3
+    returns-4
+    returns-5
+    returns-6
+    returns-7
+    returns-8
+    returns-9)

@@ -1,0 +1,18 @@
+-- `Registers::set` meets its contract: the fields are those of the definition. Assumes nothing.
+use Rattle.registers.specs.Record.{settings}
+use borrow.Author.Needs.{needs}
+use Rattle.registers.proofs.Registers.set.Statement.{statement}
+use Rattle.registers.proofs.Registers.set.Tie as tie
+
+none-requires : tie.Need-none-requires
+none-requires c κs = search needs
+
+awaited-requires : tie.Need-awaited-requires
+awaited-requires c κs = search needs
+
+returns : tie.Need-returns
+unfolding settings
+returns c = rw (c .before .none .ensures, c .awaited .ensures)
+
+pub set-spec : {M : Type 1} → statement M
+set-spec = tie.close (tie.spec none-requires awaited-requires returns)

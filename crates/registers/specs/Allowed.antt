@@ -1,0 +1,98 @@
+-- What is allowed of a word's data, and which vertices fit the open figure (document 01, "Registers" and "Figures"; numbers 9 and 10).
+use Prim.Native.Nat.{ℕ, _-_}
+use mathlib.Core.Bool.{Bool, true, false, cond, not, _&&_}
+use lib.Dec.{leb, ltb, eqb}
+use lib.Bits.{bitAnd}
+use Rattle.registers.specs.declared.word.Word.{Word}
+use Rattle.registers.specs.declared.word.Word.the-variants.{Init, Aux, Parm, At, Reserved, Unmodelled, Unknown}
+use Rattle.registers.specs.declared.word.Coordinate.{Coordinate}
+use Rattle.registers.specs.declared.word.Coordinate.the-variants.{I, Z, Y, X, T1x, T2x, Lx, Px}
+use Rattle.registers.specs.declared.subcommand.Subcommand.{Subcommand}
+use Rattle.registers.specs.declared.subcommand.Subcommand.the-variants.{Nothing, Pmode, Lmode, Zcontrol, Hcontrol, Tpattern, Window as Win, Color, Lpattern, Mask, Lstatus}
+use Rattle.registers.specs.declared.shape.Shape.{Shape}
+use Rattle.registers.specs.declared.shape.Shape.the-variants.{Closed, Strip, Fan, Line}
+use Rattle.registers.specs.declared.Registers.{Registers}
+use Rattle.registers.specs.Lines.{codeIn, chipsIn, unitIn, pageIn, lineOf}
+use Rattle.registers.specs.Figure.{shapeOf}
+use Rattle.registers.specs.Next.{awaited}
+
+-- coordinates are 0 to 8191, and the window's borders at most 8192
+abbrev pub isCoordinate : ℕ → Bool
+isCoordinate n = leb n 8191
+
+abbrev pub isBorder : ℕ → Bool
+isBorder n = leb n 8192
+
+-- a word of 16 bits has only bits of a mask
+abbrev pub onlyBits : ℕ → ℕ → Bool
+onlyBits mask n = eqb (bitAnd n (65535 - mask)) 0
+
+-- INIT: chips and unit 0, page code at most 7, the line code one that is listed
+unfoldable pub initAllowed : ℕ → Bool
+initAllowed d = eqb (chipsIn d) 0 && eqb (unitIn d) 0 && leb (pageIn d) 7 && not (eqb (lineOf (codeIn d)) 0)
+
+-- a parameter of a subcommand of which k have come before it
+abbrev pub parameterAllowed : Subcommand → ℕ → ℕ → Bool
+parameterAllowed Nothing k v = true
+parameterAllowed Pmode k v = leb v 1
+parameterAllowed Lmode k v = leb v 2
+parameterAllowed Zcontrol k v = onlyBits 0x0040 v
+parameterAllowed Hcontrol k v = onlyBits 0x0D8E v
+parameterAllowed Tpattern k v = true
+parameterAllowed Win k v = cond (ltb k 4) (isBorder v) (eqb v 0)
+parameterAllowed Color k v = true
+parameterAllowed Lpattern k v = true
+parameterAllowed Mask k v = true
+parameterAllowed Lstatus k v = onlyBits 0x0030 v
+
+-- I and Z are any numbers; Y, X, T1X, T2X, LX and PX take coordinates
+abbrev pub coordinateAllowed : Coordinate → ℕ → Bool
+coordinateAllowed I n = true
+coordinateAllowed Z n = true
+coordinateAllowed Y n = isCoordinate n
+coordinateAllowed X n = isCoordinate n
+coordinateAllowed T1x n = isCoordinate n
+coordinateAllowed T2x n = isCoordinate n
+coordinateAllowed Lx n = isCoordinate n
+coordinateAllowed Px n = isCoordinate n
+
+abbrev pub allowed : Registers → Word → Bool
+allowed r (Init d) = initAllowed d
+allowed r (Aux n) = true
+allowed r (Parm v) = parameterAllowed (awaited r) (r .parked .came) v
+allowed r (At c n) = coordinateAllowed c n
+allowed r Reserved = true
+allowed r Unmodelled = true
+allowed r Unknown = true
+
+-- X fits a strip, a fan, and a line in line mode 2; PX fits a line in line mode 0 or 1
+abbrev pub xFits : Shape → ℕ → Bool
+xFits Closed lmode = false
+xFits Strip lmode = true
+xFits Fan lmode = true
+xFits Line lmode = eqb lmode 2
+
+abbrev pub pxFits : Shape → ℕ → Bool
+pxFits Closed lmode = false
+pxFits Strip lmode = false
+pxFits Fan lmode = false
+pxFits Line lmode = leb lmode 1
+
+abbrev pub coordinateFits : Coordinate → Shape → ℕ → Bool
+coordinateFits I shape lmode = true
+coordinateFits Z shape lmode = true
+coordinateFits Y shape lmode = true
+coordinateFits X shape lmode = xFits shape lmode
+coordinateFits T1x shape lmode = true
+coordinateFits T2x shape lmode = true
+coordinateFits Lx shape lmode = true
+coordinateFits Px shape lmode = pxFits shape lmode
+
+abbrev pub fits : Registers → Word → Bool
+fits r (Init d) = true
+fits r (Aux n) = true
+fits r (Parm v) = true
+fits r (At c n) = coordinateFits c (shapeOf (r .figure .shape)) (r .modes .lmode)
+fits r Reserved = true
+fits r Unmodelled = true
+fits r Unknown = true

@@ -1,0 +1,65 @@
+-- The bounds on the fields of the register record (docs/REGISTERS.md lists them; number 2).
+use Prim.Native.Nat.{ℕ, _-_, _%_}
+use mathlib.Core.Bool.{Bool, true, false, _&&_, _||_}
+use mathlib.Core.List.{List}
+use lib.Dec.{leb, ltb, eqb}
+use Rattle.picture.specs.declared.Frame.{Frame}
+use Rattle.picture.specs.declared.Vertex.{Vertex}
+use Rattle.registers.specs.declared.Modes.{Modes}
+use Rattle.registers.specs.declared.Window.{Window}
+use Rattle.registers.specs.declared.Figure.{Figure}
+use Rattle.registers.specs.declared.Parked.{Parked}
+use Rattle.registers.specs.declared.Registers.{Registers}
+use Rattle.registers.specs.declared.subcommand.Subcommand.{Subcommand}
+use Rattle.registers.specs.declared.subcommand.Subcommand.the-variants.{Nothing, Pmode, Lmode, Zcontrol, Hcontrol, Tpattern, Window as Win, Color, Lpattern, Mask, Lstatus}
+use Rattle.registers.specs.Subcommand.{subcommandOf, wants}
+use Rattle.registers.specs.Next.{value}
+use Rattle.registers.specs.Allowed.{isCoordinate, isBorder, onlyBits}
+
+-- the line length is a multiple of 64 from 256 to 8768
+unfoldable pub frameFits : Frame → Bool
+frameFits f = leb 256 (f .line) && leb (f .line) 8768 && eqb (f .line % 64) 0
+
+-- the words of the modes are such as AUX allows
+unfoldable pub modesFit : Modes → Bool
+modesFit m = leb (m .pmode) 1 && leb (m .lmode) 2 && onlyBits 0x0040 (m .zcontrol) && onlyBits 0x0D8E (m .hcontrol) && onlyBits 0x0030 (m .lstatus)
+
+unfoldable pub windowFits : Window → Bool
+windowFits w = isBorder (w .left) && isBorder (w .top) && isBorder (w .right) && isBorder (w .bottom)
+
+unfoldable pub vertexFits : Vertex → Bool
+vertexFits v = isCoordinate (v .x) && isCoordinate (v .y)
+
+unfoldable pub figureFits : Figure → Bool
+figureFits f = leb (f .shape) 3 && leb (f .pair) 1 && vertexFits (f .first) && vertexFits (f .second)
+
+-- borders that are parked while WINDOW is awaited
+unfoldable pub valuesFit : Subcommand → List ℕ → Bool
+valuesFit Nothing p = true
+valuesFit Pmode p = true
+valuesFit Lmode p = true
+valuesFit Zcontrol p = true
+valuesFit Hcontrol p = true
+valuesFit Tpattern p = true
+valuesFit Win p = isBorder (value p 0) && isBorder (value p 1) && isBorder (value p 2) && isBorder (value p 3)
+valuesFit Color p = true
+valuesFit Lpattern p = true
+valuesFit Mask p = true
+valuesFit Lstatus p = true
+
+-- a subcommand that takes parameters is awaited, or 13 for none; fewer have come than it takes
+unfoldable pub parkedFits : Parked → Bool
+parkedFits p =
+    (eqb (p .subcommand) 13 || ltb 0 (wants (subcommandOf (p .subcommand))))
+    && leb (p .came) (wants (subcommandOf (p .subcommand)) - 1)
+    && valuesFit (subcommandOf (p .subcommand)) (p .values)
+
+unfoldable pub inBounds : Registers → Bool
+inBounds r =
+    leb (r .started) 1
+    && frameFits (r .frame)
+    && modesFit (r .modes)
+    && windowFits (r .window)
+    && isCoordinate (r .latch .y)
+    && figureFits (r .figure)
+    && parkedFits (r .parked)

@@ -1,0 +1,9 @@
+pub mod Word
+pub mod Lines
+pub mod Subcommand
+pub mod Record
+pub mod Figure
+pub mod Next
+pub mod Allowed
+pub mod Bounds
+pub mod Refusal

@@ -1,0 +1,145 @@
+-- Parts of the register record, the record with one part replaced, and what INIT and reset set (document 01, "Registers").
+use Prim.Native.Nat.{ℕ}
+use mathlib.Core.Bool.{Bool, not}
+use mathlib.Core.List.{List, [], _∷_}
+use lib.Bits.{bitAnd}
+use lib.Dec.{eqb}
+use Rattle.picture.specs.declared.Frame.{Frame}
+use Rattle.picture.specs.declared.Vertex.{Vertex}
+use Rattle.registers.specs.declared.Modes.{Modes}
+use Rattle.registers.specs.declared.Window.{Window}
+use Rattle.registers.specs.declared.Dash.{Dash}
+use Rattle.registers.specs.declared.Latch.{Latch}
+use Rattle.registers.specs.declared.Figure.{Figure}
+use Rattle.registers.specs.declared.Parked.{Parked}
+use Rattle.registers.specs.declared.Registers.{Registers}
+use Rattle.registers.specs.Lines.{codeIn, lineOf}
+
+-- ---- bits of the words that are kept as sent
+
+-- a bit of a word, told by its mask, is 1
+abbrev pub isOn : ℕ → ℕ → Bool
+isOn mask word = not (eqb (bitAnd word mask) 0)
+
+-- ZCONTROL bit 6: depth test
+abbrev pub depthBit : ℕ
+depthBit = 64
+
+-- HCONTROL bit 2: I enable; bit 1: Z enable
+abbrev pub iBit : ℕ
+iBit = 4
+
+abbrev pub zBit : ℕ
+zBit = 2
+
+-- LSTATUS bit 5: INV; bit 4: END
+abbrev pub invBit : ℕ
+invBit = 32
+
+abbrev pub endBit : ℕ
+endBit = 16
+
+-- ---- parts
+
+abbrev pub noVertex : Vertex
+noVertex = record { x = 0; y = 0; i = 0; z = 0 }
+
+-- the parameters of an AUX number are awaited, and none has come
+abbrev pub awaiting : ℕ → Parked
+awaiting number = record { subcommand = number; came = 0; values = 0 ∷ 0 ∷ 0 ∷ 0 ∷ 0 ∷ [] }
+
+-- nothing is awaited, and nothing parked
+abbrev pub nothingAwaited : Parked
+nothingAwaited = awaiting 13
+
+-- a figure with its first vertex
+abbrev pub opened : ℕ → Vertex → Figure
+opened shape v = record { shape = shape; pair = 0; first = v; second = noVertex }
+
+-- no figure is open, and no vertex kept
+abbrev pub noFigure : Figure
+noFigure = opened 0 noVertex
+
+abbrev pub frameOf : ℕ → Frame
+frameOf line = record { line = line }
+
+-- ---- a part with one field replaced
+
+abbrev pub withPmode : Modes → ℕ → Modes
+withPmode m v = record { pmode = v; lmode = m .lmode; zcontrol = m .zcontrol; hcontrol = m .hcontrol; lstatus = m .lstatus; transparency = m .transparency; planes = m .planes }
+
+abbrev pub withLmode : Modes → ℕ → Modes
+withLmode m v = record { pmode = m .pmode; lmode = v; zcontrol = m .zcontrol; hcontrol = m .hcontrol; lstatus = m .lstatus; transparency = m .transparency; planes = m .planes }
+
+abbrev pub withZcontrol : Modes → ℕ → Modes
+withZcontrol m v = record { pmode = m .pmode; lmode = m .lmode; zcontrol = v; hcontrol = m .hcontrol; lstatus = m .lstatus; transparency = m .transparency; planes = m .planes }
+
+abbrev pub withHcontrol : Modes → ℕ → Modes
+withHcontrol m v = record { pmode = m .pmode; lmode = m .lmode; zcontrol = m .zcontrol; hcontrol = v; lstatus = m .lstatus; transparency = m .transparency; planes = m .planes }
+
+abbrev pub withLstatus : Modes → ℕ → Modes
+withLstatus m v = record { pmode = m .pmode; lmode = m .lmode; zcontrol = m .zcontrol; hcontrol = m .hcontrol; lstatus = v; transparency = m .transparency; planes = m .planes }
+
+abbrev pub withTransparency : Modes → ℕ → Modes
+withTransparency m v = record { pmode = m .pmode; lmode = m .lmode; zcontrol = m .zcontrol; hcontrol = m .hcontrol; lstatus = m .lstatus; transparency = v; planes = m .planes }
+
+abbrev pub withPlanes : Modes → ℕ → Modes
+withPlanes m v = record { pmode = m .pmode; lmode = m .lmode; zcontrol = m .zcontrol; hcontrol = m .hcontrol; lstatus = m .lstatus; transparency = m .transparency; planes = v }
+
+abbrev pub latch : ℕ → ℕ → ℕ → Latch
+latch i z y = record { i = i; z = z; y = y }
+
+abbrev pub window : ℕ → ℕ → ℕ → ℕ → Window
+window left top right bottom = record { left = left; top = top; right = right; bottom = bottom }
+
+abbrev pub dash : ℕ → ℕ → ℕ → ℕ → Dash
+dash foreground background high low = record { foreground = foreground; background = background; high = high; low = low }
+
+-- ---- the record with one part replaced
+
+abbrev pub withModes : Registers → Modes → Registers
+withModes r m = record { started = r .started; frame = r .frame; modes = m; window = r .window; dash = r .dash; latch = r .latch; figure = r .figure; parked = r .parked }
+
+abbrev pub withWindow : Registers → Window → Registers
+withWindow r w = record { started = r .started; frame = r .frame; modes = r .modes; window = w; dash = r .dash; latch = r .latch; figure = r .figure; parked = r .parked }
+
+abbrev pub withDash : Registers → Dash → Registers
+withDash r d = record { started = r .started; frame = r .frame; modes = r .modes; window = r .window; dash = d; latch = r .latch; figure = r .figure; parked = r .parked }
+
+abbrev pub withLatch : Registers → Latch → Registers
+withLatch r l = record { started = r .started; frame = r .frame; modes = r .modes; window = r .window; dash = r .dash; latch = l; figure = r .figure; parked = r .parked }
+
+abbrev pub withFigure : Registers → Figure → Registers
+withFigure r f = record { started = r .started; frame = r .frame; modes = r .modes; window = r .window; dash = r .dash; latch = r .latch; figure = f; parked = r .parked }
+
+abbrev pub withParked : Registers → Parked → Registers
+withParked r p = record { started = r .started; frame = r .frame; modes = r .modes; window = r .window; dash = r .dash; latch = r .latch; figure = r .figure; parked = p }
+
+-- ---- INIT and reset
+
+-- INIT sets: Gouraud; line mode 1; depth test off; hardware bits 0, so both write enables are off; INV 1, END 0; transparency FFFF;
+-- planes FFFF
+abbrev pub firstModes : Modes
+firstModes = record { pmode = 0; lmode = 1; zcontrol = 0; hcontrol = 0; lstatus = invBit; transparency = 65535; planes = 65535 }
+
+-- window from 0 to 8192 both ways; foreground 1, background 0; line pattern all ones; I, Z, Y registers 0; no figure open, nothing awaited
+unfoldable pub settings : ℕ → Frame → Registers
+settings started frame =
+    record {
+      started = started;
+      frame = frame;
+      modes = firstModes;
+      window = window 0 8192 8192 0;
+      dash = dash 1 0 65535 65535;
+      latch = latch 0 0 0;
+      figure = noFigure;
+      parked = nothingAwaited;
+    }
+
+-- after reset: the same with line length 256, and no INIT accepted yet
+abbrev pub resetOf : Registers
+resetOf = settings 0 (frameOf 256)
+
+-- after INIT: the line length that its code names
+abbrev pub initOf : Registers → ℕ → Registers
+initOf r d = settings 1 (frameOf (lineOf (codeIn d)))

@@ -1,0 +1,115 @@
+-- The numbers 1 to 10 that refuse a word, each given exactly when document 01's table says ("Numbers that come back"), and the record
+-- after a word.
+use Prim.Native.Nat.{ℕ, suc}
+use mathlib.Core.Bool.{Bool, true, false, cond, not, _&&_, _||_}
+use mathlib.Core.List.{List, [], _∷_}
+use lib.Dec.{ltb, eqb}
+use Rattle.registers.specs.declared.word.Word.{Word}
+use Rattle.registers.specs.declared.word.Word.the-variants.{Init, Aux, Parm, At, Reserved, Unmodelled, Unknown}
+use Rattle.registers.specs.declared.Registers.{Registers}
+use Rattle.registers.specs.Subcommand.{wants}
+use Rattle.registers.specs.Next.{awaited, after}
+use Rattle.registers.specs.Allowed.{allowed, fits}
+use Rattle.registers.specs.Bounds.{inBounds}
+
+-- ---- what is asked of a word and of the record
+
+abbrev pub isInit : Word → Bool
+isInit (Init d) = true
+isInit (Aux n) = false
+isInit (Parm v) = false
+isInit (At c n) = false
+isInit Reserved = false
+isInit Unmodelled = false
+isInit Unknown = false
+
+abbrev pub isParm : Word → Bool
+isParm (Init d) = false
+isParm (Aux n) = false
+isParm (Parm v) = true
+isParm (At c n) = false
+isParm Reserved = false
+isParm Unmodelled = false
+isParm Unknown = false
+
+-- a command above 15
+abbrev pub isUnknown : Word → Bool
+isUnknown (Init d) = false
+isUnknown (Aux n) = false
+isUnknown (Parm v) = false
+isUnknown (At c n) = false
+isUnknown Reserved = false
+isUnknown Unmodelled = false
+isUnknown Unknown = true
+
+-- command 7 or C hex
+abbrev pub isReserved : Word → Bool
+isReserved (Init d) = false
+isReserved (Aux n) = false
+isReserved (Parm v) = false
+isReserved (At c n) = false
+isReserved Reserved = true
+isReserved Unmodelled = false
+isReserved Unknown = false
+
+-- command 0, 9 or A hex; AUX 2, 7 or 11
+abbrev pub isUnmodelled : Word → Bool
+isUnmodelled (Init d) = false
+isUnmodelled (Aux n) = eqb n 2 || eqb n 7 || eqb n 11
+isUnmodelled (Parm v) = false
+isUnmodelled (At c n) = false
+isUnmodelled Reserved = false
+isUnmodelled Unmodelled = true
+isUnmodelled Unknown = false
+
+-- AUX above 12
+abbrev pub isAbove : Word → Bool
+isAbove (Init d) = false
+isAbove (Aux n) = ltb 12 n
+isAbove (Parm v) = false
+isAbove (At c n) = false
+isAbove Reserved = false
+isAbove Unmodelled = false
+isAbove Unknown = false
+
+-- before the first accepted INIT
+abbrev pub isCold : Registers → Bool
+isCold r = eqb (r .started) 0
+
+-- a parameter is awaited
+abbrev pub awaits : Registers → Bool
+awaits r = ltb 0 (wants (awaited r))
+
+-- ---- the table
+
+-- the numbers from 1 on, each with when it applies; `unfit` says that the record or the memories are
+abbrev pub table : Bool → Registers → Word → List Bool
+table unfit r w =
+    isUnknown w  -- 1: command above 15
+    ∷ unfit  -- 2: the memories differ in length, or the record breaks a bound
+    ∷ (not (isInit w) && isCold r)  -- 3: any word but INIT before the first accepted INIT
+    ∷ isReserved w  -- 4: command 7 or C hex
+    ∷ isUnmodelled w  -- 5: command 0, 9 or A hex; AUX 2, 7 or 11
+    ∷ (not (isParm w || isInit w) && awaits r)  -- 6: a parameter is awaited and the word is neither PARM nor INIT
+    ∷ (isParm w && not (awaits r))  -- 7: PARM with none awaited
+    ∷ isAbove w  -- 8: AUX above 12
+    ∷ not (allowed r w)  -- 9: a value not allowed
+    ∷ not (fits r w)  -- 10: X or PX that fits no open figure
+    ∷ []
+
+-- the lowest number that applies, counted from n on; 0 where none does
+abbrev pub lowest : ℕ → List Bool → ℕ
+lowest n [] = 0
+lowest n (b ∷ bs) = cond b n (lowest (suc n) bs)
+
+-- memories of two lengths, or the record, are not such as a word may meet
+abbrev pub isUnfit : ℕ → ℕ → Registers → Bool
+isUnfit ni nz r = not (eqb ni nz) || not (inBounds r)
+
+-- the number that a word gets over memories of two lengths: the lowest that applies, 0 for none
+unfoldable pub refusalOf : ℕ → ℕ → Registers → Word → ℕ
+refusalOf ni nz r w = lowest 1 (table (isUnfit ni nz r) r w)
+
+-- the record after a word: unchanged if it is refused
+unfoldable pub next : ℕ → ℕ → Registers → Word → Registers
+next ni nz r w = cond (eqb (refusalOf ni nz r w) 0) (after r w) r

@@ -1,0 +1,89 @@
+// What is allowed of a word's data, and which vertices fit the open figure.
+ghost use mathlib.Core.Path.{_≡_};
+ghost use Rattle.registers.specs.Allowed.{initAllowed, parameterAllowed, coordinateAllowed, xFits, pxFits, coordinateFits};
+use crate::lines::line_length;
+use crate::shape::Shape;
+use crate::subcommand::Subcommand;
+use crate::word::Coordinate;
+
+// INIT's data: chips and unit 0, a page code up to 7, a line code that is listed.
+pub(crate) fn is_init_allowed(data: u16) -> bool
+    ensures { λ r. ⌜ r ≡ initAllowed «data» ⌝ }
+{
+    (data / 64 % 4 == 0) & (data / 16 % 4 == 0) & (data % 16 <= 7) & !(line_length(data) == 0)
+}
+
+// A parameter of a subcommand of which k have come before it.
+pub(crate) fn is_parameter_allowed(s: Subcommand, k: u16, v: u16) -> bool
+    ensures { λ r. ⌜ r ≡ parameterAllowed s k v ⌝ }
+{
+    match s {
+        Subcommand::Nothing => true,
+        Subcommand::Pmode => v <= 1,
+        Subcommand::Lmode => v <= 2,
+        Subcommand::Zcontrol => v & !0x0040 == 0,
+        Subcommand::Hcontrol => v & !0x0D8E == 0,
+        Subcommand::Tpattern => true,
+        Subcommand::Window => if k < 4 { v <= 8192 } else { v == 0 },
+        Subcommand::Color => true,
+        Subcommand::Lpattern => true,
+        Subcommand::Mask => true,
+        Subcommand::Lstatus => v & !0x0030 == 0,
+    }
+}
+
+// A coordinate's number.
+pub(crate) fn is_coordinate_allowed(c: Coordinate, n: u16) -> bool
+    ensures { λ r. ⌜ r ≡ coordinateAllowed c n ⌝ }
+{
+    match c {
+        Coordinate::I => true,
+        Coordinate::Z => true,
+        Coordinate::Y => n <= 8191,
+        Coordinate::X => n <= 8191,
+        Coordinate::T1x => n <= 8191,
+        Coordinate::T2x => n <= 8191,
+        Coordinate::Lx => n <= 8191,
+        Coordinate::Px => n <= 8191,
+    }
+}
+
+// Whether X fits the open figure in a line mode.
+fn x_fits(shape: Shape, lmode: u16) -> bool
+    ensures { λ r. ⌜ r ≡ xFits shape lmode ⌝ }
+{
+    match shape {
+        Shape::Closed => false,
+        Shape::Strip => true,
+        Shape::Fan => true,
+        Shape::Line => lmode == 2,
+    }
+}
+
+// Whether PX fits the open figure in a line mode.
+fn px_fits(shape: Shape, lmode: u16) -> bool
+    ensures { λ r. ⌜ r ≡ pxFits shape lmode ⌝ }
+{
+    match shape {
+        Shape::Closed => false,
+        Shape::Strip => false,
+        Shape::Fan => false,
+        Shape::Line => lmode <= 1,
+    }
+}
+
+// Whether a coordinate fits the open figure in a line mode.
+pub(crate) fn coordinate_fits(c: Coordinate, shape: Shape, lmode: u16) -> bool
+    ensures { λ r. ⌜ r ≡ coordinateFits c shape lmode ⌝ }
+{
+    match c {
+        Coordinate::I => true,
+        Coordinate::Z => true,
+        Coordinate::Y => true,
+        Coordinate::X => x_fits(shape, lmode),
+        Coordinate::T1x => true,
+        Coordinate::T2x => true,
+        Coordinate::Lx => true,
+        Coordinate::Px => px_fits(shape, lmode),
+    }
+}

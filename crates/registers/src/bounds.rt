@@ -1,0 +1,106 @@
+// The bounds on the fields of the record.
+ghost use mathlib.Core.Path.{_≡_};
+ghost use Prim.Native.Nat.{_-_};
+ghost use Rattle.registers.specs.Bounds.{frameFits, modesFit, windowFits, vertexFits, figureFits, valuesFit, parkedFits, inBounds};
+use crate::Figure;
+use crate::Modes;
+use crate::Parked;
+use crate::Registers;
+use crate::Window;
+use crate::subcommand::Subcommand;
+use crate::subcommand::subcommand_of;
+use crate::subcommand::wanted;
+use picture::Frame;
+use picture::Vertex;
+
+fn frame_fits(f: Frame) -> bool
+    ensures { λ r. ⌜ r ≡ frameFits f ⌝ }
+{
+    (256 <= f.line) & (f.line <= 8768) & (f.line % 64 == 0)
+}
+
+fn modes_fit(m: Modes) -> bool
+    ensures { λ r. ⌜ r ≡ modesFit m ⌝ }
+{
+    (m.pmode <= 1)
+        & (m.lmode <= 2)
+        & (m.zcontrol & !0x0040 == 0)
+        & (m.hcontrol & !0x0D8E == 0)
+        & (m.lstatus & !0x0030 == 0)
+}
+
+fn window_fits(w: Window) -> bool
+    ensures { λ r. ⌜ r ≡ windowFits w ⌝ }
+{
+    (w.left <= 8192) & (w.top <= 8192) & (w.right <= 8192) & (w.bottom <= 8192)
+}
+
+fn vertex_fits(v: Vertex) -> bool
+    ensures { λ r. ⌜ r ≡ vertexFits v ⌝ }
+{
+    (v.x <= 8191) & (v.y <= 8191)
+}
+
+fn figure_fits(f: Figure) -> bool
+    ensures { λ r. ⌜ r ≡ figureFits f ⌝ }
+{
+    let first = f.first;
+    let second = f.second;
+    (f.shape <= 3) & (f.pair <= 1) & vertex_fits(first) & vertex_fits(second)
+}
+
+// Borders that are parked while WINDOW is awaited.
+fn values_fit(s: Subcommand, p: [u16; 5]) -> bool
+    ensures { λ r. ⌜ r ≡ valuesFit s p ⌝ }
+{
+    match s {
+        Subcommand::Nothing => true,
+        Subcommand::Pmode => true,
+        Subcommand::Lmode => true,
+        Subcommand::Zcontrol => true,
+        Subcommand::Hcontrol => true,
+        Subcommand::Tpattern => true,
+        Subcommand::Window => (p[0] <= 8192) & (p[1] <= 8192) & (p[2] <= 8192) & (p[3] <= 8192),
+        Subcommand::Color => true,
+        Subcommand::Lpattern => true,
+        Subcommand::Mask => true,
+        Subcommand::Lstatus => true,
+    }
+}
+
+// One less, and 0 for 0.
+fn less_one(n: u16) -> u16
+    ensures { λ r. ⌜ r ≡ n - 1 ⌝ }
+{
+    if n == 0 { 0 } else { n - 1 }
+}
+
+fn parked_fits(p: Parked) -> bool
+    ensures { λ r. ⌜ r ≡ parkedFits p ⌝ }
+{
+    let s = subcommand_of(p.subcommand);
+    let values = p.values;
+    let takes = wanted(s);
+    let most = less_one(takes);
+    ((p.subcommand == 13) | (0 < takes)) & (p.came <= most) & values_fit(s, values)
+}
+
+impl Registers {
+    // The record breaks no bound.
+    pub(crate) fn is_sound(self) -> bool
+        ensures { λ r. ⌜ r ≡ inBounds self ⌝ }
+    {
+        let frame = self.frame;
+        let modes = self.modes;
+        let window = self.window;
+        let figure = self.figure;
+        let parked = self.parked;
+        (self.started <= 1)
+            & frame_fits(frame)
+            & modes_fit(modes)
+            & window_fits(window)
+            & (self.latch.y <= 8191)
+            & figure_fits(figure)
+            & parked_fits(parked)
+    }
+}

@@ -1,0 +1,82 @@
+// The command machine without its drawing: words, the register record, what is refused, the record after a word, and the figure that a
+// word completes.
+pub mod allow;
+pub mod bounds;
+pub mod lines;
+pub mod next;
+pub mod refuse;
+pub mod shape;
+pub mod subcommand;
+pub mod word;
+
+use picture::Frame;
+use picture::Vertex;
+
+// The words of PMODE, LMODE, ZCONTROL, HCONTROL, LSTATUS, TPATTERN and MASK, as they were sent. LX rewrites LSTATUS.
+#[repr(C)]
+pub struct Modes {
+    pub pmode: u16,
+    pub lmode: u16,
+    pub zcontrol: u16,
+    pub hcontrol: u16,
+    pub lstatus: u16,
+    pub transparency: u16,
+    pub planes: u16,
+}
+
+// The clipping window. Its borders belong to it.
+#[repr(C)]
+pub struct Window {
+    pub left: u16,
+    pub top: u16,
+    pub right: u16,
+    pub bottom: u16,
+}
+
+// What lines of the modes 0 and 1 are drawn with: two colours, and the pattern's bits 31 to 16 and 15 to 0.
+#[repr(C)]
+pub struct Dash {
+    pub foreground: u16,
+    pub background: u16,
+    pub high: u16,
+    pub low: u16,
+}
+
+// The I, Z and Y registers.
+#[repr(C)]
+pub struct Latch {
+    pub i: u16,
+    pub z: u16,
+    pub y: u16,
+}
+
+// The open figure: 0 for none, 1 a strip, 2 a fan, 3 a line. `first` is the vertex that the next one joins; where `pair` is 1, so is `second`.
+#[repr(C)]
+pub struct Figure {
+    pub shape: u16,
+    pub pair: u16,
+    pub first: Vertex,
+    pub second: Vertex,
+}
+
+// The AUX number whose parameters are awaited, 13 for none; how many have come, and those.
+#[repr(C)]
+pub struct Parked {
+    pub subcommand: u16,
+    pub came: u16,
+    pub values: [u16; 5],
+}
+
+// All registers. Every field is an unsigned number, so that any bits are a record; docs/REGISTERS.md lists the bounds. `started` is 1 once
+// an INIT was accepted.
+#[repr(C)]
+pub struct Registers {
+    pub started: u16,
+    pub frame: Frame,
+    pub modes: Modes,
+    pub window: Window,
+    pub dash: Dash,
+    pub latch: Latch,
+    pub figure: Figure,
+    pub parked: Parked,
+}

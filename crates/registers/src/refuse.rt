@@ -1,0 +1,143 @@
+// The numbers that refuse a word. Each kind of word can get only some of them; an arm asks for these, lowest first.
+ghost use mathlib.Core.Path.{_≡_};
+ghost use mathlib.Core.Bool.{false, not};
+ghost use mathlib.Core.List.{[], _∷_};
+ghost use lib.Dec.{ltb};
+ghost use Rattle.registers.specs.declared.word.Word.the-variants.{Aux};
+ghost use Rattle.registers.specs.Refusal.{isUnknown, isUnmodelled, awaits, table, lowest, refusalOf};
+use crate::Registers;
+use crate::allow::coordinate_fits;
+use crate::allow::is_coordinate_allowed;
+use crate::allow::is_init_allowed;
+use crate::allow::is_parameter_allowed;
+use crate::shape::shape_of;
+use crate::subcommand::subcommand_of;
+use crate::subcommand::wanted;
+use crate::word::Word;
+
+// A word that no command is.
+fn is_unknown(word: Word) -> bool
+    ensures { λ r. ⌜ r ≡ isUnknown word ⌝ }
+{
+    match word {
+        Word::Init(_) => false,
+        Word::Aux(_) => false,
+        Word::Parm(_) => false,
+        Word::At(_, _) => false,
+        Word::Reserved => false,
+        Word::Unmodelled => false,
+        Word::Unknown => true,
+    }
+}
+
+// INIT can get 9 alone.
+fn init_number(allowed: bool) -> u64
+    ensures { λ r. ⌜ r ≡ lowest 9 (not allowed ∷ []) ⌝ }
+{
+    if allowed { 0 } else { 9 }
+}
+
+// AUX can get 3, 5, 6 and 8.
+fn aux_number(cold: bool, waits: bool, number: u16) -> u64
+    ensures { λ r. ⌜ r ≡ lowest 3 (cold ∷ false ∷ isUnmodelled (Aux number) ∷ waits ∷ false ∷ ltb 12 number ∷ []) ⌝ }
+{
+    if cold {
+        return 3;
+    }
+    if (number == 2) | (number == 7) | (number == 11) {
+        return 5;
+    }
+    if waits {
+        return 6;
+    }
+    if 12 < number {
+        return 8;
+    }
+    0
+}
+
+// PARM can get 3, 7 and 9.
+fn parm_number(cold: bool, waits: bool, allowed: bool) -> u64
+    ensures { λ r. ⌜ r ≡ lowest 3 (cold ∷ false ∷ false ∷ false ∷ not waits ∷ false ∷ not allowed ∷ []) ⌝ }
+{
+    if cold {
+        return 3;
+    }
+    if !waits {
+        return 7;
+    }
+    if !allowed {
+        return 9;
+    }
+    0
+}
+
+// A coordinate can get 3, 6, 9 and 10.
+fn coordinate_number(cold: bool, waits: bool, allowed: bool, fits: bool) -> u64
+    ensures { λ r. ⌜ r ≡ lowest 3 (cold ∷ false ∷ false ∷ waits ∷ false ∷ false ∷ not allowed ∷ not fits ∷ []) ⌝ }
+{
+    if cold {
+        return 3;
+    }
+    if waits {
+        return 6;
+    }
+    if !allowed {
+        return 9;
+    }
+    if !fits {
+        return 10;
+    }
+    0
+}
+
+impl Registers {
+    // A parameter is awaited.
+    fn is_awaiting(self) -> bool
+        ensures { λ r. ⌜ r ≡ awaits self ⌝ }
+    {
+        let number = self.parked.subcommand;
+        let s = subcommand_of(number);
+        0 < wanted(s)
+    }
+
+    // The number that a word gets where the record and the memories are fit, the lowest that applies; 0 for none.
+    fn judged(self, word: Word) -> u64
+        ensures { λ r. ⌜ r ≡ lowest 1 (table false self word) ⌝ }
+    {
+        let cold = self.started == 0;
+        let waits = self.is_awaiting();
+        let number = self.parked.subcommand;
+        let came = self.parked.came;
+        let shape = shape_of(self.figure.shape);
+        let lmode = self.modes.lmode;
+        match word {
+            Word::Init(data) => init_number(is_init_allowed(data)),
+            Word::Aux(n) => aux_number(cold, waits, n),
+            Word::Parm(v) => parm_number(
+                cold,
+                waits,
+                is_parameter_allowed(subcommand_of(number), came, v),
+            ),
+            Word::At(c, n) => coordinate_number(
+                cold,
+                waits,
+                is_coordinate_allowed(c, n),
+                coordinate_fits(c, shape, lmode),
+            ),
+            Word::Reserved => if cold { 3 } else { 4 },
+            Word::Unmodelled => if cold { 3 } else { 5 },
+            Word::Unknown => 1,
+        }
+    }
+
+    // The number that refuses a word over memories of two lengths, the lowest that applies; 0 for none.
+    pub fn refusal(self, word: Word, ni: usize, nz: usize) -> u64
+        ensures { λ r. ⌜ r ≡ refusalOf ni nz self word ⌝ }
+    {
+        if !(ni == nz) | !self.is_sound() {
+            return if is_unknown(word) { 1 } else { 2 };
+        }
+        self.judged(word)
+    }
+}

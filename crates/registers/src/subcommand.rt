@@ -1,0 +1,59 @@
+// The subcommands of AUX.
+ghost use mathlib.Core.Path.{_≡_};
+ghost use Rattle.registers.specs.Subcommand.{subcommandOf, wants};
+
+// The subcommands that are modelled, and none.
+pub enum Subcommand {
+    Nothing,
+    Pmode,
+    Lmode,
+    Zcontrol,
+    Hcontrol,
+    Tpattern,
+    Window,
+    Color,
+    Lpattern,
+    Mask,
+    Lstatus,
+}
+
+// The subcommand of an AUX number; nothing for one that AUX refuses, and for 13.
+pub fn subcommand_of(number: u16) -> Subcommand
+    ensures { λ r. ⌜ r ≡ subcommandOf number ⌝ }
+{
+    match number {
+        0 => Subcommand::Pmode,
+        1 => Subcommand::Lmode,
+        2 => Subcommand::Nothing,
+        3 => Subcommand::Zcontrol,
+        4 => Subcommand::Hcontrol,
+        5 => Subcommand::Tpattern,
+        6 => Subcommand::Window,
+        7 => Subcommand::Nothing,
+        8 => Subcommand::Color,
+        9 => Subcommand::Lpattern,
+        10 => Subcommand::Mask,
+        11 => Subcommand::Nothing,
+        12 => Subcommand::Lstatus,
+        _ => Subcommand::Nothing,
+    }
+}
+
+// How many parameters a subcommand takes.
+pub fn wanted(s: Subcommand) -> u16
+    ensures { λ r. ⌜ r ≡ wants s ⌝ }
+{
+    match s {
+        Subcommand::Nothing => 0,
+        Subcommand::Pmode => 1,
+        Subcommand::Lmode => 1,
+        Subcommand::Zcontrol => 1,
+        Subcommand::Hcontrol => 1,
+        Subcommand::Tpattern => 1,
+        Subcommand::Window => 5,
+        Subcommand::Color => 2,
+        Subcommand::Lpattern => 2,
+        Subcommand::Mask => 1,
+        Subcommand::Lstatus => 1,
+    }
+}
