@@ -13,9 +13,12 @@ pub length-field : (n after : ℕ) → length (field n after) ≡ length (decima
 unfolding field
 length-field n after = length-append (decimal n) (after ∷ [])
 
-pub length-pair : (m n after : ℕ) → length (pair m n after) ≡ length (decimal m) + length (decimal n) + 2
+pub pair-parts : (m n after : ℕ) → length (pair m n after) ≡ length (field m 32) + length (field n after)
 unfolding pair
-length-pair m n after = omega (arith, length-append (field m 32) (field n after), length-field m 32, length-field n after)
+pair-parts m n after = length-append (field m 32) (field n after)
+
+pub length-pair : (m n after : ℕ) → length (pair m n after) ≡ length (decimal m) + length (decimal n) + 2
+length-pair m n after = omega (arith, pair-parts m n after, length-field m 32, length-field n after)
 
 -- a place that shows, by its column and its row
 module _ (line place i z : ℕ) {x y : ℕ} (h : i ≡ 0 → ⊥) (p : x ≡ columnOf line place) (q : y ≡ rowOf line place) where
@@ -32,26 +35,33 @@ unfolding shown
 shown-none line place i z h = rw h
 
 -- the first line
-pub length-named : (name : List ℕ) (n after : ℕ) → length (named name n after) ≡ length name + length (decimal n) + 1
+pub named-parts : (name : List ℕ) (n after : ℕ) → length (named name n after) ≡ length name + length (field n after)
 unfolding named
-length-named name n after = omega (arith, length-append name (field n after), length-field n after)
+named-parts name n after = length-append name (field n after)
 
-pub length-heading : (words refusal passed : ℕ)
-    → length (heading words refusal passed) ≡ length (decimal words) + length (decimal refusal) + length (decimal passed) + 24
-unfolding heading
-length-heading words refusal passed =
-    let a = named wordsName words 32 in
-    let b = named refusalName refusal 32 in
-    let c = named passedName passed 10 in
-    let all : length (heading words refusal passed) ≡ length (a ++ b) + length c = length-append (a ++ b) c in
-    omega (
-      arith,
-      all,
-      length-append a b,
-      length-named wordsName words 32,
-      length-named refusalName refusal 32,
-      length-named passedName passed 10,
-    )
+module _ (words refusal passed : ℕ) where
+  pub heading-parts : length (heading words refusal passed)
+      ≡ length (named wordsName words 32) + length (named refusalName refusal 32) + length (named passedName passed 10)
+  unfolding heading
+  heading-parts =
+      let a = named wordsName words 32 in
+      let b = named refusalName refusal 32 in
+      let c = named passedName passed 10 in
+      let all : length (heading words refusal passed) ≡ length (a ++ b) + length c = length-append (a ++ b) c in
+      omega (arith, all, length-append a b)
+
+  pub length-heading : length (heading words refusal passed) ≡ length (decimal words) + length (decimal refusal) + length (decimal passed) + 24
+  length-heading =
+      omega (
+        arith,
+        heading-parts,
+        named-parts wordsName words 32,
+        named-parts refusalName refusal 32,
+        named-parts passedName passed 10,
+        length-field words 32,
+        length-field refusal 32,
+        length-field passed 10,
+      )
 
 -- ---- the lines so far
 

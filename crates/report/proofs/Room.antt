@@ -8,7 +8,7 @@ use native.Mathlib.Omega.{arith}
 use borrow.Author.Tests.{eqb-true, eqb-false}
 use lib.ListN.{length, getD, length-append}
 use lib.Dec.{eqb}
-use Rattle.report.specs.Text.{shown, columnOf, rowOf, lines, heading, report}
+use Rattle.report.specs.Text.{shown, columnOf, rowOf, lines, report}
 use Rattle.report.proofs.Decimal.{decimal-below, decimal-short}
 use Rattle.report.proofs.Lengths.{length-pair, shown-none, length-shown, length-heading, length-report}
 
@@ -27,13 +27,14 @@ shown-short line place i z h g k = go (eqb i 0) refl
         let fourth = decimal-below 4 z (omega arith) in
         omega (arith, first, second, third, fourth, length-shown line place i z (eqb-false i 0 t) refl refl, length-pair x y 32, length-pair i z 10)
 
-module _ (line : ℕ) (im zm : List ℕ) (small : (k : ℕ) → getD im k 0 < 100000) (shallow : (k : ℕ) → getD zm k 0 < 100000) where
+module _ (line : ℕ) (im zm : List ℕ) (small : (k : ℕ) → getD im k 0 < 100000) (low : (k : ℕ) → getD zm k 0 < 100000) where
   lines-short : (n : ℕ) → n ≤ 10000 → length (lines line im zm n) ≤ 22 * n
   unfolding lines
   lines-short zero h = omega arith
   lines-short (suc n) h =
       let here = shown line n (getD im n 0) (getD zm n 0) in
-      omega (arith, lines-short n (omega arith), shown-short line n (getD im n 0) (getD zm n 0) (omega arith) (small n) (shallow n), length-append (lines line im zm n) here)
+      let more = shown-short line n (getD im n 0) (getD zm n 0) (omega arith) (small n) (low n) in
+      omega (arith, lines-short n (omega arith), more, length-append (lines line im zm n) here)
 
   -- three numbers of 64 bits, and at most 10,000 places
   pub report-short : (words refusal passed : ℕ) → words < 2 ^ 64 → refusal < 2 ^ 64 → passed < 2 ^ 64 → length im ≤ 10000

@@ -16,10 +16,16 @@ enum-known-taken : tie.Need-enum-known-taken
 enum-known-taken c = search needs
 
 array-share-prefix-bytes : tie.Need-array-share-prefix-bytes
-array-share-prefix-bytes c = let n = rw (c .before .taken .given .1) at (c .before .before .before .before .take .ensures) in omega (arith, n, c .before .before .before .before .take .kept .0)
+array-share-prefix-bytes c =
+    let t = c .before .before .before .before in
+    let n = rw (c .before .taken .given .1) at (t .take .ensures) in
+    omega (arith, n, t .take .kept .0)
 
 slice-aggregate-print : tie.Need-slice-aggregate-print
-slice-aggregate-print c = let n = rw (c .before .before .taken .given .1) at (c .before .before .before .before .before .take .ensures) in sym (length-take-le _ _ (omega (arith, n, c .before .before .before .before .before .take .kept .0)))
+slice-aggregate-print c =
+    let t = c .before .before .before .before .before in
+    let n = rw (c .before .before .taken .given .1) at (t .take .ensures) in
+    sym (length-take-le _ _ (omega (arith, n, t .take .kept .0)))
 
 print-requires : tie.Need-print-requires
 print-requires c κs = search needs

@@ -27,19 +27,28 @@ enum-told : tie.Need-enum-told Inv-loop μ-loop
 enum-told c = search needs
 
 same-length : tie.Need-same-length Inv-loop μ-loop
-same-length c = c .before .before .before .before .read-from .kept .0 ∙ c .before .before .before .before .before .before .before .loop .inv .1
+same-length c = let r = c .before .before .before .before in r .read-from .kept .0 ∙ r .before .before .before .loop .inv .1
 
 returns : tie.Need-returns Inv-loop μ-loop
 returns c = search needs
 
 add-at : tie.Need-add-at Inv-loop μ-loop
-add-at c = let n = rw (c .before .before .more .given .1) at (c .before .before .before .before .before .before .read-from .ensures) in omega (arith, n)
+add-at c =
+    let r = c .before .before .before .before .before .before in
+    let n = rw (c .before .before .more .given .1) at (r .read-from .ensures) in
+    omega (arith, n)
 
 loop-less : tie.Need-loop-less Inv-loop μ-loop
-loop-less c = let n = rw (c .before .before .more .given .1) at (c .before .before .before .before .before .before .read-from .ensures) in omega (arith, n, c .before .before .before .before .before .before .read-from .kept .0, c .if1 .left)
+loop-less c =
+    let r = c .before .before .before .before .before .before in
+    let n = rw (c .before .before .more .given .1) at (r .read-from .ensures) in
+    omega (arith, n, r .read-from .kept .0, c .if1 .left)
 
 loop-again : tie.Need-loop-again Inv-loop μ-loop
-loop-again c = let n = rw (c .before .before .more .given .1) at (c .before .before .before .before .before .before .read-from .ensures) in (omega (arith, n, c .before .before .before .before .before .before .read-from .kept .0), c .before .before .before .before .before .before .read-from .kept .0 ∙ c .before .before .before .before .before .before .before .before .before .loop .inv .1)
+loop-again c =
+    let r = c .before .before .before .before .before .before in
+    let n = rw (c .before .before .more .given .1) at (r .read-from .ensures) in
+    (omega (arith, n, r .read-from .kept .0), r .read-from .kept .0 ∙ r .before .before .before .loop .inv .1)
 
 same-length-2 : tie.Need-same-length-2 Inv-loop μ-loop
 same-length-2 c = c .before .loop .inv .1
@@ -48,7 +57,7 @@ returns-2 : tie.Need-returns-2 Inv-loop μ-loop
 returns-2 c = search needs
 
 same-length-3 : tie.Need-same-length-3 Inv-loop μ-loop
-same-length-3 c = c .before .before .before .before .before .before .read-from .kept .0 ∙ c .before .before .before .before .before .before .before .before .before .loop .inv .1
+same-length-3 c = let r = c .before .before .before .before .before .before in r .read-from .kept .0 ∙ r .before .before .before .loop .inv .1
 
 returns-3 : tie.Need-returns-3 Inv-loop μ-loop
 returns-3 c = search needs

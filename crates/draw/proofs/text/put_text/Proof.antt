@@ -15,15 +15,22 @@ enum-told c = search needs
 
 returns : tie.Need-returns
 returns c =
-    let s = c .before .before .before .before .before .before .before in
-    let a = s .args in
-    text-stands (a .words) (a .refusal) (a .passed) (a .line) (a .im .now) (a .zm .now) (a .out .now) _ _ (search needs) (search needs) (search needs) (search needs) (λ k. c .before .before .before .before .before .before .shared-slice-known .given k .fits) (λ k. c .before .before .before .before .before .shared-slice-known2 .given k .fits) (search needs) (c .before .before .before .write .ensures) (c .before .answer .given .1)
+    let w = c .before .before .before in
+    let z = w .before .before in
+    let i = w .before .before .before in
+    let a = w .before .before .before .before .args in
+    text-stands (a .words) (a .refusal) (a .passed) (a .line) (a .im .now) (a .zm .now) (a .out .now) _ _ (search needs) (search needs) (search needs) (search needs)
+    (λ k. i .shared-slice-known .given k .fits) (λ k. z .shared-slice-known2 .given k .fits) (search needs) (w .write .ensures) (c .before .answer .given .1)
 
 returns-2 : tie.Need-returns-2
 returns-2 c =
-    let s = c .before .before .before .before .before .before in
-    let a = s .args in
-    absurd (text-fits (a .words) (a .refusal) (a .passed) (a .line) (a .im .now) (a .zm .now) (a .out .now) _ _ (search needs) (search needs) (search needs) (search needs) (λ k. c .before .before .before .before .before .shared-slice-known .given k .fits) (λ k. c .before .before .before .before .shared-slice-known2 .given k .fits) (search needs) (c .before .before .write .ensures) (c .enum-told .given .1))
+    let w = c .before .before in
+    let z = w .before .before in
+    let i = w .before .before .before in
+    let a = w .before .before .before .before .args in
+    absurd
+    (text-fits (a .words) (a .refusal) (a .passed) (a .line) (a .im .now) (a .zm .now) (a .out .now) _ _ (search needs) (search needs) (search needs) (search needs)
+    (λ k. i .shared-slice-known .given k .fits) (λ k. z .shared-slice-known2 .given k .fits) (search needs) (w .write .ensures) (c .enum-told .given .1))
 
 pub put-text-spec : {M : Type 1} → statement M
 put-text-spec = tie.close (tie.spec write-requires enum-known-answer enum-told returns returns-2)

@@ -2,16 +2,16 @@
 use native.Mathlib.Omega.{arith}
 use borrow.Author.Needs.{needs}
 use Rattle.report.specs.Text.{pair}
-use Rattle.report.proofs.Lengths.{length-field, length-pair}
+use Rattle.report.proofs.Lengths.{pair-parts}
 use Rattle.report.proofs.Putting.{put-append}
 use Rattle.report.proofs.number.put_pair.Statement.{statement}
 use Rattle.report.proofs.number.put_pair.Tie as tie
 
 put-field-requires : tie.Need-put-field-requires
-put-field-requires c κs = let a = c .before .before .args in omega (arith, length-pair (a .m) (a .n) (a .after), length-field (a .m) 32)
+put-field-requires c κs = let a = c .before .before .args in omega (arith, pair-parts (a .m) (a .n) (a .after))
 
 put-field-requires-2 : tie.Need-put-field-requires-2
-put-field-requires-2 c κs = let a = c .before .before .before .before .before .before .args in omega (arith, length-pair (a .m) (a .n) (a .after), length-field (a .m) 32, length-field (a .n) (a .after))
+put-field-requires-2 c κs = let a = c .before .before .before .before .before .before .args in omega (arith, pair-parts (a .m) (a .n) (a .after))
 
 same-length : tie.Need-same-length
 same-length c = search needs

@@ -16,22 +16,28 @@ put-pair-requires : tie.Need-put-pair-requires
 put-pair-requires c κs =
     let t = c .before .before .before in
     let a = t .before .before .args in
-    omega (arith, length-shown (a .line) (a .place) (a .i) (a .z) (t .if1 .taken) (c .before .before .column .ensures) (c .before .row .ensures))
+    let x = c .before .before .column in
+    let y = c .before .row in
+    omega (arith, length-shown (a .line) (a .place) (a .i) (a .z) (t .if1 .taken) (x .ensures) (y .ensures))
 
 put-pair-requires-2 : tie.Need-put-pair-requires-2
 put-pair-requires-2 c κs =
     let t = c .before .before .before .before .before .before .before in
     let a = t .before .before .args in
-    omega (arith, length-shown (a .line) (a .place) (a .i) (a .z) (t .if1 .taken) (c .before .before .before .before .before .before .column .ensures) (c .before .before .before .before .before .row .ensures))
+    let x = c .before .before .before .before .before .before .column in
+    let y = c .before .before .before .before .before .row in
+    omega (arith, length-shown (a .line) (a .place) (a .i) (a .z) (t .if1 .taken) (x .ensures) (y .ensures))
 
 same-length : tie.Need-same-length
 same-length c = search needs
 
 returns : tie.Need-returns
 returns c =
-    let t = c .before .before .before .before .before .before .before .before .before .before in
+    let first = c .before .before .before .before .before .before in
+    let t = first .before .before .before .before in
     let a = t .before .before .args in
-    rw (shown-line (a .line) (a .place) (a .i) (a .z) (t .if1 .taken) (c .before .before .before .before .before .before .before .before .before .column .ensures) (c .before .before .before .before .before .before .before .before .row .ensures)) (put-append (c .before .before .before .before .before .before .put-pair .ensures) (c .before .before .put-pair2 .ensures))
+    rw (shown-line (a .line) (a .place) (a .i) (a .z) (t .if1 .taken) (first .before .before .before .column .ensures) (first .before .before .row .ensures))
+    (put-append (first .put-pair .ensures) (c .before .before .put-pair2 .ensures))
 
 returns-2 : tie.Need-returns-2
 returns-2 c = let a = c .before .before .args in rw (shown-none (a .line) (a .place) (a .i) (a .z) (c .if1 .left)) (put-none (a .out .now) (a .at))

@@ -69,7 +69,9 @@ returns-2 c =
     let a = l .before .before .before .before .before .args in
     let p = l .loop .place in
     let more = next (a .line) (a .im .now) (a .zm .now) p (c .before .before .number-at .ensures) (c .before .place-size .ensures) in
-    sym (lt-ltb (a .room) _ (omega (arith, length-report (a .line) (a .im .now) (a .zm .now) (a .words) (a .refusal) (a .passed), more, c .if2 .taken, l .loop .inv .1, l .loop .inv .2, lines-within (a .line) (a .im .now) (a .zm .now) p (omega arith))))
+    let all = length-report (a .line) (a .im .now) (a .zm .now) (a .words) (a .refusal) (a .passed) in
+    let within = lines-within (a .line) (a .im .now) (a .zm .now) p (omega arith) in
+    sym (lt-ltb (a .room) _ (omega (arith, all, more, within, c .if2 .taken, l .loop .inv .1, l .loop .inv .2)))
 
 add-size : tie.Need-add-size Inv-loop μ-loop
 add-size c = search needs

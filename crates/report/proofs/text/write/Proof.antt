@@ -24,20 +24,25 @@ put-heading-requires c κs =
 
 put-lines-requires : tie.Need-put-lines-requires
 put-lines-requires c κs =
-    let h = c .before .before .before .before .before .before in
+    let p = c .before .before .before in
+    let t = p .before .before in
+    let h = t .before in
     let a = h .before .before .before .before .args in
-    let enough = fits (a .words) (a .refusal) (a .passed) (a .line) (a .im .now) (a .zm .now) (a .out .now) (h .is-longer .ensures) (c .before .before .before .before .before .if1 .left) in
-    omega (arith, enough, length-report (a .line) (a .im .now) (a .zm .now) (a .words) (a .refusal) (a .passed), c .before .before .before .put-heading .ensures .ends)
+    let enough = fits (a .words) (a .refusal) (a .passed) (a .line) (a .im .now) (a .zm .now) (a .out .now) (h .is-longer .ensures) (t .if1 .left) in
+    omega (arith, enough, length-report (a .line) (a .im .now) (a .zm .now) (a .words) (a .refusal) (a .passed), p .put-heading .ensures .ends)
 
 same-length : tie.Need-same-length
 same-length c = search needs
 
 returns-2 : tie.Need-returns-2
 returns-2 c =
-    let h = c .before .before .before .before .before .before .before .before .before in
+    let q = c .before .before in
+    let p = q .before .before .before .before in
+    let t = p .before .before in
+    let h = t .before in
     let a = h .before .before .before .before .args in
-    let enough = fits (a .words) (a .refusal) (a .passed) (a .line) (a .im .now) (a .zm .now) (a .out .now) (h .is-longer .ensures) (c .before .before .before .before .before .before .before .before .if1 .left) in
-    done (a .words) (a .refusal) (a .passed) (a .line) (a .im .now) (a .zm .now) (a .out .now) enough (c .before .before .before .before .before .before .put-heading .ensures) (c .before .before .put-lines .ensures)
+    let enough = fits (a .words) (a .refusal) (a .passed) (a .line) (a .im .now) (a .zm .now) (a .out .now) (h .is-longer .ensures) (t .if1 .left) in
+    done (a .words) (a .refusal) (a .passed) (a .line) (a .im .now) (a .zm .now) (a .out .now) enough (p .put-heading .ensures) (q .put-lines .ensures)
 
 pub write-spec : {M : Type 1} → statement M
 write-spec =
