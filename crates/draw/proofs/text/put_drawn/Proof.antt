@@ -1,0 +1,40 @@
+-- `text::put_drawn` meets its contract: the text is that of what the run came to. Assumes nothing.
+use mathlib.Core.Path.{ap}
+use borrow.Author.Needs.{needs}
+use Rattle.draw.specs.Draw.{textOf, drawn}
+use Rattle.draw.proofs.text.put_drawn.Statement.{statement}
+use Rattle.draw.proofs.text.put_drawn.Tie as tie
+
+slice-aggregate-run : tie.Need-slice-aggregate-run
+slice-aggregate-run c = search needs
+
+slice-aggregate-run-2 : tie.Need-slice-aggregate-run-2
+slice-aggregate-run-2 c = search needs
+
+run-requires : tie.Need-run-requires
+run-requires c κs = search needs
+
+slice-aggregate-put-text : tie.Need-slice-aggregate-put-text
+slice-aggregate-put-text c = search needs
+
+slice-aggregate-put-text-2 : tie.Need-slice-aggregate-put-text-2
+slice-aggregate-put-text-2 c = search needs
+
+put-text-requires : tie.Need-put-text-requires
+put-text-requires c κs = search needs
+
+returns : tie.Need-returns
+unfolding drawn textOf
+returns c = rw (ap textOf (c .before .before .before .before .before .before .run .ensures)) at (c .put-text .ensures)
+
+pub put-drawn-spec : {M : Type 1} → statement M
+put-drawn-spec =
+    tie.close
+    (tie.spec
+    slice-aggregate-run
+    slice-aggregate-run-2
+    run-requires
+    slice-aggregate-put-text
+    slice-aggregate-put-text-2
+    put-text-requires
+    returns)

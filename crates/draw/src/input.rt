@@ -1,0 +1,41 @@
+// Standard input, read to its end or until the buffer is full.
+ghost use lib.ListN.{length};
+ghost use Prim.Native.Nat.{_≤_, _-_};
+ghost use Rattle.draw.specs.Input.{Within};
+use libc::STDIN_FILENO;
+
+// How many bytes came, or that a read failed.
+pub(crate) enum Taken {
+    Bytes(usize),
+    Failed,
+}
+
+// One read, to index `at` and behind it; 0 bytes at the end of the input.
+fn read_from(buf: &mut [u8], at: usize) -> Taken
+    requires { ⌜ at ≤ length (now buf) ⌝ }
+    ensures { λ r. ⌜ Within (length (now (buf .entry)) - at) r ⌝ }
+{
+    let got = libc::read(STDIN_FILENO, &mut buf[at..]);
+    if got < 0 {
+        return Taken::Failed;
+    }
+    Taken::Bytes(io::count(got, &buf[at..]))
+}
+
+// Reads until the input ends or the buffer is full: the bytes may come in pieces.
+pub(crate) fn take(buf: &mut [u8]) -> Taken
+    ensures { λ r. ⌜ Within (length (now (buf .entry))) r ⌝ }
+{
+    let mut at = 0;
+    while at < buf.len() {
+        let more = read_from(buf, at);
+        let Taken::Bytes(n) = more else {
+            return Taken::Failed;
+        };
+        if n == 0 {
+            break;
+        }
+        at += n;
+    }
+    Taken::Bytes(at)
+}

@@ -1,0 +1,25 @@
+-- Document 01's worked output of the drawing program, as the definition has it. Assumes nothing.
+use mathlib.Core.Path.{_≡_, refl}
+use mathlib.Core.List.{List, [], _∷_, _++_}
+use Prim.Native.Nat.{ℕ}
+use lib.ListN.{replicate}
+use Rattle.report.specs.Text.{digits, decimal, field, pair, shown, lines, named, heading, report}
+
+-- the picture, as far as anything shows: two places of the first row, one of the second
+abbrev im : List ℕ
+im = 100 ∷ 150 ∷ replicate 254 0 ++ (200 ∷ [])
+
+abbrev zm : List ℕ
+zm = 10 ∷ 10 ∷ replicate 254 65535 ++ (10 ∷ [])
+
+-- `words 13 refusal 0 passed 3`, `0 0 100 10`, `1 0 150 10`, `0 1 200 10`
+abbrev printed : List ℕ
+printed =
+    119 ∷ 111 ∷ 114 ∷ 100 ∷ 115 ∷ 32 ∷ 49 ∷ 51 ∷ 32 ∷ 114 ∷ 101 ∷ 102 ∷ 117 ∷ 115 ∷ 97 ∷ 108 ∷ 32 ∷ 48 ∷ 32 ∷ 112 ∷ 97 ∷ 115 ∷ 115 ∷ 101 ∷ 100 ∷ 32 ∷ 51 ∷ 10 ∷
+    48 ∷ 32 ∷ 48 ∷ 32 ∷ 49 ∷ 48 ∷ 48 ∷ 32 ∷ 49 ∷ 48 ∷ 10 ∷
+    49 ∷ 32 ∷ 48 ∷ 32 ∷ 49 ∷ 53 ∷ 48 ∷ 32 ∷ 49 ∷ 48 ∷ 10 ∷
+    48 ∷ 32 ∷ 49 ∷ 32 ∷ 50 ∷ 48 ∷ 48 ∷ 32 ∷ 49 ∷ 48 ∷ 10 ∷ []
+
+pub example : report 13 0 3 256 im zm ≡ printed
+unfolding digits decimal field pair shown lines named heading report
+example = refl

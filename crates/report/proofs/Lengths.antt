@@ -1,0 +1,94 @@
+-- How long each part of the text is. Assumes nothing.
+use mathlib.Core.Path.{_≡_}
+use mathlib.Core.List.{List, [], _∷_, _++_}
+use Prim.Native.Nat.{ℕ, zero, suc, _+_, _-_, _≤_, _<_}
+use native.Mathlib.Nat.{add-zero, add-suc}
+use native.Mathlib.Numerals.{add-one}
+use native.Mathlib.Omega.{arith}
+use borrow.Author.Tests.{ne-eqb}
+use lib.ListN.{length, getD, length-append}
+use Rattle.report.specs.Text.{decimal, field, pair, columnOf, rowOf, shown, lines, named, heading, report, wordsName, refusalName, passedName}
+
+pub length-field : (n after : ℕ) → length (field n after) ≡ length (decimal n) + 1
+unfolding field
+length-field n after = length-append (decimal n) (after ∷ [])
+
+pub pair-parts : (m n after : ℕ) → length (pair m n after) ≡ length (field m 32) + length (field n after)
+unfolding pair
+pair-parts m n after = length-append (field m 32) (field n after)
+
+pub length-pair : (m n after : ℕ) → length (pair m n after) ≡ length (decimal m) + length (decimal n) + 2
+length-pair m n after = omega (arith, pair-parts m n after, length-field m 32, length-field n after)
+
+-- a place that shows, by its column and its row
+module _ (line place i z : ℕ) {x y : ℕ} (h : i ≡ 0 → ⊥) (p : x ≡ columnOf line place) (q : y ≡ rowOf line place) where
+  pub shown-line : shown line place i z ≡ pair x y 32 ++ pair i z 10
+  unfolding shown
+  shown-line = rw (p, q, ne-eqb i 0 h)
+
+  pub length-shown : length (shown line place i z) ≡ length (pair x y 32) + length (pair i z 10)
+  length-shown = rw shown-line (length-append (pair x y 32) (pair i z 10))
+
+-- a place that does not
+pub shown-none : (line place i z : ℕ) → i ≡ 0 → shown line place i z ≡ []
+unfolding shown
+shown-none line place i z h = rw h
+
+-- the first line
+pub named-parts : (name : List ℕ) (n after : ℕ) → length (named name n after) ≡ length name + length (field n after)
+unfolding named
+named-parts name n after = length-append name (field n after)
+
+module _ (words refusal passed : ℕ) where
+  pub heading-parts : length (heading words refusal passed)
+      ≡ length (named wordsName words 32) + length (named refusalName refusal 32) + length (named passedName passed 10)
+  unfolding heading
+  heading-parts =
+      let a = named wordsName words 32 in
+      let b = named refusalName refusal 32 in
+      let c = named passedName passed 10 in
+      let all : length (heading words refusal passed) ≡ length (a ++ b) + length c = length-append (a ++ b) c in
+      omega (arith, all, length-append a b)
+
+  pub length-heading : length (heading words refusal passed) ≡ length (decimal words) + length (decimal refusal) + length (decimal passed) + 24
+  length-heading =
+      omega (
+        arith,
+        heading-parts,
+        named-parts wordsName words 32,
+        named-parts refusalName refusal 32,
+        named-parts passedName passed 10,
+        length-field words 32,
+        length-field refusal 32,
+        length-field passed 10,
+      )
+
+-- ---- the lines so far
+
+module _ (line : ℕ) (im zm : List ℕ) where
+  -- one place more
+  pub lines-more : (n : ℕ) → lines line im zm (n + 1) ≡ lines line im zm n ++ shown line n (getD im n 0) (getD zm n 0)
+  unfolding lines
+  lines-more n = rw (add-one n)
+
+  -- more places make no shorter text
+  lines-grow : (n k : ℕ) → length (lines line im zm n) ≤ length (lines line im zm (n + k))
+  unfolding lines
+  lines-grow n zero = rw (add-zero n) (omega arith)
+  lines-grow n (suc k) =
+      let here = shown line (n + k) (getD im (n + k) 0) (getD zm (n + k) 0) in
+      rw (add-suc n k) (omega (arith, lines-grow n k, length-append (lines line im zm (n + k)) here))
+
+  -- a place and those before it
+  pub lines-within : (n : ℕ) → n < length im
+      → length (lines line im zm n) + length (shown line n (getD im n 0) (getD zm n 0)) ≤ length (lines line im zm (length im))
+  lines-within n h =
+      let here = shown line n (getD im n 0) (getD zm n 0) in
+      let all : n + 1 + (length im - (n + 1)) ≡ length im = omega arith in
+      let up = rw (lines-more n, all) at (lines-grow (n + 1) (length im - (n + 1))) in
+      omega (arith, up, length-append (lines line im zm n) here)
+
+  pub length-report : (words refusal passed : ℕ)
+      → length (report words refusal passed line im zm) ≡ length (heading words refusal passed) + length (lines line im zm (length im))
+  unfolding report
+  length-report words refusal passed = length-append (heading words refusal passed) (lines line im zm (length im))

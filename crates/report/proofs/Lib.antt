@@ -1,0 +1,7 @@
+pub mod Decimal
+pub mod Putting
+pub mod Lengths
+pub mod Room
+pub mod Calls
+pub mod Settled
+pub mod Example
