@@ -206,7 +206,9 @@ count-low r w m =
     step-either chip r w m (λ o. o .passed < 2 ^ 32)
     (λ e.
     let fits = accepted-when (length (m .i)) (length (m .z)) r w .0 e in
-    omega (arith,
-    figure-counts (rowsIn chip r m) r (completedBy r w) (picture (m .i) (m .z) 0) (completed-near (length (m .i)) (length (m .z)) r w e)
-    (rows-low (r .frame) (length (m .i)) (length (m .z))) (line-low r (fits .sound))))
+    omega (
+      arith,
+      figure-counts (rowsIn chip r m) r (completedBy r w) (picture (m .i) (m .z) 0) (completed-near (length (m .i)) (length (m .z)) r w e)
+          (rows-low (r .frame) (length (m .i)) (length (m .z))) (line-low r (fits .sound)),
+    ))
     (λ e. omega arith)

@@ -3,3 +3,4 @@ pub mod Words
 pub mod Streams
 pub mod Demands
 pub mod Laws
+pub mod Settled

@@ -11,8 +11,8 @@ use Rattle.registers.specs.declared.shape.Completed.{Completed}
 use Rattle.registers.specs.declared.shape.Completed.the-variants.{Nothing}
 use Rattle.registers.specs.Next.{after, completedBy}
 use Rattle.registers.specs.Refusal.{refusalOf}
-use Rattle.machine.specs.Run.{outcome}
-use Rattle.machine.specs.Machine.{memories, stepOf}
+use Rattle.machine.specs.Run.{Outcome, outcome}
+use Rattle.machine.specs.Machine.{Memories, memories, stepOf}
 use Rattle.machine.proofs.Steps.{told-accepted, told-refused}
 use Rattle.chip.specs.declared.step.Answer.{Answer}
 use Rattle.chip.specs.Chip.{chip}
@@ -22,6 +22,10 @@ use Rattle.chip.proofs.Figures.{figured, nothing-drawn}
 abbrev pub told : ℕ → Registers → Answer
 told number r = record { refusal = number; passed = 0; registers = r }
 
+-- an answer, with the memories that were left
+abbrev pub answered : Answer → Memories → Outcome Registers Memories
+answered a m = outcome (a .refusal) (a .passed) (a .registers) m
+
 -- the word that was decoded, and the number that it got
 module _ (r : Registers) (w : Word) (i z : List ℕ) {word : Word} {n : ℕ} (is : word ≡ w) (number : n ≡ refusalOf (length i) (length z) r word) where
   given : n ≡ refusalOf (length i) (length z) r w
@@ -29,9 +33,9 @@ module _ (r : Registers) (w : Word) (i z : List ℕ) {word : Word} {n : ℕ} (is
 
   -- a refused word
   pub word-refused : {a : Answer} → a ≡ told n r → n ≢ 0
-      → outcome (a .refusal) (a .passed) (a .registers) (memories i z) ≡ stepOf chip r w (memories i z)
+      → answered a (memories i z) ≡ stepOf chip r w (memories i z)
   word-refused answer some =
-      ap (λ (b : Answer). outcome (b .refusal) (b .passed) (b .registers) (memories i z)) answer ∙ told-refused chip r w (memories i z) given some
+      ap (λ (b : Answer). answered b (memories i z)) answer ∙ told-refused chip r w (memories i z) given some
 
   module _ (none : n ≡ 0) where
     -- an accepted word, with what it completed drawn
@@ -45,7 +49,7 @@ module _ (r : Registers) (w : Word) (i z : List ℕ) {word : Word} {n : ℕ} (is
 
     -- an accepted word that completes nothing
     pub word-quiet : {a : Answer} {next : Registers} → a ≡ told 0 next → Nothing ≡ completedBy r word → next ≡ after r word
-        → outcome (a .refusal) (a .passed) (a .registers) (memories i z) ≡ stepOf chip r w (memories i z)
+        → answered a (memories i z) ≡ stepOf chip r w (memories i z)
     word-quiet answer completes next =
-        ap (λ (b : Answer). outcome (b .refusal) (b .passed) (b .registers) (memories i z)) answer
+        ap (λ (b : Answer). answered b (memories i z)) answer
         ∙ word-drawn completes (nothing-drawn r i z) next
