@@ -1,10 +1,10 @@
 // The command machine without its drawing: words, the register record, what is refused, the record after a word, and the figure that a
 // word completes.
-pub mod allow;
-pub mod bounds;
-pub mod lines;
-pub mod next;
-pub mod refuse;
+mod allow;
+mod bounds;
+mod lines;
+mod next;
+mod refuse;
 pub mod shape;
 pub mod subcommand;
 pub mod word;

@@ -71,7 +71,7 @@ const LENGTHS: [u16; 64] = [
 ];
 
 // The line length that INIT's data name; 0 for a code that is not listed.
-pub fn line_length(data: u16) -> u16
+pub(crate) fn line_length(data: u16) -> u16
     ensures { λ r. ⌜ r ≡ lineOf (codeIn «data») ⌝ }
 {
     let code = (data / 256 % 64) as usize;

@@ -21,7 +21,7 @@ pub enum Completed {
 }
 
 // The shape that the record's number stands for.
-pub fn shape_of(number: u16) -> Shape
+pub(crate) fn shape_of(number: u16) -> Shape
     ensures { λ r. ⌜ r ≡ shapeOf number ⌝ }
 {
     match number {
@@ -47,7 +47,7 @@ fn no_vertex() -> Vertex
 
 impl Figure {
     // No open figure.
-    pub fn none() -> Self
+    pub(crate) fn none() -> Self
         ensures { λ r. ⌜ r ≡ noFigure ⌝ }
     {
         let v = no_vertex();
@@ -55,7 +55,7 @@ impl Figure {
     }
 
     // A figure with its first vertex.
-    pub fn open(shape: u16, first: Vertex) -> Self
+    pub(crate) fn open(shape: u16, first: Vertex) -> Self
         ensures { λ r. ⌜ r ≡ opened shape first ⌝ }
     {
         let second = no_vertex();
@@ -80,7 +80,7 @@ impl Figure {
     }
 
     // The figure after one more vertex. With `end` a line closes.
-    pub fn grown(self, end: bool, v: Vertex) -> Self
+    pub(crate) fn grown(self, end: bool, v: Vertex) -> Self
         ensures { λ r. ⌜ r ≡ grownOf (shapeOf (self .shape)) end self v ⌝ }
     {
         let shape = shape_of(self.shape);
@@ -105,7 +105,7 @@ impl Figure {
     }
 
     // What one more vertex completes. With `inv` a segment is invisible.
-    pub fn completed(self, inv: bool, v: Vertex) -> Completed
+    pub(crate) fn completed(self, inv: bool, v: Vertex) -> Completed
         ensures { λ r. ⌜ r ≡ completes (shapeOf (self .shape)) inv self v ⌝ }
     {
         let shape = shape_of(self.shape);

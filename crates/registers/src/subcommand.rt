@@ -18,7 +18,7 @@ pub enum Subcommand {
 }
 
 // The subcommand of an AUX number; nothing for one that AUX refuses, and for 13.
-pub fn subcommand_of(number: u16) -> Subcommand
+pub(crate) fn subcommand_of(number: u16) -> Subcommand
     ensures { λ r. ⌜ r ≡ subcommandOf number ⌝ }
 {
     match number {
@@ -40,7 +40,7 @@ pub fn subcommand_of(number: u16) -> Subcommand
 }
 
 // How many parameters a subcommand takes.
-pub fn wanted(s: Subcommand) -> u16
+pub(crate) fn wanted(s: Subcommand) -> u16
     ensures { λ r. ⌜ r ≡ wants s ⌝ }
 {
     match s {
