@@ -1,16 +1,24 @@
 -- Document 01, "Examples": those marked * as rows of a single table, under one claim.
-use Prim.Native.Nat.{ℕ, zero, suc, _+_, _%_, _^_}
+use Prim.Native.Nat.{ℕ, zero, suc, _+_, _*_, _%_, _^_, _≤_}
 use mathlib.Core.Path.{_≡_}
-use mathlib.Core.Bool.{Bool, false, cond, _&&_, _||_}
-use mathlib.Core.List.{List, [], _∷_, _++_}
+use mathlib.Core.Bool.{Bool, true, false, cond, _&&_, _||_}
+use mathlib.Core.List.{List, [], _∷_, _++_, map}
 use lib.Dec.{ltb, eqb}
 use lib.ListN.{length, replicate}
 use Rattle.stream.specs.Calls.{checked, wordCount}
 use Rattle.picture.specs.declared.Vertex.{Vertex}
-use Rattle.picture.specs.Offer.{hasBit, patternBit}
-use Rattle.line.specs.Segment.{larger, xAt, yAt, numberAt}
+use Rattle.picture.specs.declared.Pen.{Pen}
+use Rattle.picture.specs.Offer.{Offer, shows}
+use Rattle.line.specs.declared.Mode.the-variants.{Two}
+use Rattle.line.specs.declared.Style.{Style}
+use Rattle.line.specs.Segment.{larger, xAt, yAt, numberAt, segmentOffers}
 use Rattle.triangle.specs.Edge.{edgeAt, covers}
-use Rattle.triangle.specs.Offers.{cornersOf}
+use Rattle.triangle.specs.Offers.{cornersOf, triangleOffers}
+use Rattle.registers.specs.declared.Registers.{Registers}
+use Rattle.registers.specs.Word.{decode}
+use Rattle.registers.specs.Record.{resetOf}
+use Rattle.registers.specs.Bounds.{inBounds}
+use Rattle.registers.specs.Refusal.{refusalOf, next}
 
 -- ---- pixels and points
 
@@ -45,6 +53,54 @@ covered a b c x y =
     cond (ltb (edgeAt a b (c .x) (c .y) .minus) (edgeAt a b (c .x) (c .y) .plus)) (covers (cornersOf a b c c) x y)
     (cond (ltb (edgeAt a b (c .x) (c .y) .plus) (edgeAt a b (c .x) (c .y) .minus)) (covers (cornersOf a c b c) x y) false)
 
+-- ---- what is offered on a small picture
+
+-- a pen that hides nothing of a picture of four columns
+abbrev pub bare : Pen
+bare =
+    record {
+      frame = record { line = 4 };
+      left = 0;
+      right = 8192;
+      bottom = 0;
+      top = 8192;
+      transparency = 65535;
+      planes = 65535;
+      depth = false;
+      ienable = true;
+      zenable = true;
+    }
+
+abbrev pub shaded : Style
+shaded = record { mode = Two; pattern = 0; foreground = 0; background = 0 }
+
+-- a mode 2 line, and a Gouraud triangle, on a picture of four rows
+abbrev pub lineThere : Vertex → Vertex → List Offer
+lineThere a b = segmentOffers bare 4 shaded a b
+
+abbrev pub triangleThere : Vertex → Vertex → Vertex → List Offer
+triangleThere a b c = triangleOffers bare 4 false a b c
+
+-- where some offers are, in their order
+abbrev pub pixelsOf : List Offer → List Pixel
+pixelsOf os = map (λ (o : Offer). at (o .x) (o .y)) os
+
+-- a point of the lowest row with one number for both I and Z
+abbrev pub numbered : ℕ → ℕ → Vertex
+numbered x v = record { x = x; y = 0; i = v; z = v }
+
+-- ---- INIT
+
+-- INIT's data for a line code: bits 15 and 14 are any, chips and unit 0
+abbrev pub initData : ℕ → ℕ → ℕ → ℕ
+initData top code page = top * 16384 + code * 256 + page
+
+-- so it is of every INIT for a line code, with a page code that is allowed, over memories of one length and from every record within its
+-- bounds, as reset's is
+pub record EveryInit (code : ℕ) (So : (n : ℕ) (r : Registers) (d : ℕ) → Type 0) : Type 0 where
+  pub reset : inBounds resetOf ≡ true
+  pub so : (n : ℕ) (r : Registers) (top page : ℕ) → inBounds r ≡ true → page ≤ 7 → So n r (initData top code page)
+
 -- ---- the rows, by what they speak of
 
 pub data Row : Type 0 where
@@ -60,18 +116,30 @@ pub data Row : Type 0 where
   holds : ℕ → ℕ → Row
   -- a packed length gives a refusal number
   gives : ℕ → ℕ → Row
+  -- a line code gives a refusal number
+  codeGives : ℕ → ℕ → Row
+  -- a line code is a line length
+  codeIs : ℕ → ℕ → Row
 
 -- what a row says
 unfoldable pub Says : Row → Type 0
-Says (line p q pixels) = walk p q ≡ pixels
-Says (numbers n first second told) = through n (λ k. numberAt n k first second) ≡ told
-Says (triangle p q r pixels) = (x y : ℕ) → covered (corner p) (corner q) (corner r) x y ≡ among x y pixels
-Says (transparency pattern mx my) = (x y : ℕ) → hasBit pattern (patternBit x y) ≡ eqb (x % 4) mx && eqb (y % 4) my
+Says (line p q pixels) = (walk p q ≡ pixels) × (pixelsOf (lineThere (corner p) (corner q)) ≡ pixels)
+Says (numbers n first second told) =
+    (through n (λ k. numberAt n k first second) ≡ told)
+    × (map (λ (o : Offer). o .i) (lineThere (numbered 0 first) (numbered n second)) ≡ told)
+    × (map (λ (o : Offer). o .z) (lineThere (numbered 0 first) (numbered n second)) ≡ told)
+Says (triangle p q r pixels) =
+    ((x y : ℕ) → covered (corner p) (corner q) (corner r) x y ≡ among x y pixels)
+    × (pixelsOf (triangleThere (corner p) (corner q) (corner r)) ≡ pixels)
+Says (transparency pattern mx my) = (pen : Pen) → pen .transparency ≡ pattern → (x y : ℕ) → shows pen x y ≡ eqb (x % 4) mx && eqb (y % 4) my
 -- each good stream of that length holds so many words, and there is one
 Says (holds n words) =
     (checked (replicate n 0) 0 ≡ 0) × ((bytes : List ℕ) → length bytes ≡ n → checked bytes 0 ≡ 0 → wordCount bytes ≡ words)
--- each stream of that length is refused with the number
-Says (gives n number) = (bytes : List ℕ) → length bytes ≡ n → wordCount bytes ≡ 2 ^ 63 + number
+-- each stream of that length is refused with the number, whatever else is checked
+Says (gives n number) = (bytes : List ℕ) → length bytes ≡ n → ((next : ℕ) → checked bytes next ≡ number) × (wordCount bytes ≡ 2 ^ 63 + number)
+Says (codeGives code number) = EveryInit code (λ n r d. refusalOf n n r (decode 15 d) ≡ number)
+-- INIT is accepted, and sets the length
+Says (codeIs code columns) = EveryInit code (λ n r d. (refusalOf n n r (decode 15 d) ≡ 0) × (next n n r (decode 15 d) .frame .line ≡ columns))
 
 -- ---- the table
 
@@ -93,6 +161,9 @@ table =
     ∷ holds 3 1
     ∷ holds 5 2
     ∷ gives 4 11
+    -- line code 16 gives 9, code 47 is 8768
+    ∷ codeGives 16 9
+    ∷ codeIs 47 8768
     ∷ []
 
 -- ---- the claim

@@ -1,0 +1,130 @@
+// Document 01's examples that are run, and refusals that are easy to trip on. Each row is some words from reset, as hexadecimal command
+// and data, and the number that the last of them should be given. Its line tells the number that the chip gives as well: the stored
+// output is met only where the two agree in every row.
+mod answer;
+mod row;
+
+use row::row;
+use row::unlike;
+
+// Y 8191 accepted, 8192 is 9; window 8192 accepted, 8193 is 9, for the first border and for the last.
+fn values() {
+    row(b"Y 8191", &[0xF0000, 0x31FFF], 0);
+    row(b"Y 8192", &[0xF0000, 0x32000], 9);
+    row(b"window 8192", &[0xF0000, 0xE0006, 0xD2000], 0);
+    row(b"window 8193", &[0xF0000, 0xE0006, 0xD2001], 9);
+    row(
+        b"window 8192, the last",
+        &[0xF0000, 0xE0006, 0xD0000, 0xD2000, 0xD2000, 0xD2000],
+        0,
+    );
+    row(
+        b"window 8193, the last",
+        &[0xF0000, 0xE0006, 0xD0000, 0xD2000, 0xD2000, 0xD2001],
+        9,
+    );
+}
+
+// X 9000 with no figure open is 9. An X or PX that the open figure does not take is 10, by the line mode of that moment; the figure stays
+// open.
+fn figures() {
+    row(b"X 9000 with no figure open", &[0xF0000, 0x42328], 9);
+    row(b"X 0 with no figure open", &[0xF0000, 0x40000], 10);
+    row(b"PX 0 with no figure open", &[0xF0000, 0xB0000], 10);
+    row(b"X on a line in mode 1", &[0xF0000, 0x80000, 0x40000], 10);
+    row(b"PX after that X", &[0xF0000, 0x80000, 0x40000, 0xB0000], 0);
+    row(
+        b"X on a line, in mode 2 since LX",
+        &[0xF0000, 0x80000, 0xE0001, 0xD0002, 0x40000],
+        0,
+    );
+    row(
+        b"PX on a line, in mode 2 since LX",
+        &[0xF0000, 0x80000, 0xE0001, 0xD0002, 0xB0000],
+        10,
+    );
+    row(b"PX on a strip", &[0xF0000, 0x50000, 0xB0000], 10);
+    row(b"PX on a fan", &[0xF0000, 0x60000, 0xB0000], 10);
+}
+
+// AUX 13 while a parameter is awaited is 6, AUX 7 there 5: the lowest number that applies. INIT may come at any time.
+fn awaited() {
+    row(
+        b"AUX 13 while a parameter is awaited",
+        &[0xF0000, 0xE0001, 0xE000D],
+        6,
+    );
+    row(b"AUX 7 there", &[0xF0000, 0xE0001, 0xE0007], 5);
+    row(b"command 7 there", &[0xF0000, 0xE0001, 0x70000], 4);
+    row(b"command C there", &[0xF0000, 0xE0001, 0xC0000], 4);
+    row(b"command 0 there", &[0xF0000, 0xE0001, 0x00000], 5);
+    row(b"Y 8192 there", &[0xF0000, 0xE0001, 0x32000], 6);
+    row(b"INIT there", &[0xF0000, 0xE0001, 0xF0000], 0);
+    row(
+        b"PARM after that INIT",
+        &[0xF0000, 0xE0001, 0xF0000, 0xD0002],
+        7,
+    );
+}
+
+// A refused parameter stays awaited, and a refused INIT leaves one awaited.
+fn refused() {
+    row(b"LMODE 3", &[0xF0000, 0xE0001, 0xD0003], 9);
+    row(
+        b"LMODE 2 after it",
+        &[0xF0000, 0xE0001, 0xD0003, 0xD0002],
+        0,
+    );
+    row(
+        b"PARM after both",
+        &[0xF0000, 0xE0001, 0xD0003, 0xD0002, 0xD0002],
+        7,
+    );
+    row(
+        b"INIT of line code 16 while a parameter is awaited",
+        &[0xF0000, 0xE0001, 0xF1000],
+        9,
+    );
+    row(b"AUX 13 after it", &[0xF0000, 0xE0001, 0xF1000, 0xE000D], 6);
+    row(
+        b"LMODE 2 after both",
+        &[0xF0000, 0xE0001, 0xF1000, 0xE000D, 0xD0002],
+        0,
+    );
+}
+
+// With nothing open and nothing awaited: an AUX number has 16 bits, PARM is 7 whatever its data, and a command above 15 is 1.
+fn idle() {
+    row(b"AUX 0102 hex", &[0xF0000, 0xE0102], 8);
+    row(b"PARM 3 with none awaited", &[0xF0000, 0xD0003], 7);
+    row(b"command 16", &[0xF0000, 0x100000], 1);
+}
+
+// Before the first accepted INIT every word but INIT is 3, save one of a command above 15.
+fn cold() {
+    row(b"Y 0 before INIT", &[0x30000], 3);
+    row(b"X 9000 before INIT", &[0x42328], 3);
+    row(b"command 7 before INIT", &[0x70000], 3);
+    row(b"AUX 13 before INIT", &[0xE000D], 3);
+    row(b"PARM 0 before INIT", &[0xD0000], 3);
+    row(b"Y 0 after a refused INIT", &[0xF1000, 0x30000], 3);
+    row(b"command 16 before INIT", &[0x100000], 1);
+}
+
+// Over memories of two lengths every word is 2, save one of a command above 15.
+fn memories() {
+    unlike(b"INIT, memories unlike", &[0xF0000], 2);
+    unlike(b"Y 0 before INIT, memories unlike", &[0x30000], 2);
+    unlike(b"command 7, memories unlike", &[0x70000], 2);
+    unlike(b"command 16, memories unlike", &[0x100000], 1);
+}
+
+fn main() {
+    values();
+    figures();
+    awaited();
+    refused();
+    idle();
+    cold();
+    memories();
+}
