@@ -41,7 +41,7 @@ pub fn step(r: Registers, command: u8, data: u16, im: &mut [u16], zm: &mut [u16]
         Word::Aux(n) => quiet(0, r.aux(n)),
         Word::Parm(v) => quiet(0, r.parm(v)),
         Word::At(c, n) => {
-            let figure = r.figure_of(c, n);
+            let figure = r.completed_by(c, n);
             let passed = draw(r, figure, im, zm);
             let next = r.coordinate(c, n);
             Answer {

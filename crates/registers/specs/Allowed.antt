@@ -27,6 +27,16 @@ isBorder n = leb n 8192
 abbrev pub onlyBits : ℕ → ℕ → Bool
 onlyBits mask n = eqb (bitAnd n (65535 - mask)) 0
 
+-- the bits that ZCONTROL, HCONTROL and LSTATUS may have
+abbrev pub zcontrolBits : ℕ
+zcontrolBits = 0x0040
+
+abbrev pub hcontrolBits : ℕ
+hcontrolBits = 0x0D8E
+
+abbrev pub lstatusBits : ℕ
+lstatusBits = 0x0030
+
 -- INIT: chips and unit 0, page code at most 7, the line code one that is listed
 unfoldable pub initAllowed : ℕ → Bool
 initAllowed d = eqb (chipsIn d) 0 && eqb (unitIn d) 0 && leb (pageIn d) 7 && not (eqb (lineOf (codeIn d)) 0)
@@ -36,14 +46,14 @@ abbrev pub parameterAllowed : Subcommand → ℕ → ℕ → Bool
 parameterAllowed Nothing k v = true
 parameterAllowed Pmode k v = leb v 1
 parameterAllowed Lmode k v = leb v 2
-parameterAllowed Zcontrol k v = onlyBits 0x0040 v
-parameterAllowed Hcontrol k v = onlyBits 0x0D8E v
+parameterAllowed Zcontrol k v = onlyBits zcontrolBits v
+parameterAllowed Hcontrol k v = onlyBits hcontrolBits v
 parameterAllowed Tpattern k v = true
 parameterAllowed Win k v = cond (ltb k 4) (isBorder v) (eqb v 0)
 parameterAllowed Color k v = true
 parameterAllowed Lpattern k v = true
 parameterAllowed Mask k v = true
-parameterAllowed Lstatus k v = onlyBits 0x0030 v
+parameterAllowed Lstatus k v = onlyBits lstatusBits v
 
 -- I and Z are any numbers; Y, X, T1X, T2X, LX and PX take coordinates
 abbrev pub coordinateAllowed : Coordinate → ℕ → Bool

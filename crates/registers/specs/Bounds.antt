@@ -14,7 +14,7 @@ use Rattle.registers.specs.declared.subcommand.Subcommand.{Subcommand}
 use Rattle.registers.specs.declared.subcommand.Subcommand.the-variants.{Nothing, Pmode, Lmode, Zcontrol, Hcontrol, Tpattern, Window as Win, Color, Lpattern, Mask, Lstatus}
 use Rattle.registers.specs.Subcommand.{subcommandOf, wants}
 use Rattle.registers.specs.Next.{value}
-use Rattle.registers.specs.Allowed.{isCoordinate, isBorder, onlyBits}
+use Rattle.registers.specs.Allowed.{isCoordinate, isBorder, onlyBits, zcontrolBits, hcontrolBits, lstatusBits}
 
 -- the line length is a multiple of 64 from 256 to 8768
 unfoldable pub frameFits : Frame → Bool
@@ -22,7 +22,7 @@ frameFits f = leb 256 (f .line) && leb (f .line) 8768 && eqb (f .line % 64) 0
 
 -- the words of the modes are such as AUX allows
 unfoldable pub modesFit : Modes → Bool
-modesFit m = leb (m .pmode) 1 && leb (m .lmode) 2 && onlyBits 0x0040 (m .zcontrol) && onlyBits 0x0D8E (m .hcontrol) && onlyBits 0x0030 (m .lstatus)
+modesFit m = leb (m .pmode) 1 && leb (m .lmode) 2 && onlyBits zcontrolBits (m .zcontrol) && onlyBits hcontrolBits (m .hcontrol) && onlyBits lstatusBits (m .lstatus)
 
 unfoldable pub windowFits : Window → Bool
 windowFits w = isBorder (w .left) && isBorder (w .top) && isBorder (w .right) && isBorder (w .bottom)

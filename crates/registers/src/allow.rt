@@ -6,6 +6,13 @@ use crate::shape::Shape;
 use crate::subcommand::Subcommand;
 use crate::word::Coordinate;
 
+// The bits that ZCONTROL, HCONTROL and LSTATUS may have.
+pub(crate) const ZCONTROL_BITS: u16 = 0x0040;
+
+pub(crate) const HCONTROL_BITS: u16 = 0x0D8E;
+
+pub(crate) const LSTATUS_BITS: u16 = 0x0030;
+
 // INIT's data: chips and unit 0, a page code up to 7, a line code that is listed.
 pub(crate) fn is_init_allowed(data: u16) -> bool
     ensures { λ r. ⌜ r ≡ initAllowed «data» ⌝ }
@@ -21,14 +28,14 @@ pub(crate) fn is_parameter_allowed(s: Subcommand, k: u16, v: u16) -> bool
         Subcommand::Nothing => true,
         Subcommand::Pmode => v <= 1,
         Subcommand::Lmode => v <= 2,
-        Subcommand::Zcontrol => v & !0x0040 == 0,
-        Subcommand::Hcontrol => v & !0x0D8E == 0,
+        Subcommand::Zcontrol => v & !ZCONTROL_BITS == 0,
+        Subcommand::Hcontrol => v & !HCONTROL_BITS == 0,
         Subcommand::Tpattern => true,
         Subcommand::Window => if k < 4 { v <= 8192 } else { v == 0 },
         Subcommand::Color => true,
         Subcommand::Lpattern => true,
         Subcommand::Mask => true,
-        Subcommand::Lstatus => v & !0x0030 == 0,
+        Subcommand::Lstatus => v & !LSTATUS_BITS == 0,
     }
 }
 

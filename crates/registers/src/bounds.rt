@@ -4,9 +4,13 @@ ghost use Prim.Native.Nat.{_-_};
 ghost use Rattle.registers.specs.Bounds.{frameFits, modesFit, windowFits, vertexFits, figureFits, valuesFit, parkedFits, inBounds};
 use crate::Figure;
 use crate::Modes;
+use crate::NOTHING;
 use crate::Parked;
 use crate::Registers;
 use crate::Window;
+use crate::allow::HCONTROL_BITS;
+use crate::allow::LSTATUS_BITS;
+use crate::allow::ZCONTROL_BITS;
 use crate::subcommand::Subcommand;
 use crate::subcommand::subcommand_of;
 use crate::subcommand::wanted;
@@ -24,9 +28,9 @@ fn modes_fit(m: Modes) -> bool
 {
     (m.pmode <= 1)
         & (m.lmode <= 2)
-        & (m.zcontrol & !0x0040 == 0)
-        & (m.hcontrol & !0x0D8E == 0)
-        & (m.lstatus & !0x0030 == 0)
+        & (m.zcontrol & !ZCONTROL_BITS == 0)
+        & (m.hcontrol & !HCONTROL_BITS == 0)
+        & (m.lstatus & !LSTATUS_BITS == 0)
 }
 
 fn window_fits(w: Window) -> bool
@@ -82,7 +86,7 @@ fn parked_fits(p: Parked) -> bool
     let values = p.values;
     let takes = wanted(s);
     let most = less_one(takes);
-    ((p.subcommand == 13) | (0 < takes)) & (p.came <= most) & values_fit(s, values)
+    ((p.subcommand == NOTHING) | (0 < takes)) & (p.came <= most) & values_fit(s, values)
 }
 
 impl Registers {

@@ -12,6 +12,20 @@ pub mod word;
 use picture::Frame;
 use picture::Vertex;
 
+// Bits of the words that are kept as sent: ZCONTROL bit 6 depth test; HCONTROL bit 2 I enable, bit 1 Z enable; LSTATUS bit 5 INV, bit 4 END.
+pub(crate) const DEPTH: u16 = 64;
+
+pub(crate) const I_ENABLE: u16 = 4;
+
+pub(crate) const Z_ENABLE: u16 = 2;
+
+pub(crate) const INV: u16 = 32;
+
+pub(crate) const END: u16 = 16;
+
+// In place of an AUX number: nothing is awaited.
+pub(crate) const NOTHING: u16 = 13;
+
 // The words of PMODE, LMODE, ZCONTROL, HCONTROL, LSTATUS, TPATTERN and MASK, as they were sent. LX rewrites LSTATUS.
 #[repr(C)]
 pub struct Modes {

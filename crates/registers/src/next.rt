@@ -4,13 +4,19 @@ ghost use mathlib.Core.Path.{_≡_};
 ghost use Rattle.registers.specs.Record.{awaiting, withParked, withFigure, settings, resetOf, initOf};
 ghost use Rattle.registers.specs.Figure.{vertexOf, figureAfter, vertexCompletes};
 ghost use Rattle.registers.specs.Next.{effectOf, joinedOf, parmOf, openOf, lineOpenOf, coordinateOf, coordinateCompletes, penOf};
+use crate::DEPTH;
 use crate::Dash;
+use crate::END;
 use crate::Figure;
+use crate::I_ENABLE;
+use crate::INV;
 use crate::Latch;
 use crate::Modes;
+use crate::NOTHING;
 use crate::Parked;
 use crate::Registers;
 use crate::Window;
+use crate::Z_ENABLE;
 use crate::lines::line_length;
 use crate::shape::Completed;
 use crate::subcommand::Subcommand;
@@ -22,7 +28,7 @@ use picture::Pen;
 use picture::Vertex;
 
 impl Parked {
-    // The parameters of an AUX number are awaited; 13 for none.
+    // The parameters of an AUX number are awaited.
     fn awaited(number: u16) -> Self
         ensures { λ r. ⌜ r ≡ awaiting number ⌝ }
     {
@@ -52,7 +58,7 @@ impl Registers {
         ensures { λ r. ⌜ r ≡ settings started frame ⌝ }
     {
         let figure = Figure::none();
-        let parked = Parked::awaited(13);
+        let parked = Parked::awaited(NOTHING);
         Registers {
             started: started,
             frame: frame,
@@ -61,7 +67,7 @@ impl Registers {
                 lmode: 1,
                 zcontrol: 0,
                 hcontrol: 0,
-                lstatus: 32,
+                lstatus: INV,
                 transparency: 65535,
                 planes: 65535,
             },
@@ -184,7 +190,7 @@ impl Registers {
         } else {
             let values = p.values;
             let mut next = self.effect(s, values);
-            let none = Parked::awaited(13);
+            let none = Parked::awaited(NOTHING);
             next.parked = none;
             next
         }
@@ -216,7 +222,7 @@ impl Registers {
     fn line_opening(mut self, x: u16) -> Self
         ensures { λ r. ⌜ r ≡ lineOpenOf self x ⌝ }
     {
-        self.modes.lstatus = 32;
+        self.modes.lstatus = INV;
         self.opening(3, x)
     }
 
@@ -226,7 +232,7 @@ impl Registers {
     {
         let v = self.vertex(x);
         let f = self.figure;
-        let end = self.modes.lstatus & 16 != 0;
+        let end = self.modes.lstatus & END != 0;
         let g = f.grown(end, v);
         self.figure = g;
         self
@@ -238,7 +244,7 @@ impl Registers {
     {
         let v = self.vertex(x);
         let f = self.figure;
-        let inv = self.modes.lstatus & 32 != 0;
+        let inv = self.modes.lstatus & INV != 0;
         f.completed(inv, v)
     }
 
@@ -268,7 +274,7 @@ impl Registers {
     }
 
     // The figure that a coordinate completes.
-    pub fn figure_of(self, c: Coordinate, n: u16) -> Completed
+    pub fn completed_by(self, c: Coordinate, n: u16) -> Completed
         ensures { λ r. ⌜ r ≡ coordinateCompletes self c n ⌝ }
     {
         match c {
@@ -288,9 +294,9 @@ impl Registers {
         ensures { λ r. ⌜ r ≡ penOf self ⌝ }
     {
         let frame = self.frame;
-        let depth = self.modes.zcontrol & 64 != 0;
-        let ienable = self.modes.hcontrol & 4 != 0;
-        let zenable = self.modes.hcontrol & 2 != 0;
+        let depth = self.modes.zcontrol & DEPTH != 0;
+        let ienable = self.modes.hcontrol & I_ENABLE != 0;
+        let zenable = self.modes.hcontrol & Z_ENABLE != 0;
         Pen {
             frame: frame,
             left: self.window.left,

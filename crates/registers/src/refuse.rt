@@ -15,7 +15,7 @@ use crate::subcommand::subcommand_of;
 use crate::subcommand::wanted;
 use crate::word::Word;
 
-// A word that no command is.
+// A command above 15.
 fn is_unknown(word: Word) -> bool
     ensures { λ r. ⌜ r ≡ isUnknown word ⌝ }
 {

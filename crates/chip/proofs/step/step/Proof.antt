@@ -47,8 +47,8 @@ quiet-requires-4 c κs = search needs
 enum-known-word-4 : tie.Need-enum-known-word-4
 enum-known-word-4 c = search needs
 
-figure-of-requires : tie.Need-figure-of-requires
-figure-of-requires c κs = search needs
+completed-by-requires : tie.Need-completed-by-requires
+completed-by-requires c κs = search needs
 
 draw-requires : tie.Need-draw-requires
 draw-requires c κs = search needs
@@ -94,7 +94,7 @@ same-length-2 c = search needs
 
 returns-5 : tie.Need-returns-5
 unfolding after completedBy
-returns-5 c = word-drawn _ _ _ _ (c .before .before .before .before .before .before .before .before .before .before .before .before .before .before .decoded .ensures) (c .before .before .before .before .before .before .before .before .before .before .before .before .before .refusal .ensures) (c .before .before .before .before .before .before .before .before .before .before .before .before .if1 .left) (rw (c .before .before .before .before .before .before .before .before .before .before .word4 .given .1) (c .before .before .before .before .before .before .before .before .figure-of .ensures)) (c .before .before .before .before .before .draw .ensures) (rw (c .before .before .before .before .before .before .before .before .before .before .word4 .given .1) (c .coordinate .ensures))
+returns-5 c = word-drawn _ _ _ _ (c .before .before .before .before .before .before .before .before .before .before .before .before .before .before .decoded .ensures) (c .before .before .before .before .before .before .before .before .before .before .before .before .before .refusal .ensures) (c .before .before .before .before .before .before .before .before .before .before .before .before .if1 .left) (rw (c .before .before .before .before .before .before .before .before .before .before .word4 .given .1) (c .before .before .before .before .before .before .before .before .completed-by .ensures)) (c .before .before .before .before .before .draw .ensures) (rw (c .before .before .before .before .before .before .before .before .before .before .word4 .given .1) (c .coordinate .ensures))
 
 returns-6 : tie.Need-returns-6
 unfolding after completedBy
@@ -126,7 +126,7 @@ step-spec =
     parm-requires
     quiet-requires-4
     enum-known-word-4
-    figure-of-requires
+    completed-by-requires
     draw-requires
     coordinate-requires
     enum-told

@@ -1,8 +1,8 @@
--- `Registers::figure_of` meets its contract, coordinate by coordinate. Assumes nothing.
+-- `Registers::completed_by` meets its contract, coordinate by coordinate. Assumes nothing.
 use Rattle.registers.specs.Next.{coordinateCompletes}
 use borrow.Author.Needs.{needs}
-use Rattle.registers.proofs.Registers.figure_of.Statement.{statement}
-use Rattle.registers.proofs.Registers.figure_of.Tie as tie
+use Rattle.registers.proofs.Registers.completed_by.Statement.{statement}
+use Rattle.registers.proofs.Registers.completed_by.Tie as tie
 
 enum-told : tie.Need-enum-told
 enum-told c = search needs
@@ -66,8 +66,8 @@ returns-8 : tie.Need-returns-8
 unfolding coordinateCompletes
 returns-8 c = rw (c .before .enum-told8 .given .1) (c .completing2 .ensures)
 
-pub figure-of-spec : {M : Type 1} → statement M
-figure-of-spec =
+pub completed-by-spec : {M : Type 1} → statement M
+completed-by-spec =
     tie.close
     (tie.spec
     enum-told
