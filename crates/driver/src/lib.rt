@@ -62,11 +62,11 @@ pub extern "C" fn dextolumen_run(bytes: &[u8], im: &mut [u16], zm: &mut [u16]) -
     ensures { λ a. ⌜ ran (a .refusal) (a .index) (a .sum) (a .registers) (memories (now (im .exit)) (now (zm .exit))) ≡ running (now (bytes .entry)) (memories (now (im .entry)) (now (zm .entry))) ⌝ }
 {
     let a = run(bytes, im, zm);
-    let next = a.registers;
+    let last = a.registers;
     Ended {
         refusal: a.refusal,
         index: a.index,
         sum: a.sum,
-        registers: next,
+        registers: last,
     }
 }
