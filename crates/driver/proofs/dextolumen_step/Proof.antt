@@ -1,5 +1,7 @@
--- `driver::dextolumen_step` meets its contract: a walk of its MIR, by hand. The record's borrow is opened and the record is copied out whole; `step` is called on the copy, with the two slices at their own lifetimes, shares and ghost names, which are given up for good (`gave-slice`);
--- the record that it returned is stored whole, and the borrow is closed at it. All that the proof knows of `step` is that it meets its contract.
+-- `driver::dextolumen_step` meets its contract: a walk of its MIR, by hand. The record's borrow is opened and the record is copied out
+-- whole; `step` is called on the copy, with the two slices at their own lifetimes, shares and ghost names, which are given up for good
+-- (`gave-slice`); the record that it returned is stored whole, and the borrow is closed at it. The proof knows of `step` only that
+-- it meets its contract, and of the record only that it is one: no field is named.
 -- Assumes nothing.
 use mathlib.Core.Path.{_≡_, refl, ap}
 use Prim.Native.Nat.{ℕ, _<_, _^_}
