@@ -1,0 +1,72 @@
+// Entries for the host program in C: the record after reset, one word on the record where it stands, and a whole packed stream. Their
+// results are those of the chip's own calls, by the same definitions. include/dextolumen.h has the C side.
+ghost use mathlib.Core.Path.{_≡_};
+ghost use Rattle.registers.specs.Record.{resetOf};
+ghost use Rattle.registers.specs.Word.{decode};
+ghost use Rattle.machine.specs.Run.{outcome, ran};
+ghost use Rattle.machine.specs.Machine.{memories, stepOf};
+ghost use Rattle.chip.specs.Chip.{chip};
+ghost use Rattle.chip.specs.Stream.{running};
+use chip::run::run;
+use chip::step::step;
+use registers::Registers;
+
+// The answer to a word: the number that refuses it, 0 for accepted, and how many pixels passed. The next registers are in the record.
+#[repr(C)]
+pub struct Told {
+    pub refusal: u64,
+    pub passed: u64,
+}
+
+// How a run ended: the number that refused a word or the stream, 0 for none; the index of that word, or how many words there are; the sum
+// of the counts of the words before it, modulo 2^64; and the registers.
+#[repr(C)]
+pub struct Ended {
+    pub refusal: u64,
+    pub index: u64,
+    pub sum: u64,
+    pub registers: Registers,
+}
+
+// The record after reset.
+#[no_mangle]
+pub extern "C" fn dextolumen_reset() -> Registers
+    ensures { λ r. ⌜ r ≡ resetOf ⌝ }
+{
+    Registers::reset()
+}
+
+// Takes a word and updates the record where it stands, or refuses the word and leaves record and memories as they were.
+#[no_mangle]
+pub extern "C" fn dextolumen_step(
+    registers: &mut Registers,
+    command: u8,
+    data: u16,
+    im: &mut [u16],
+    zm: &mut [u16],
+) -> Told
+    ensures { λ a. ⌜ outcome (a .refusal) (a .passed) (now (registers .exit)) (memories (now (im .exit)) (now (zm .exit))) ≡ stepOf chip (now (registers .entry)) (decode command «data») (memories (now (im .entry)) (now (zm .entry))) ⌝ }
+{
+    let a = step(*registers, command, data, im, zm);
+    let next = a.registers;
+    *registers = next;
+    Told {
+        refusal: a.refusal,
+        passed: a.passed,
+    }
+}
+
+// Runs a packed stream from reset.
+#[no_mangle]
+pub extern "C" fn dextolumen_run(bytes: &[u8], im: &mut [u16], zm: &mut [u16]) -> Ended
+    ensures { λ a. ⌜ ran (a .refusal) (a .index) (a .sum) (a .registers) (memories (now (im .exit)) (now (zm .exit))) ≡ running (now (bytes .entry)) (memories (now (im .entry)) (now (zm .entry))) ⌝ }
+{
+    let a = run(bytes, im, zm);
+    let last = a.registers;
+    Ended {
+        refusal: a.refusal,
+        index: a.index,
+        sum: a.sum,
+        registers: last,
+    }
+}

@@ -1,0 +1,3 @@
+// What the programs of host/ need of <stddef.h>.
+typedef __SIZE_TYPE__ size_t;
+#define offsetof(type, field) __builtin_offsetof(type, field)

@@ -1,0 +1,9 @@
+// What the programs of host/ need of <stdio.h>.
+#include <stddef.h>
+typedef struct dextolumen_file FILE;
+extern FILE *stdin, *stdout, *stderr;
+size_t fread(void *, size_t, size_t, FILE *);
+int ferror(FILE *);
+int fflush(FILE *);
+int printf(const char *, ...);
+int fprintf(FILE *, const char *, ...);

@@ -1,0 +1,5 @@
+// What the programs of host/ need of <string.h>.
+#include <stddef.h>
+int memcmp(const void *, const void *, size_t);
+void *memcpy(void *, const void *, size_t);
+int strcmp(const char *, const char *);

@@ -1,0 +1,258 @@
+// Throws bits at the card: random words on records and memories of every kind, with guard places around each memory and around the record.
+// Whatever comes, a refused word leaves record and memories as they were and counts nothing; an accepted word changes no place outside
+// the rows in use, no more places than it says, and leaves a record that a further INIT accepts; no guard ever changes. Streams of such
+// words, some of them damaged, end alike in one call and word by word. Stops at the first fault with status 1.
+// usage: storm
+#include "feed.h"
+#include <stdio.h>
+#include <stdlib.h>
+#include <string.h>
+
+enum {
+    WORDS = 100000,
+    SCENE = 50, // words thrown at one pair of memories
+    STREAMS = 1000,
+    MOST = 20000, // places
+    GUARD = 64,
+    PER_STREAM = 60,
+};
+
+// ---- chance, the same in each run
+
+static uint64_t state = 8512;
+
+static uint64_t chance(void) {
+    state ^= state << 13;
+    state ^= state >> 7;
+    state ^= state << 17;
+    return state * UINT64_C(0x2545F4914F6CDD1D) >> 16;
+}
+
+static unsigned below(unsigned n) { return (unsigned)(chance() % n); }
+
+// ---- what is lent: places and a record, each between guards
+
+struct memory {
+    uint16_t place[GUARD + MOST + GUARD];
+    size_t length;
+};
+
+static struct memory im, zm, im_was, zm_was;
+
+static struct held {
+    uint16_t under[GUARD];
+    struct dextolumen_registers record;
+    uint16_t over[GUARD];
+} held, held_was;
+
+static uint16_t *lent(struct memory *m) { return m->place + GUARD; }
+
+static size_t guarded(const struct memory *m) { return GUARD + m->length + GUARD; }
+
+static void fill(struct memory *m, size_t length) {
+    m->length = length;
+    for (size_t at = 0; at < guarded(m); at++) m->place[at] = (uint16_t)chance();
+}
+
+static void copy(struct memory *to, const struct memory *from) {
+    to->length = from->length;
+    memcpy(to->place, from->place, guarded(from) * sizeof *from->place);
+}
+
+static int alike(const struct memory *a, const struct memory *b, size_t from, size_t to) {
+    return memcmp(a->place + from, b->place + from, (to - from) * sizeof *a->place) == 0;
+}
+
+static uint64_t changed(const struct memory *a, const struct memory *b) {
+    uint64_t n = 0;
+    if (!alike(a, b, 0, guarded(a)))
+        for (size_t at = 0; at < guarded(a); at++) n += a->place[at] != b->place[at];
+    return n;
+}
+
+// ---- one word
+
+static uint64_t thrown, told_by[14];
+
+_Noreturn static void fault(const char *what, uint8_t command, uint16_t data) {
+    printf("storm: word %lu (command %u, data %u): %s\n", (unsigned long)thrown, command, data, what);
+    fflush(stdout);
+    exit(1);
+}
+
+// Nothing outside the rows in use has changed, the guards included.
+static int kept_outside(const struct memory *m, const struct memory *was, size_t inside) {
+    return alike(m, was, 0, GUARD) && alike(m, was, GUARD + inside, guarded(m));
+}
+
+static void throw(uint8_t command, uint16_t data) {
+    held_was = held;
+    copy(&im_was, &im);
+    copy(&zm_was, &zm);
+    struct dextolumen_told told = dextolumen_step(&held.record, command, data, lent(&im), im.length, lent(&zm), zm.length);
+    thrown++;
+    if (told.refusal > DEXTOLUMEN_NO_FIGURE) fault("a number that no word gets", command, data);
+    told_by[told.refusal]++;
+    if (memcmp(held.under, held_was.under, sizeof held.under) != 0 || memcmp(held.over, held_was.over, sizeof held.over) != 0)
+        fault("a guard of the record changed", command, data);
+    if (told.refusal != DEXTOLUMEN_ACCEPTED) {
+        if (told.passed != 0) fault("refused with a count", command, data);
+        if (memcmp(&held, &held_was, sizeof held) != 0) fault("refused, and the record changed", command, data);
+        if (changed(&im, &im_was) + changed(&zm, &zm_was) != 0) fault("refused, and a place changed", command, data);
+        return;
+    }
+    if (im.length != zm.length) fault("memories of unlike length accepted", command, data);
+    size_t line = held_was.record.frame.line, rows = im.length / line;
+    if (rows > 8192) rows = 8192;
+    if (!kept_outside(&im, &im_was, rows * line) || !kept_outside(&zm, &zm_was, rows * line))
+        fault("a place outside the rows in use changed", command, data);
+    if (changed(&im, &im_was) > told.passed || changed(&zm, &zm_was) > told.passed) fault("more places changed than passed", command, data);
+    struct dextolumen_registers next = held.record;
+    struct dextolumen_told again = dextolumen_step(&next, 15, 0, lent(&im), im.length, lent(&zm), zm.length);
+    if (again.refusal != DEXTOLUMEN_ACCEPTED || again.passed != 0) fault("accepted, and INIT is not accepted after it", command, data);
+}
+
+// ---- words and records
+
+struct word {
+    uint8_t command;
+    uint16_t data;
+};
+
+static struct word any_word(void) { return (struct word){(uint8_t)(below(32) == 0 ? below(256) : below(16)), (uint16_t)chance()}; }
+
+// A parameter such as is awaited allows.
+static uint16_t parameter(const struct dextolumen_parked *p) {
+    switch (p->subcommand) {
+    case 0: return (uint16_t)below(2);
+    case 1: return (uint16_t)below(3);
+    case 3: return (uint16_t)(below(2) * 0x40);
+    case 4: return (uint16_t)((chance() & 0x0D8E) | (below(4) ? 6 : 0));
+    case 6: return (uint16_t)(p->came == 4 ? 0 : (p->came == 0 || p->came == 3) && below(4) ? below(64) : below(8193));
+    case 12: return (uint16_t)(below(4) << 4);
+    default: return (uint16_t)chance();
+    }
+}
+
+// A word that is likely to be accepted with this record.
+static struct word fair_word(const struct dextolumen_registers *r) {
+    static const uint8_t draws[] = {1, 2, 3, 3, 4, 4, 4, 4, 5, 6, 8, 11, 11};
+    static const uint8_t takes[] = {0, 1, 3, 4, 4, 4, 5, 6, 8, 9, 10, 12, 12};
+    if (below(12) == 0) return any_word();
+    if (r->started != 1 || below(40) == 0) return (struct word){15, (uint16_t)(below(8) << 8)};
+    if (r->parked.subcommand != 13) return (struct word){13, parameter(&r->parked)};
+    if (below(6) == 0) return (struct word){14, takes[below(sizeof takes)]};
+    uint8_t command = draws[below(sizeof draws)];
+    uint16_t data = (uint16_t)(command < 3 ? chance() : below(8) == 0 ? below(8192) : command == 3 ? below(24) : below(400));
+    return (struct word){command, data};
+}
+
+// A record of any bits, or the record as it is with one number of any bits.
+static void spoil(struct dextolumen_registers *r) {
+    enum { NUMBERS = sizeof *r / sizeof(uint16_t) };
+    uint16_t number[NUMBERS];
+    unsigned one = below(2 * NUMBERS);
+    memcpy(number, r, sizeof *r);
+    for (unsigned k = 0; k < NUMBERS; k++)
+        if (one >= NUMBERS || one == k) number[k] = (uint16_t)chance();
+    memcpy(r, number, sizeof *r);
+}
+
+static size_t any_length(void) {
+    switch (below(8)) {
+    case 0: return below(300);
+    case 1: return 64 * below(64);
+    case 2: return below(MOST + 1);
+    default: return below(6000);
+    }
+}
+
+// Some words at one pair of memories: from reset and mostly fair, or each at a record of its own that may be anything.
+static void scene(int wild) {
+    struct dextolumen_registers start = wild ? held.record : dextolumen_reset();
+    size_t length = any_length();
+    for (unsigned k = 0; k < GUARD; k++) {
+        held.under[k] = (uint16_t)chance();
+        held.over[k] = (uint16_t)chance();
+    }
+    fill(&im, length);
+    fill(&zm, below(16) == 0 ? any_length() : length);
+    held.record = start;
+    for (unsigned k = 0; k < SCENE && thrown < WORDS; k++) {
+        struct word w = wild && below(2) ? any_word() : fair_word(&held.record);
+        if (wild) {
+            held.record = start;
+            spoil(&held.record);
+        }
+        throw(w.command, w.data);
+    }
+}
+
+// ---- streams
+
+static uint8_t bytes[PER_STREAM * 5 / 2 + 1];
+
+static void put_half(size_t half, unsigned v) { bytes[half / 2] = (uint8_t)(half % 2 ? bytes[half / 2] | v : v << 4); }
+
+// Packs some fair words; every eighth stream is damaged by a byte, at its end or anywhere.
+static size_t stream(void) {
+    static uint16_t i_none[1], z_none[1]; // without places the registers go the same way
+    struct dextolumen_registers r = dextolumen_reset();
+    size_t half = 0;
+    for (unsigned k = below(PER_STREAM + 1); k != 0; k--) {
+        struct word w = fair_word(&r);
+        if (w.command > 15 || dextolumen_step(&r, w.command, w.data, i_none, 0, z_none, 0).refusal != 0) {
+            if (below(8)) continue; // most words that would stop the run are left out
+        }
+        put_half(half++, w.command & 15);
+        for (int shift = 12; shift >= 0; shift -= 4) put_half(half++, w.data >> shift & 15);
+    }
+    size_t length = (half + 1) / 2;
+    if (length != 0 && below(8) == 0) {
+        if (below(2))
+            length--;
+        else
+            bytes[below(2) ? length - 1 : below((unsigned)length)] = (uint8_t)chance();
+    }
+    return length;
+}
+
+// In one call, and word by word over the same memories.
+static int stream_alike(uint64_t *stopped) {
+    size_t length = stream(), places = any_length();
+    fill(&im, places);
+    fill(&zm, places);
+    copy(&im_was, &im);
+    copy(&zm_was, &zm);
+    struct dextolumen_ended one = dextolumen_run(bytes, length, lent(&im), places, lent(&zm), places);
+    struct dextolumen_ended two = feed(bytes, length, lent(&im_was), places, lent(&zm_was), places);
+    *stopped += one.refusal != DEXTOLUMEN_ACCEPTED;
+    told_by[one.refusal <= 13 ? one.refusal : 13]++;
+    return one.refusal == two.refusal && one.index == two.index && one.sum == two.sum
+        && memcmp(&one.registers, &two.registers, sizeof one.registers) == 0 && changed(&im, &im_was) + changed(&zm, &zm_was) == 0;
+}
+
+int main(void) {
+    held.record = dextolumen_reset();
+    while (thrown < WORDS) scene(below(4) == 0);
+    printf("storm: %lu words, %lu accepted\n", (unsigned long)thrown, (unsigned long)told_by[0]);
+    for (unsigned number = 1; number <= DEXTOLUMEN_NO_FIGURE; number++)
+        printf("storm: refused with %u: %lu\n", number, (unsigned long)told_by[number]);
+    for (unsigned number = 0; number <= DEXTOLUMEN_NO_FIGURE; number++)
+        if (told_by[number] == 0) {
+            printf("storm: no word got %u\n", number);
+            return 1;
+        }
+    uint64_t stopped = 0;
+    for (unsigned k = 0; k < STREAMS; k++)
+        if (!stream_alike(&stopped)) {
+            printf("storm: stream %u: one call and word by word end unlike\n", k);
+            return 1;
+        }
+    if (told_by[DEXTOLUMEN_BAD_LENGTH] == 0 || told_by[DEXTOLUMEN_BAD_TAIL] == 0) {
+        printf("storm: no stream was damaged\n");
+        return 1;
+    }
+    printf("storm: %u streams, %lu stopped by a refusal\n", STREAMS, (unsigned long)stopped);
+    return fflush(stdout) != 0;
+}

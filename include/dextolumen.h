@@ -1,0 +1,181 @@
+/*
+ * Dextolumen for a host program in C11: link target/libdextolumen.a (tools/archive makes it; x86-64 Linux).
+ *
+ * Each call is proved for every argument that its types allow. What nothing can check, the caller sees to:
+ *
+ *   - A pointer and the length after it are one lent array: so many elements, aligned as C aligns their type. No pointer is null, also
+ *     where the length is 0; nothing is read or written through it then.
+ *   - The I memory, the Z memory, the record and the stream do not overlap, and nothing else writes to them during a call.
+ *   - A record comes from dextolumen_reset and the calls after it, so that nobody fills one in by hand. Any 74 bytes are a record
+ *     all the same: one that breaks a bound is refused with DEXTOLUMEN_BAD_RECORD and left as it is. docs/REGISTERS.md has the bounds.
+ */
+#ifndef DEXTOLUMEN_H
+#define DEXTOLUMEN_H
+
+#include <stddef.h>
+#include <stdint.h>
+
+/* ---- the numbers that come back: the lowest that applies */
+
+enum {
+    DEXTOLUMEN_ACCEPTED = 0,      /* not refused */
+    DEXTOLUMEN_BAD_COMMAND = 1,   /* the command is above 15 */
+    DEXTOLUMEN_BAD_RECORD = 2,    /* the two memories differ in length, or the record breaks a bound */
+    DEXTOLUMEN_NO_INIT = 3,       /* any word but INIT before the first accepted INIT */
+    DEXTOLUMEN_RESERVED = 4,      /* command 7 or C hex */
+    DEXTOLUMEN_UNMODELLED = 5,    /* command 0, 9 or A hex; AUX 2, 7 or 11 */
+    DEXTOLUMEN_AWAITS_PARM = 6,   /* a parameter is awaited, and the word is neither PARM nor INIT */
+    DEXTOLUMEN_NO_PARM = 7,       /* PARM with none awaited */
+    DEXTOLUMEN_BAD_AUX = 8,       /* AUX above 12 */
+    DEXTOLUMEN_BAD_VALUE = 9,     /* a value that is not allowed */
+    DEXTOLUMEN_NO_FIGURE = 10,    /* X or PX that fits no open figure */
+    DEXTOLUMEN_BAD_LENGTH = 11,   /* the stream's length mod 5 is 1, 2 or 4 */
+    DEXTOLUMEN_BAD_TAIL = 12,     /* the last half byte of an odd stream is not 0 */
+    DEXTOLUMEN_PAST_LAST = 13,    /* the place asked for is past the last word */
+};
+
+/* dextolumen_word_count and dextolumen_word_at answer this plus the number where they refuse. */
+#define DEXTOLUMEN_REFUSED (UINT64_C(1) << 63)
+
+/* ---- the register record */
+
+/* A point with its numbers. */
+struct dextolumen_vertex {
+    uint16_t x, y, i, z;
+};
+
+/* The line length. */
+struct dextolumen_frame {
+    uint16_t line;
+};
+
+/* The words of PMODE, LMODE, ZCONTROL, HCONTROL, LSTATUS, TPATTERN and MASK. */
+struct dextolumen_modes {
+    uint16_t pmode, lmode, zcontrol, hcontrol, lstatus, transparency, planes;
+};
+
+/* The window; its borders belong to it. */
+struct dextolumen_window {
+    uint16_t left, top, right, bottom;
+};
+
+/* What lines of the modes 0 and 1 are drawn with: two colours, and the pattern's bits 31 to 16 and 15 to 0. */
+struct dextolumen_dash {
+    uint16_t foreground, background, high, low;
+};
+
+/* The I, Z and Y registers. */
+struct dextolumen_latch {
+    uint16_t i, z, y;
+};
+
+/* The open figure: 0 none, 1 a strip, 2 a fan, 3 a line; whether two vertices are kept, and they. */
+struct dextolumen_figure {
+    uint16_t shape, pair;
+    struct dextolumen_vertex first, second;
+};
+
+/* The AUX number whose parameters are awaited, 13 for none; how many have come, and those. */
+struct dextolumen_parked {
+    uint16_t subcommand, came, values[5];
+};
+
+/* All registers. `started` is 1 once an INIT was accepted. */
+struct dextolumen_registers {
+    uint16_t started;
+    struct dextolumen_frame frame;
+    struct dextolumen_modes modes;
+    struct dextolumen_window window;
+    struct dextolumen_dash dash;
+    struct dextolumen_latch latch;
+    struct dextolumen_figure figure;
+    struct dextolumen_parked parked;
+};
+
+/* ---- answers */
+
+/* The answer to a word: its number, and how many pixels passed (0 where it is refused). */
+struct dextolumen_told {
+    uint64_t refusal, passed;
+};
+
+/* How a run ended: its number; the index of the refused word, or how many words there are; the sum of the counts of the words before it,
+   modulo 2^64; and the last record. */
+struct dextolumen_ended {
+    uint64_t refusal, index, sum;
+    struct dextolumen_registers registers;
+};
+
+/* ---- packed streams */
+
+/* How many words a packed stream holds; or refused: BAD_LENGTH, BAD_TAIL. */
+uint64_t dextolumen_word_count(const uint8_t *bytes, size_t length);
+
+/* The word at a place, counted from 0: its command is bits 19 to 16, its data bits 15 to 0; or refused: those two, PAST_LAST. */
+uint64_t dextolumen_word_at(const uint8_t *bytes, size_t length, size_t place);
+
+/* ---- the card */
+
+/* The record after reset. */
+struct dextolumen_registers dextolumen_reset(void);
+
+/* Takes a word: updates the record where it stands, and draws into the two memories. A refused word changes none of them. */
+struct dextolumen_told dextolumen_step(struct dextolumen_registers *registers, uint8_t command, uint16_t data, uint16_t *i_memory,
+                                       size_t i_length, uint16_t *z_memory, size_t z_length);
+
+/* Runs a packed stream from reset until a word is refused; words before it keep their effect. A stream that is refused as a whole
+   (BAD_LENGTH, BAD_TAIL, BAD_RECORD, in that order) ends with index and sum 0, the record after reset and both memories untouched. */
+struct dextolumen_ended dextolumen_run(const uint8_t *bytes, size_t length, uint16_t *i_memory, size_t i_length, uint16_t *z_memory,
+                                       size_t z_length);
+
+/* ---- the layout, as the proved code has it */
+
+#define DEXTOLUMEN_SIZE(type, size, align) _Static_assert(sizeof(struct type) == (size) && _Alignof(struct type) == (align), #type)
+#define DEXTOLUMEN_AT(type, field, offset) _Static_assert(offsetof(struct type, field) == (offset), #type "." #field)
+
+DEXTOLUMEN_SIZE(dextolumen_registers, 74, 2);
+DEXTOLUMEN_AT(dextolumen_registers, started, 0);
+DEXTOLUMEN_AT(dextolumen_registers, frame.line, 2);
+DEXTOLUMEN_AT(dextolumen_registers, modes.pmode, 4);
+DEXTOLUMEN_AT(dextolumen_registers, modes.lmode, 6);
+DEXTOLUMEN_AT(dextolumen_registers, modes.zcontrol, 8);
+DEXTOLUMEN_AT(dextolumen_registers, modes.hcontrol, 10);
+DEXTOLUMEN_AT(dextolumen_registers, modes.lstatus, 12);
+DEXTOLUMEN_AT(dextolumen_registers, modes.transparency, 14);
+DEXTOLUMEN_AT(dextolumen_registers, modes.planes, 16);
+DEXTOLUMEN_AT(dextolumen_registers, window.left, 18);
+DEXTOLUMEN_AT(dextolumen_registers, window.top, 20);
+DEXTOLUMEN_AT(dextolumen_registers, window.right, 22);
+DEXTOLUMEN_AT(dextolumen_registers, window.bottom, 24);
+DEXTOLUMEN_AT(dextolumen_registers, dash.foreground, 26);
+DEXTOLUMEN_AT(dextolumen_registers, dash.background, 28);
+DEXTOLUMEN_AT(dextolumen_registers, dash.high, 30);
+DEXTOLUMEN_AT(dextolumen_registers, dash.low, 32);
+DEXTOLUMEN_AT(dextolumen_registers, latch.i, 34);
+DEXTOLUMEN_AT(dextolumen_registers, latch.z, 36);
+DEXTOLUMEN_AT(dextolumen_registers, latch.y, 38);
+DEXTOLUMEN_AT(dextolumen_registers, figure.shape, 40);
+DEXTOLUMEN_AT(dextolumen_registers, figure.pair, 42);
+DEXTOLUMEN_AT(dextolumen_registers, figure.first, 44);
+DEXTOLUMEN_AT(dextolumen_registers, figure.second, 52);
+DEXTOLUMEN_AT(dextolumen_registers, parked.subcommand, 60);
+DEXTOLUMEN_AT(dextolumen_registers, parked.came, 62);
+DEXTOLUMEN_AT(dextolumen_registers, parked.values, 64);
+DEXTOLUMEN_SIZE(dextolumen_vertex, 8, 2);
+DEXTOLUMEN_AT(dextolumen_vertex, x, 0);
+DEXTOLUMEN_AT(dextolumen_vertex, y, 2);
+DEXTOLUMEN_AT(dextolumen_vertex, i, 4);
+DEXTOLUMEN_AT(dextolumen_vertex, z, 6);
+DEXTOLUMEN_SIZE(dextolumen_told, 16, 8);
+DEXTOLUMEN_AT(dextolumen_told, refusal, 0);
+DEXTOLUMEN_AT(dextolumen_told, passed, 8);
+DEXTOLUMEN_SIZE(dextolumen_ended, 104, 8);
+DEXTOLUMEN_AT(dextolumen_ended, refusal, 0);
+DEXTOLUMEN_AT(dextolumen_ended, index, 8);
+DEXTOLUMEN_AT(dextolumen_ended, sum, 16);
+DEXTOLUMEN_AT(dextolumen_ended, registers, 24);
+
+#undef DEXTOLUMEN_SIZE
+#undef DEXTOLUMEN_AT
+
+#endif
