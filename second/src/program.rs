@@ -27,7 +27,7 @@ pub struct Program {
     pub random: Random,
     figures: usize,
     region: Region,
-    /// Depths and intensities are mostly below this.
+    /// Depths and intensities are mostly no more than this.
     span: i64,
     /// The line codes that INIT mostly takes.
     codes: Vec<i64>,
@@ -94,8 +94,10 @@ impl Program {
     pub fn opening(&mut self) {
         let code = self.random.below(self.codes.len() as i64) as usize;
         self.init(self.codes[code]);
-        if !self.random.once_in(12) {
-            self.enables();
+        match self.random.below(20) {
+            0 => {}
+            1 => self.enables(),
+            _ => self.subcommand(HCONTROL, &[6]),
         }
         if self.random.once_in(2) {
             self.subcommand(ZCONTROL, &[DEPTH_BITS]);
@@ -105,7 +107,7 @@ impl Program {
     /// HCONTROL, mostly with both enables on; the other bits play no part.
     fn enables(&mut self) {
         let others = self.random.below(65536) & HARDWARE_BITS & !6;
-        let enables = self.random.pick(&[6, 6, 6, 6, 6, 6, 4, 4, 2, 0]);
+        let enables = self.random.pick(&[6, 6, 6, 6, 6, 6, 6, 6, 4, 4, 2, 0]);
         let hardware = if self.random.once_in(2) { enables } else { enables | others };
         self.subcommand(HCONTROL, &[hardware]);
     }
@@ -123,7 +125,7 @@ impl Program {
             7 | 8 => self.transparency_setting(),
             9 | 10 => self.window_setting(),
             11 => {
-                let (fore, back) = (self.number(), self.number());
+                let (fore, back) = (self.intensity(), self.intensity());
                 self.subcommand(COLOR, &[fore, back]);
             }
             12 | 13 => self.line_pattern_setting(),
@@ -213,12 +215,20 @@ impl Program {
         (PLACES / self.length()).max(1)
     }
 
-    /// A depth, an intensity or a colour.
-    pub fn number(&mut self) -> i64 {
+    fn depth(&mut self) -> i64 {
         match self.random.below(12) {
             0 => self.random.below(65536),
             1 => self.random.pick(&[0, 1, 65534, 65535]),
             _ => self.random.below(self.span),
+        }
+    }
+
+    /// An intensity or a colour; mostly not 0, as only such places print.
+    fn intensity(&mut self) -> i64 {
+        match self.random.below(12) {
+            0 => self.random.below(65536),
+            1 => self.random.pick(&[0, 1, 65534, 65535]),
+            _ => self.random.from_to(1, self.span.min(65535)),
         }
     }
 
@@ -267,7 +277,7 @@ impl Program {
 
     /// Some of I, Z and Y, in any order; Y almost always.
     pub fn load_point(&mut self) {
-        let (i, z, y) = (self.number(), self.number(), self.y());
+        let (i, z, y) = (self.intensity(), self.depth(), self.y());
         let loads = match self.random.below(8) {
             0 => vec![(Y, y)],
             1 => vec![(Y, y), (I, i)],
@@ -358,6 +368,13 @@ impl Program {
         }
     }
 
+    /// Puts settings that hide much back, so that what follows shows.
+    fn uncover(&mut self) {
+        self.subcommand(WINDOW, &[0, 8192, 8192, 0, 0]);
+        self.subcommand(HCONTROL, &[6]);
+        self.subcommand(MASK, &[0xFFFF]);
+    }
+
     /// A piece of a drawing.
     fn piece(&mut self) {
         if self.is_full_of_figures() {
@@ -365,7 +382,8 @@ impl Program {
         }
         match self.random.below(60) {
             0 => self.opening(),
-            1..=17 => self.setting(),
+            1..=3 => self.uncover(),
+            4..=17 => self.setting(),
             18..=31 => self.triangles(T1X),
             32..=43 => self.triangles(T2X),
             44..=57 => self.polyline(),
