@@ -127,7 +127,7 @@ fn value_not_allowed(program: &mut Program) {
 fn bad_coordinate(program: &mut Program) {
     let any = program.random.from_to(8192, 65535);
     let command = program.random.pick(&[Y, X, T1X, T2X, LX, PX]);
-    let data = program.random.pick(&[8192, 8193, 65535, 9000, any]);
+    let data = program.random.pick(&[8192, 8192, 8192, 8193, 65535, any]);
     program.push(command, data);
 }
 
@@ -140,19 +140,19 @@ fn bad_init(program: &mut Program) {
         0 => program.random.pick(&unlisted) * 256,
         1 => program.random.from_to(1, 3) * 64,
         2 => program.random.from_to(1, 3) * 16,
-        _ => program.random.from_to(8, 15),
+        _ => program.random.pick(&[8, 8, 9, 10, 12, 15]),
     };
     program.push(INIT, data);
 }
 
 fn bad_parameter(program: &mut Program) {
-    match program.random.below(8) {
+    match program.random.below(9) {
         0 => program.subcommand(PMODE, &[2]),
         1 => program.subcommand(LMODE, &[3]),
         2 => bad_bit(program, ZCONTROL, DEPTH_BITS),
-        3 => bad_bit(program, HCONTROL, HARDWARE_BITS),
-        4 => bad_bit(program, LSTATUS, STATUS_BITS),
-        5 => program.subcommand(WINDOW, &[0, 31, 255, 0, 1]),
+        3 | 4 => bad_bit(program, HCONTROL, HARDWARE_BITS),
+        5 => bad_bit(program, LSTATUS, STATUS_BITS),
+        6 => program.subcommand(WINDOW, &[0, 31, 255, 0, 1]),
         _ => bad_border(program),
     }
 }
@@ -203,7 +203,8 @@ fn point_without_figure(program: &mut Program) {
         }
         _ => {
             program.open(LX);
-            program.subcommand(LSTATUS, &[0x10]);
+            let status = program.random.pick(&[0x10, 0x30]);
+            program.subcommand(LSTATUS, &[status]);
             program.add_point();
             program.push(if program.registers.line_mode == 2 { X } else { PX }, 5);
         }
@@ -221,7 +222,7 @@ fn limits(mut program: Program) -> Vec<u8> {
         match program.random.below(6) {
             0 => limit_setting(&mut program),
             1 if program.random.once_in(6) => limit_init(&mut program),
-            _ if figures < 60 => {
+            _ if figures < 40 => {
                 limit_figure(&mut program);
                 figures += 1;
             }
@@ -229,7 +230,7 @@ fn limits(mut program: Program) -> Vec<u8> {
         }
     }
     if program.random.once_in(2) {
-        match program.random.below(4) {
+        match program.random.below(5) {
             0 => program.subcommand(WINDOW, &[8192, 8192, 8192, 8193]),
             1 => bad_parameter(&mut program),
             2 => bad_init(&mut program),
@@ -296,7 +297,7 @@ fn orders(mut program: Program) -> Vec<u8> {
     program.opening();
     let words = program.random.from_to(150, 700) as usize;
     let mut points = 0;
-    while program.words.len() < words && points < 150 {
+    while program.words.len() < words && points < 80 {
         match program.random.below(12) {
             0 => program.open(T1X),
             1 => program.open(T2X),

@@ -10,7 +10,7 @@ use crate::stream::{pack_words, Word};
 pub const MOST_WORDS: usize = 3276;
 /// The most visible figures of one stream, so that trying all pixels for
 /// each of them stays cheap.
-const MOST_FIGURES: usize = 150;
+const MOST_FIGURES: usize = 80;
 /// The places of the picture that the streams are made for.
 const PLACES: i64 = 8192;
 
