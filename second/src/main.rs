@@ -1,0 +1,85 @@
+//! A second program for the display chip's command machine, written from
+//! the rules alone and without an eye to speed: every pixel of the memory
+//! is tried against every figure.
+
+mod commands;
+mod edges;
+#[cfg(test)]
+mod examples;
+mod figures;
+mod generator;
+mod hexwords;
+mod picture;
+mod printing;
+mod program;
+mod random;
+mod registers;
+mod run;
+mod shares;
+mod stream;
+mod vectors;
+
+use std::io::{self, Read, Write};
+use std::process::ExitCode;
+
+const USAGE: &str = "usage: second draw | pack | unpack | generate SEED | vectors DIR | shares FIRST COUNT";
+
+fn main() -> ExitCode {
+    let arguments: Vec<String> = std::env::args().skip(1).collect();
+    let arguments: Vec<&str> = arguments.iter().map(String::as_str).collect();
+    match dispatch(&arguments) {
+        Ok(()) => ExitCode::SUCCESS,
+        Err(message) => {
+            eprintln!("second: {}", message);
+            ExitCode::FAILURE
+        }
+    }
+}
+
+fn dispatch(arguments: &[&str]) -> Result<(), String> {
+    match arguments {
+        ["draw"] => draw(),
+        ["pack"] => write_out(&hexwords::pack_text(&read_all()?)?),
+        ["unpack"] => write_out(hexwords::unpack_text(&read_all()?)?.as_bytes()),
+        ["generate", seed] => write_out(&generator::generate(number(seed)?)),
+        ["vectors", directory] => vectors::write(directory),
+        ["shares", first, count] => print_shares(number(first)?, number(count)?),
+        _ => Err(USAGE.to_string()),
+    }
+}
+
+fn number(text: &str) -> Result<u64, String> {
+    text.parse().map_err(|_| format!("not a number: {}", text))
+}
+
+fn read_all() -> Result<Vec<u8>, String> {
+    read_at_most(u64::MAX)
+}
+
+fn read_at_most(limit: u64) -> Result<Vec<u8>, String> {
+    let mut bytes = Vec::new();
+    let read = io::stdin().lock().take(limit).read_to_end(&mut bytes);
+    read.map_err(|error| format!("reading: {}", error))?;
+    Ok(bytes)
+}
+
+fn write_out(bytes: &[u8]) -> Result<(), String> {
+    let mut out = io::stdout().lock();
+    out.write_all(bytes).and_then(|()| out.flush()).map_err(|error| format!("writing: {}", error))
+}
+
+/// One byte more than allowed is enough to know that there are too many.
+fn draw() -> Result<(), String> {
+    let bytes = read_at_most(printing::LONGEST_STREAM as u64 + 1)?;
+    write_out(printing::drawing(&bytes).as_bytes())
+}
+
+fn print_shares(first: u64, count: u64) -> Result<(), String> {
+    let shares = shares::shares(first, count);
+    write_out(shares.text().as_bytes())?;
+    if shares.all_came() {
+        Ok(())
+    } else {
+        Err("a refusal from 3 to 12 never came".to_string())
+    }
+}

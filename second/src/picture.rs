@@ -1,0 +1,112 @@
+//! The two memories, and what a figure does to them.
+
+use crate::figures::{Figure, Numbers};
+use crate::registers::{bit, Registers, Window};
+
+/// The most rows that are ever in use.
+const MOST_ROWS: i64 = 8192;
+
+/// The I memory and the Z memory, of one length.
+#[derive(Clone, Debug, PartialEq, Eq)]
+pub struct Picture {
+    pub i: Vec<i64>,
+    pub z: Vec<i64>,
+}
+
+impl Picture {
+    /// I all 0, Z all 65535.
+    pub fn cleared(places: usize) -> Picture {
+        Picture { i: vec![0; places], z: vec![65535; places] }
+    }
+
+    /// The whole rows that fit, at most 8,192.
+    pub fn rows(&self, line_length: i64) -> i64 {
+        (self.i.len() as i64 / line_length).min(MOST_ROWS)
+    }
+
+    /// Draws a figure under the settings of the registers, and counts the
+    /// pixels passed.
+    pub fn draw(&mut self, figure: &Figure, registers: &Registers) -> u64 {
+        let mut passed = 0;
+        let points = figure.points();
+        let highest_y = points.iter().map(|point| point.y).max().unwrap_or(0);
+        let highest_x = points.iter().map(|point| point.x).max().unwrap_or(0);
+        let lowest_y = points.iter().map(|point| point.y).min().unwrap_or(0);
+        let lowest_x = points.iter().map(|point| point.x).min().unwrap_or(0);
+        for y in lowest_y..self.rows(registers.line_length).min(highest_y + 1) {
+            for x in lowest_x..registers.line_length.min(highest_x + 1) {
+                if let Some(numbers) = offered(figure, registers, x, y) {
+                    if self.offer(figure, numbers, registers, x, y) {
+                        passed += 1;
+                    }
+                }
+            }
+        }
+        passed
+    }
+
+    /// Offers one pixel, which is inside the memory, and stores it if it
+    /// passes.
+    fn offer(&mut self, figure: &Figure, numbers: Numbers, registers: &Registers, x: i64, y: i64) -> bool {
+        let place = (y * registers.line_length + x) as usize;
+        if !passes(figure, numbers, registers, self.z[place]) {
+            return false;
+        }
+        if registers.i_enabled() {
+            self.i[place] = in_planes(self.i[place], numbers.i, registers.planes);
+        }
+        if let (Some(depth), true) = (numbers.z, registers.z_enabled()) {
+            self.z[place] = depth;
+        }
+        true
+    }
+}
+
+/// The numbers that a figure offers at a pixel of the memory, if the window
+/// and the transparency pattern let it.
+fn offered(figure: &Figure, registers: &Registers, x: i64, y: i64) -> Option<Numbers> {
+    let shown = inside_window(&registers.window, x, y) && unmasked(figure, registers.transparency, x, y);
+    if shown {
+        figure.at(registers, x, y)
+    } else {
+        None
+    }
+}
+
+/// Borders counted. Left above right or bottom above top holds no pixel.
+fn inside_window(window: &Window, x: i64, y: i64) -> bool {
+    window.left <= x && x <= window.right && window.bottom <= y && y <= window.top
+}
+
+fn unmasked(figure: &Figure, transparency: i64, x: i64, y: i64) -> bool {
+    !figure.is_patterned() || transparency_keeps(transparency, x, y)
+}
+
+/// Bit 4·(y mod 4) + (x mod 4) of the transparency pattern.
+pub fn transparency_keeps(transparency: i64, x: i64, y: i64) -> bool {
+    bit(transparency, 4 * (y % 4) + x % 4)
+}
+
+/// With the depth test on, triangles and mode 2 lines pass where the new
+/// depth is strictly less than the old; everything else offered passes. The
+/// old depth is read with Z writing off too (READINGS.md, "Figures").
+fn passes(figure: &Figure, numbers: Numbers, registers: &Registers, old_depth: i64) -> bool {
+    let tested = match figure {
+        Figure::Triangle { .. } => true,
+        Figure::Segment { mode, .. } => *mode == 2,
+    };
+    match numbers.z {
+        Some(depth) if tested && registers.depth_test => depth < old_depth,
+        _ => true,
+    }
+}
+
+/// The new number in the set planes, the old one in the others.
+fn in_planes(old: i64, new: i64, planes: i64) -> i64 {
+    (0..16)
+        .map(|plane| {
+            let from = if bit(planes, plane) { new } else { old };
+            i64::from(bit(from, plane)) * 2_i64.pow(plane as u32)
+        })
+        .sum()
+}

@@ -1,0 +1,182 @@
+//! The registers, and what reset and INIT make of them.
+
+/// A vertex: the X data with the I, Z and Y registers of its moment. A PX
+/// vertex freezes them too (READINGS.md, "Registers").
+#[derive(Clone, Copy, Debug, PartialEq, Eq)]
+pub struct Vertex {
+    pub x: i64,
+    pub y: i64,
+    pub i: i64,
+    pub z: i64,
+}
+
+/// The clipping window; pixels on its borders are inside.
+#[derive(Clone, Copy, Debug, PartialEq, Eq)]
+pub struct Window {
+    pub left: i64,
+    pub top: i64,
+    pub right: i64,
+    pub bottom: i64,
+}
+
+/// The figure that is open, with the vertices that came so far.
+#[derive(Clone, Debug, PartialEq, Eq)]
+pub enum Open {
+    Nothing,
+    Strip(Vec<Vertex>),
+    Fan(Vec<Vertex>),
+    Line(Vertex),
+}
+
+/// A subcommand that awaits parameters, with those that came so far.
+#[derive(Clone, Debug, PartialEq, Eq)]
+pub struct Awaiting {
+    pub subcommand: i64,
+    pub parked: Vec<i64>,
+}
+
+pub const GOURAUD: i64 = 0;
+pub const CONSTANT: i64 = 1;
+
+#[derive(Clone, Debug, PartialEq, Eq)]
+pub struct Registers {
+    /// An INIT was accepted since reset.
+    pub initialised: bool,
+    pub line_length: i64,
+    /// 0 Gouraud, 1 constant.
+    pub shading: i64,
+    pub line_mode: i64,
+    pub depth_test: bool,
+    /// The hardware bits, as HCONTROL gave them.
+    pub hardware: i64,
+    pub transparency: i64,
+    pub window: Window,
+    pub foreground: i64,
+    pub background: i64,
+    /// The line pattern, 32 bits.
+    pub line_pattern: i64,
+    pub planes: i64,
+    pub i: i64,
+    pub z: i64,
+    pub y: i64,
+    /// INV of the line status.
+    pub invisible: bool,
+    /// END of the line status.
+    pub end: bool,
+    pub open: Open,
+    pub awaiting: Option<Awaiting>,
+}
+
+impl Registers {
+    /// What INIT sets, for a line length.
+    pub fn initial(line_length: i64) -> Registers {
+        Registers {
+            initialised: true,
+            line_length,
+            shading: GOURAUD,
+            line_mode: 1,
+            depth_test: false,
+            hardware: 0,
+            transparency: 0xFFFF,
+            // 0 to 8192 both ways; y rises upward, so top is 8192
+            // (READINGS.md, "Registers").
+            window: Window { left: 0, top: 8192, right: 8192, bottom: 0 },
+            foreground: 1,
+            background: 0,
+            line_pattern: 0xFFFF_FFFF,
+            planes: 0xFFFF,
+            i: 0,
+            z: 0,
+            y: 0,
+            invisible: true,
+            end: false,
+            open: Open::Nothing,
+            awaiting: None,
+        }
+    }
+
+    /// Reset: the same with line length 256, and no INIT accepted yet.
+    pub fn reset() -> Registers {
+        Registers { initialised: false, ..Registers::initial(256) }
+    }
+
+    /// HCONTROL bit 2.
+    pub fn i_enabled(&self) -> bool {
+        bit(self.hardware, 2)
+    }
+
+    /// HCONTROL bit 1.
+    pub fn z_enabled(&self) -> bool {
+        bit(self.hardware, 1)
+    }
+
+    /// The vertex that an X, T1X, T2X, LX or PX with this data makes.
+    pub fn vertex(&self, x: i64) -> Vertex {
+        Vertex { x, y: self.y, i: self.i, z: self.z }
+    }
+}
+
+/// Whether a bit of a number that is not negative is set.
+pub fn bit(number: i64, place: i64) -> bool {
+    number / 2_i64.pow(place as u32) % 2 == 1
+}
+
+/// The line lengths by code, in the order of document 01's table.
+const LINE_LENGTHS: [(i64, i64); 36] = [
+    (0, 256),
+    (1, 320),
+    (2, 384),
+    (3, 448),
+    (4, 512),
+    (5, 576),
+    (6, 640),
+    (7, 704),
+    (8, 1024),
+    (9, 1088),
+    (10, 1152),
+    (11, 1216),
+    (12, 2048),
+    (13, 2112),
+    (14, 2176),
+    (15, 2240),
+    (18, 768),
+    (19, 832),
+    (22, 1280),
+    (23, 1344),
+    (26, 2304),
+    (27, 2368),
+    (28, 4096),
+    (29, 4160),
+    (30, 4352),
+    (31, 4416),
+    (34, 1536),
+    (35, 1600),
+    (38, 2560),
+    (39, 2624),
+    (42, 4608),
+    (43, 4672),
+    (44, 8192),
+    (45, 8256),
+    (46, 8704),
+    (47, 8768),
+];
+
+/// The line length of a code, if it is one of the 36.
+pub fn line_length_of(code: i64) -> Option<i64> {
+    LINE_LENGTHS.iter().find(|row| row.0 == code).map(|row| row.1)
+}
+
+/// The line length that INIT data asks for, if all of it is allowed: bits
+/// 13 to 8 line code, 7 and 6 chips, 5 and 4 unit, 3 to 0 page code; bits
+/// 15 and 14 have no effect.
+pub fn init_line_length(data: i64) -> Option<i64> {
+    let code = data / 256 % 64;
+    let chips = data / 64 % 4;
+    let unit = data / 16 % 4;
+    let page = data % 16;
+    if chips == 0 && unit == 0 && page <= 7 {
+        line_length_of(code)
+    } else {
+        None
+    }
+}

@@ -1,0 +1,45 @@
+//! Running a packed stream from reset.
+
+use crate::commands;
+use crate::picture::Picture;
+use crate::registers::Registers;
+use crate::stream;
+
+/// What a run tells, and the line length it leaves.
+#[derive(Clone, Debug, PartialEq, Eq)]
+pub struct Outcome {
+    /// The index of the refused word, or the number of words.
+    pub words: i64,
+    pub refusal: i64,
+    /// The sum of the counts modulo 2^64.
+    pub passed: u64,
+    pub line_length: i64,
+}
+
+/// Runs a packed stream over a picture. Refusal 2 cannot come: a picture's
+/// two memories have the same length.
+pub fn run(bytes: &[u8], picture: &mut Picture) -> Outcome {
+    let mut registers = Registers::reset();
+    let mut outcome = Outcome { words: 0, refusal: 0, passed: 0, line_length: registers.line_length };
+    let words = match stream::unpack(bytes) {
+        Ok(words) => words,
+        Err(refusal) => return Outcome { refusal, ..outcome },
+    };
+    for word in words {
+        match commands::step(&registers, word) {
+            Ok(accepted) => {
+                registers = accepted.registers;
+                if let Some(figure) = accepted.figure {
+                    outcome.passed = outcome.passed.wrapping_add(picture.draw(&figure, &registers));
+                }
+                outcome.words += 1;
+            }
+            Err(refusal) => {
+                outcome.refusal = refusal;
+                break;
+            }
+        }
+    }
+    outcome.line_length = registers.line_length;
+    outcome
+}
