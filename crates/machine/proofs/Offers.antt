@@ -149,27 +149,28 @@ fold-alike f g (o ∷ os) h c =
 
 module _ (M : Machine) (ni nz at : ℕ) (does : Cell → Offer → Cell) (P : M .Registers → Type 0) (Q : M .Word → Type 0) (test : M .Registers → M .Word → Bool)
     (keeps : (r : M .Registers) (w : M .Word) → P r → Q w → P (M .next r w))
-    (each : (rows : ℕ) (r : M .Registers) (w : M .Word) → P r → Q w → test r w ≡ true → (o : Offer) → List·Memᴰ o (M .offers rows r w) → (c : Cell) → after (M .pen r) c o ≡ does c o)
+    (each : (r : M .Registers) (w : M .Word) → P r → M .refusal ni nz r w ≡ 0 → test r w ≡ true → (o : Offer) → List·Memᴰ o (M .offers (rowsOf (M .pen r .frame) ni nz) r w)
+    → (c : Cell) → after (M .pen r) c o ≡ does c o)
   where
-  word-as : (r : M .Registers) (w : M .Word) → P r → Q w → cond (eqb (M .refusal ni nz r w) 0) (test r w) true ≡ true → (c : Cell)
-      → foldl (after (M .pen r)) c (offersThere M ni nz at r w) ≡ foldl does c (offersThere M ni nz at r w)
-  word-as r w p q t =
-      fold-alike (after (M .pen r)) does (offersThere M ni nz at r w)
-      (λ o u c.
-      let v = there-member (M .pen r .frame) at (offersIn M ni nz r w) o u in
-      zero-or-not (M .refusal ni nz r w)
-      (λ e. each (rowsOf (M .pen r .frame) ni nz) r w p q (rw (eq-eqb _ _ e) at t) o (rw (offers-accepted M ni nz r w e) at v) c)
-      (λ e. absurd (List·Memᴰ·not-nil (rw (offers-refused M ni nz r w e) at v))))
+    word-as : (r : M .Registers) (w : M .Word) → P r → cond (eqb (M .refusal ni nz r w) 0) (test r w) true ≡ true → (c : Cell)
+        → foldl (after (M .pen r)) c (offersThere M ni nz at r w) ≡ foldl does c (offersThere M ni nz at r w)
+    word-as r w p t =
+        fold-alike (after (M .pen r)) does (offersThere M ni nz at r w)
+        (λ o u c.
+        let v = there-member (M .pen r .frame) at (offersIn M ni nz r w) o u in
+        zero-or-not (M .refusal ni nz r w)
+        (λ e. each r w p e (rw (eq-eqb _ _ e) at t) o (rw (offers-accepted M ni nz r w e) at v) c)
+        (λ e. absurd (List·Memᴰ·not-nil (rw (offers-refused M ni nz r w e) at v))))
 
-  -- if each accepted word passes a test under which its offers do what `does` says, the offers at a place do it one after the other
-  pub cells-as : (ws : List (M .Word)) (r : M .Registers) (c : Cell) → P r → ((w : M .Word) → List·Memᴰ w ws → Q w) → eachIn M test ni nz r ws ≡ true
-      → cellAfter M ni nz at r ws c ≡ foldl does c (offersAt M ni nz at r ws)
-  unfolding cellAfter offersAt eachIn
-  cells-as [] r c p qs t = refl
-  cells-as (w ∷ ws) r c p qs t =
-      let q = qs w (List·Memᴰ·head refl) in
-      let k = both (cond (eqb (M .refusal ni nz r w) 0) (test r w) true) (eachIn M test ni nz (nextIn M ni nz r w) ws) t in
-      let next = nextIn M ni nz r w in
-      cells-as ws next (foldl (after (M .pen r)) c (offersThere M ni nz at r w)) (next-keeps M ni nz r w P (λ e. keeps r w p q) p) (λ v u. qs v (List·Memᴰ·tail u)) (k .1)
-      ∙ ap (λ (d : Cell). foldl does d (offersAt M ni nz at next ws)) (word-as r w p q (k .0) c)
-      ∙ sym (foldl-append does c (offersThere M ni nz at r w) (offersAt M ni nz at next ws))
+    -- if each accepted word passes a test under which its offers do what `does` says, the offers at a place do it one after the other
+    pub cells-as : (ws : List (M .Word)) (r : M .Registers) (c : Cell) → P r → ((w : M .Word) → List·Memᴰ w ws → Q w) → eachIn M test ni nz r ws ≡ true
+        → cellAfter M ni nz at r ws c ≡ foldl does c (offersAt M ni nz at r ws)
+    unfolding cellAfter offersAt eachIn
+    cells-as [] r c p qs t = refl
+    cells-as (w ∷ ws) r c p qs t =
+        let q = qs w (List·Memᴰ·head refl) in
+        let k = both (cond (eqb (M .refusal ni nz r w) 0) (test r w) true) (eachIn M test ni nz (nextIn M ni nz r w) ws) t in
+        let next = nextIn M ni nz r w in
+        cells-as ws next (foldl (after (M .pen r)) c (offersThere M ni nz at r w)) (next-keeps M ni nz r w P (λ e. keeps r w p q) p) (λ v u. qs v (List·Memᴰ·tail u)) (k .1)
+        ∙ ap (λ (d : Cell). foldl does d (offersAt M ni nz at next ws)) (word-as r w p (k .0) c)
+        ∙ sym (foldl-append does c (offersThere M ni nz at r w) (offersAt M ni nz at next ws))

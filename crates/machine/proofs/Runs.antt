@@ -237,7 +237,7 @@ module _ {W R M : Type 0} (step : Step W R M) where
   along-with P ok also gives keeps (w ∷ ws) a p h = (
     λ goes. gives (a .registers) w (a .memories) p (h .0 goes),
     along-with P ok also gives keeps ws (advance step a w)
-    (advance-keeps (λ r m. P r) a w (λ e f. keeps (a .registers) w (a .memories) p (h .0 e) f) p) (h .1),
+        (advance-keeps (λ r m. P r) a w (λ e f. keeps (a .registers) w (a .memories) p (h .0 e) f) p) (h .1),
   )
 
   -- what every word leaves of the memories, a run leaves
