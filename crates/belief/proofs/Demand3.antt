@@ -1,7 +1,7 @@
 -- The order's demand 3: what an operator believes of the picture. What words leave at a place is what the offers made there leave of the two
 -- numbers that stood there; each of them lands, by what is supposed; and offers that land leave the least depth. Assumes nothing.
 use mathlib.Core.Path.{_≡_, sym, ap, _∙_, subst}
-use mathlib.Core.List.{List, map, List·Memᴰ, List·Memᴰ·not-nil}
+use mathlib.Core.List.{List, [], _∷_, map, List·Memᴰ, List·Memᴰ·not-nil}
 use Prim.Native.Nat.{ℕ}
 use lib.Dec.{eqb}
 use lib.ListN.{length}
@@ -13,7 +13,7 @@ use Rattle.registers.specs.Record.{resetOf}
 use Rattle.registers.specs.Word.{wordOf}
 use Rattle.registers.specs.Next.{completedBy}
 use Rattle.registers.proofs.Truth.{chosen}
-use Rattle.machine.specs.Run.{Ran}
+use Rattle.machine.specs.Run.{Outcome, Ran}
 use Rattle.machine.specs.Machine.{Memories, memories, stepOf}
 use Rattle.machine.specs.Touched.{cellIn}
 use Rattle.machine.specs.Offers.{allOf}
@@ -23,7 +23,7 @@ use Rattle.chip.specs.Chip.{chip}
 use Rattle.chip.specs.Stream.{wordsOf, flawIn, flawOf, running}
 use Rattle.chip.specs.Demands.{Ended}
 use Rattle.chip.proofs.Laws.{inside}
-use Rattle.belief.specs.Belief.{taken, offersOf, isSupposed, Believed, Believable, Demand3}
+use Rattle.belief.specs.Belief.{wordsTaken, offersOf, isSupposed, Believed, Believable, AfterCalls, Demand3}
 use Rattle.belief.proofs.Numbers.{Narrow, words-narrow, Small, reset-small, after-small, completed-small}
 use Rattle.belief.proofs.Ends.{lands, lands-believed}
 use Rattle.belief.proofs.Lands.{supposed-lands}
@@ -38,25 +38,42 @@ words-believed ws m narrow suppose at =
     ws resetOf (cellIn m at) reset-small narrow suppose)
 
 -- a packed stream leaves what all of the words that it takes leave
-stream-leaves : (bytes : List ℕ) (m : Memories) → running bytes m .memories ≡ allOf (stepOf chip) resetOf (taken (length (m .i)) (length (m .z)) bytes) m .memories
-unfolding running flawOf taken
+stream-leaves : (bytes : List ℕ) (m : Memories) → running bytes m .memories ≡ allOf (stepOf chip) resetOf (wordsTaken (length (m .i)) (length (m .z)) bytes) m .memories
+unfolding running flawOf wordsTaken
 stream-leaves bytes m =
     zero-or-not (flawIn bytes (length (m .i)) (length (m .z)))
     (λ none. rw (eq-eqb _ _ none) (run-taken chip (wordsOf bytes) 0 0 resetOf m))
     (λ some. rw (ne-eqb _ _ some))
 
-taken-narrow : (ni nz : ℕ) (bytes : List ℕ) (w : Word) → List·Memᴰ w (taken ni nz bytes) → Narrow w
-unfolding taken
+taken-narrow : (ni nz : ℕ) (bytes : List ℕ) (w : Word) → List·Memᴰ w (wordsTaken ni nz bytes) → Narrow w
+unfolding wordsTaken
 taken-narrow ni nz bytes w =
     chosen (λ (ws : List Word). List·Memᴰ w ws → Narrow w) (eqb (flawIn bytes ni nz) 0) _ _
     (λ t u. words-narrow (unpackOf bytes) w (taken-member chip ni nz (wordsOf bytes) resetOf w u)) (λ t u. absurd (List·Memᴰ·not-nil u))
 
-streams-believed : (bytes i z : List ℕ) (o : Ended bytes i z) → Believable (taken (length i) (length z) bytes) (memories i z) (memories (o .i-left) (o .z-left))
+streams-believed : (bytes i z : List ℕ) (o : Ended bytes i z) → Believable (wordsTaken (length i) (length z) bytes) (memories i z) (memories (o .i-left) (o .z-left))
 streams-believed bytes i z o suppose at =
     let left = ap (λ (a : Ran Registers Memories). a .memories) (o .promise) ∙ stream-leaves bytes (memories i z) in
-    subst (λ (m : Memories). Believed (cellIn (memories i z) at) (offersOf (length i) (length z) (taken (length i) (length z) bytes) at) (cellIn m at)) (sym left)
-    (words-believed (taken (length i) (length z) bytes) (memories i z) (taken-narrow (length i) (length z) bytes) suppose at)
+    subst (λ (m : Memories). Believed (cellIn (memories i z) at) (offersOf (length i) (length z) (wordsTaken (length i) (length z) bytes) at) (cellIn m at)) (sym left)
+    (words-believed (wordsTaken (length i) (length z) bytes) (memories i z) (taken-narrow (length i) (length z) bytes) suppose at)
 
--- what an operator believes of the picture is so
+-- calls of `step`, one after the other, leave what all of their words leave
+calls-leave : (So : Memories → Type 0) (numbers : List ℕ) (r : Registers) (m : Memories) → So (allOf (stepOf chip) r (map wordOf numbers) m .memories)
+    → AfterCalls So r numbers m
+unfolding wordOf
+calls-leave So [] r m so = so
+calls-leave So (n ∷ numbers) r m so = λ o.
+    calls-leave So numbers (o .registers) (memories (o .i-left) (o .z-left))
+    (subst (λ (a : Outcome Registers Memories). So (allOf (stepOf chip) (a .registers) (map wordOf numbers) (a .memories) .memories)) (sym (o .promise)) so)
+
+numbers-believed : (numbers : List ℕ) (m : Memories) → Believable (map wordOf numbers) m (allOf (stepOf chip) resetOf (map wordOf numbers) m .memories)
+numbers-believed numbers m = words-believed (map wordOf numbers) m (words-narrow numbers)
+
+-- each place has the least of its starting depth and all depths offered there, with the intensity that goes with it
 pub demand-3 : Demand3
-demand-3 = record { words = λ numbers m. words-believed (map wordOf numbers) m (words-narrow numbers); streams = streams-believed }
+demand-3 =
+    record {
+      words = numbers-believed;
+      calls = λ numbers m. calls-leave (Believable (map wordOf numbers) m) numbers resetOf m (numbers-believed numbers m);
+      streams = streams-believed;
+    }

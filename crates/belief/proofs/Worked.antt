@@ -28,13 +28,14 @@ use Rattle.belief.specs.Belief.{offersOf, isAllOn, isSupposed, supposed,
 use Rattle.belief.specs.Worked.{scene, blank, Owned, Worked}
 use Rattle.belief.proofs.Demand3.{demand-3}
 
--- it is such as demand 3 supposes, and offers so much at three places
+-- it is such as demand 3 supposes, and offers so much at four places
 computed : (supposed 512 512 (map wordOf scene) ≡ true)
     × (offersOf 512 512 (map wordOf scene) 0 ≡ offer Gouraud 0 0 100 20 ∷ [])
     × (offersOf 512 512 (map wordOf scene) 1 ≡ offer Gouraud 1 0 200 10 ∷ offer Gouraud 1 0 100 20 ∷ [])
     × (offersOf 512 512 (map wordOf scene) 2 ≡ offer Gouraud 2 0 200 10 ∷ offer Gouraud 2 0 100 20 ∷ offer Line2 2 0 300 5 ∷ [])
+    × (offersOf 512 512 (map wordOf scene) 256 ≡ offer Gouraud 0 1 100 20 ∷ offer Line2 256 0 400 15 ∷ [])
 unfolding scene isAllOn isSupposed eachIn nextIn refusalOf inBounds frameFits modesFit windowFits vertexFits figureFits valuesFit parkedFits initAllowed effectOf parmOf coordinateOf coordinateCompletes after completedBy shapeOf grownOf completes decode wordOf subcommandOf settings lineOf offersIn offersAt modeOf figureOffers placeOf rowsOf inMemory inWindow offered keep spans there plusOf minusOf closed inside covers mixed shade pixelAt pixelOffers triangleOffers larger smaller xLeads sideAt xAt yAt numberAt shadeOffers segmentOffers
-computed = (refl, refl, refl, refl)
+computed = (refl, refl, refl, refl, refl)
 
 -- by demand 3 a place ends with what its offers come to
 owned : (at : ℕ) (os : List Offer) (i z : ℕ) → offersOf 512 512 (map wordOf scene) at ≡ os
@@ -57,4 +58,5 @@ worked =
       far-face = owned 0 _ 100 20 (computed .1) refl refl;
       near-face = owned 1 _ 200 10 (computed .2) refl refl;
       line = owned 2 _ 300 5 (computed .3) refl refl;
+      after-init = owned 256 _ 400 15 (computed .4) refl refl;
     }

@@ -3,7 +3,7 @@
 use mathlib.Core.Path.{_≡_}
 use mathlib.Core.Bool.{Bool, true, cond, _&&_}
 use mathlib.Core.List.{List, [], _∷_, map}
-use Prim.Native.Nat.{ℕ, min}
+use Prim.Native.Nat.{ℕ, _/_, _%_, min}
 use lib.Dec.{ltb, eqb}
 use lib.ListN.{length}
 use Rattle.picture.specs.declared.Pen.{Pen}
@@ -21,13 +21,13 @@ use Rattle.machine.specs.Touched.{cellIn}
 use Rattle.machine.specs.Offers.{allOf, offersAt, takenOf, eachIn}
 use Rattle.chip.specs.Chip.{chip}
 use Rattle.chip.specs.Stream.{wordsOf, flawIn}
-use Rattle.chip.specs.Demands.{Ended}
+use Rattle.chip.specs.Demands.{Stepped, Ended}
 
 -- ---- the words of a run, over memories of two lengths
 
 -- those of a packed stream that are taken: none if 11, 12 or 2 refuses it, else those before the first that is refused
-unfoldable pub taken : ℕ → ℕ → List ℕ → List Word
-taken ni nz bytes = cond (eqb (flawIn bytes ni nz) 0) (takenOf chip ni nz resetOf (wordsOf bytes)) []
+unfoldable pub wordsTaken : ℕ → ℕ → List ℕ → List Word
+wordsTaken ni nz bytes = cond (eqb (flawIn bytes ni nz) 0) (takenOf chip ni nz resetOf (wordsOf bytes)) []
 
 -- what words from reset offer at a place, in drawing order: a refused one nothing, an accepted one the pixels of the figure that it completes,
 -- each at its place by the line length of that moment
@@ -79,9 +79,18 @@ Believable ws m left =
     supposed (length (m .i)) (length (m .z)) ws ≡ true → (at : ℕ)
     → Believed (cellIn m at) (offersOf (length (m .i)) (length (m .z)) ws at) (cellIn left at)
 
+-- it is so of the memories that calls of `step` leave, one after the other, whatever outcomes its promise allows; a number tells a word, its
+-- command and its data of 16 bits
+abbrev pub AfterCalls : (Memories → Type 0) → Registers → List ℕ → Memories → Type 0
+AfterCalls So r [] m = So m
+AfterCalls So r (n ∷ numbers) m =
+    (o : Stepped r (n / 65536) (n % 65536) (m .i) (m .z)) → AfterCalls So (o .registers) numbers (memories (o .i-left) (o .z-left))
+
 pub record Demand3 : Type 0 where
-  -- of any words from reset, each told by its number (the command times 65536, and the data), refused ones among them
+  -- of any words from reset, a refused one among them changing nothing
   pub words : (numbers : List ℕ) (m : Memories) → Believable (map wordOf numbers) m (allOf (stepOf chip) resetOf (map wordOf numbers) m .memories)
-  -- of any packed stream, and every outcome that the promise of `run` allows
+  -- of the calls of `step` that they are
+  pub calls : (numbers : List ℕ) (m : Memories) → AfterCalls (Believable (map wordOf numbers) m) resetOf numbers m
+  -- of any packed stream, and each outcome that the promise of `run` allows
   pub streams : (bytes i z : List ℕ) (o : Ended bytes i z)
-      → Believable (taken (length i) (length z) bytes) (memories i z) (memories (o .i-left) (o .z-left))
+      → Believable (wordsTaken (length i) (length z) bytes) (memories i z) (memories (o .i-left) (o .z-left))
