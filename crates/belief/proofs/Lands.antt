@@ -1,6 +1,6 @@
 -- What is supposed of a run makes each of its offers land: it is of a kind with depth, all is on that stores it, and its intensity has 16
 -- bits. Assumes nothing.
-use mathlib.Core.Path.{_≡_, refl, sym, ap, _∙_, subst}
+use mathlib.Core.Path.{_≡_, refl, ap, _∙_}
 use mathlib.Core.Bool.{Bool, true, false, _&&_}
 use mathlib.Core.List.{List·Memᴰ, List·Memᴰ·not-nil}
 use Prim.Native.Nat.{ℕ, _≤_, zero-le}
@@ -13,18 +13,17 @@ use Rattle.picture.specs.Picture.{isDeep, passes, newI, newZ}
 use Rattle.picture.specs.Cell.{Cell, after}
 use Rattle.picture.proofs.Places.{both}
 use Rattle.picture.proofs.Rows.{in-all-planes}
-use Rattle.picture.proofs.Members.{Numbers, Member}
+use Rattle.picture.proofs.Members.{Numbers}
 use Rattle.triangle.specs.Offers.{kindOf as triangleKind}
 use Rattle.triangle.proofs.Members.{triangle-member}
 use Rattle.line.specs.declared.Mode.the-variants.{Two}
 use Rattle.line.specs.declared.Style.{Style}
 use Rattle.line.specs.Segment.{segmentOffers}
-use Rattle.line.proofs.Members.{kindOf, segment-member}
+use Rattle.line.proofs.Members.{segment-member}
 use Rattle.registers.specs.declared.Registers.{Registers}
-use Rattle.registers.specs.declared.word.Word.{Word}
 use Rattle.registers.specs.declared.shape.Completed.{Completed}
 use Rattle.registers.specs.declared.shape.Completed.the-variants.{Nothing, Triangle, Segment}
-use Rattle.registers.specs.Next.{completedBy, penOf}
+use Rattle.registers.specs.Next.{penOf}
 use Rattle.registers.proofs.Forms.{AllVertices}
 use Rattle.chip.specs.Chip.{modeOf, isConstant, styleOf, figureOffers}
 use Rattle.belief.specs.Belief.{isAllOn, isSupposed}
