@@ -36,7 +36,7 @@ use Rattle.registers.specs.Refusal.{isInit, isParm}
 use Rattle.registers.proofs.Truth.{both, chosen}
 use Rattle.registers.proofs.Kept.{parts, reset-kept, after-kept}
 use Rattle.registers.proofs.Refusals.{accepted-when}
-use Rattle.registers.proofs.Forms.{Near, AllNear, completed-near, hcontrol-alone, hcontrol-init}
+use Rattle.registers.proofs.Forms.{AllVertices, Near, completed-near, hcontrol-alone, hcontrol-init}
 use Rattle.machine.specs.Run.{Ran, runFrom, runOf}
 use Rattle.machine.specs.Along.{Along}
 use Rattle.machine.specs.Machine.{Memories, rowsIn, stepOf}
@@ -192,7 +192,7 @@ line-low r h =
     leb-true _ _ (both (leb 256 (r .frame .line)) (leb (r .frame .line) 8768) (k .0) .1)
 
 -- no more than the rows in use have
-figure-counts : (rows : ℕ) (r : Registers) (f : Completed) (p : Picture) → AllNear f → rows ≤ 8192 → r .frame .line ≤ 8768
+figure-counts : (rows : ℕ) (r : Registers) (f : Completed) (p : Picture) → AllVertices Near f → rows ≤ 8192 → r .frame .line ≤ 8768
     → drawn (penOf r) (figureOffers rows r f) p .passed ≤ p .passed + 71827456
 unfolding figureOffers
 figure-counts rows r Nothing p near h k = rw (drawn-nil (penOf r) p) (omega arith)

@@ -19,8 +19,11 @@ abbrev pub wordsOf : List ℕ → List Word
 wordsOf bytes = map wordOf (unpackOf bytes)
 
 -- what is checked before the first word, for an empty stream too: 11, 12, and then 2, the memories differ in length
+abbrev pub flawIn : List ℕ → ℕ → ℕ → ℕ
+flawIn bytes ni nz = checked bytes (cond (eqb ni nz) 0 2)
+
 unfoldable pub flawOf : List ℕ → Memories → ℕ
-flawOf bytes m = checked bytes (cond (eqb (length (m .i)) (length (m .z))) 0 2)
+flawOf bytes m = flawIn bytes (length (m .i)) (length (m .z))
 
 -- a stream runs from reset, word by word until one is refused; refused before the first word, index and sum are 0, the registers
 -- reset's, and the memories untouched

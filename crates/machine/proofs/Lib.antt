@@ -2,3 +2,4 @@ pub mod Runs
 pub mod Steps
 pub mod Kept
 pub mod Touched
+pub mod Offers

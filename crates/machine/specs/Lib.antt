@@ -3,3 +3,4 @@ pub mod Machine
 pub mod Along
 pub mod Touched
 pub mod Promises
+pub mod Offers

@@ -34,7 +34,7 @@ unfolding shown drawn
 shown-left pen kind x y i z p h = rw h
 
 -- all planes store the number whole
-in-all-planes : (old new : ℕ) → new ≤ 65535 → inPlanes 65535 old new ≡ new
+pub in-all-planes : (old new : ℕ) → new ≤ 65535 → inPlanes 65535 old new ≡ new
 unfolding inPlanes
 in-all-planes old new h = rw (and-zero-r old, or-zero-l) (and-mask new 16 ∙ mod-eq-of-lt (omega arith))
 

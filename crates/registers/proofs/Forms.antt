@@ -27,13 +27,13 @@ use Rattle.registers.specs.Subcommand.{subcommandOf, wants}
 use Rattle.registers.specs.Figure.{shapeOf, vertexOf, isPair, paired, grownOf, completes, figureAfter, vertexCompletes}
 use Rattle.registers.specs.Next.{value, awaited, joinedOf, counted, effectOf, parmOf, coordinateOf, coordinateCompletes, after, completedBy, penOf}
 use Rattle.registers.specs.Allowed.{isCoordinate, coordinateAllowed, allowed}
-use Rattle.registers.specs.Bounds.{vertexFits, figureFits}
+use Rattle.registers.specs.Bounds.{vertexFits}
 use Rattle.registers.specs.Refusal.{isInit, isParm, isAbove, refusalOf, next}
 use Rattle.registers.proofs.Truth.{both, chosen}
 use Rattle.registers.proofs.Table.{everywhere}
 use Rattle.registers.proofs.Parking.{parm-more, parm-last}
 use Rattle.registers.proofs.Refusals.{accepted-when}
-use Rattle.registers.proofs.Kept.{Sound, parts, vertices, vertex-fits}
+use Rattle.registers.proofs.Kept.{parts, vertices, vertex-fits}
 
 -- ---- parameters are parked until the last has come
 
@@ -263,56 +263,64 @@ hcontrol-init r d = refl
 
 -- ---- what is drawn
 
+-- all vertices of a completed figure are such
+abbrev pub AllVertices : (Vertex → Type 0) → Completed → Type 0
+AllVertices P None = Unit {0}
+AllVertices P (Triangle a b c) = P a × P b × P c
+AllVertices P (Segment a b) = P a × P b
+
+module _ (P : Vertex → Type 0) (r : Registers) (first : P (r .figure .first)) (second : P (r .figure .second)) where
+  triangle-has : (v : Vertex) → P v → AllVertices P (cond (isPair (r .figure)) (Triangle (r .figure .first) (r .figure .second) v) None)
+  triangle-has v h = chosen (AllVertices P) (isPair (r .figure)) _ _ (λ t. (first, second, h)) (λ t. tt)
+
+  completes-has : (shape : Shape) (inv : Bool) (v : Vertex) → P v → AllVertices P (completes shape inv (r .figure) v)
+  unfolding completes
+  completes-has Closed inv v h = tt
+  completes-has Strip inv v h = triangle-has v h
+  completes-has Fan inv v h = triangle-has v h
+  completes-has Line inv v h = chosen (AllVertices P) inv _ _ (λ t. tt) (λ t. (first, h))
+
+  module _ (new : (n : ℕ) → isCoordinate n ≡ true → P (vertexOf r n)) where
+    vertex-has : (n : ℕ) → isCoordinate n ≡ true → AllVertices P (vertexCompletes r n)
+    vertex-has n h = completes-has (shapeOf (r .figure .shape)) _ (vertexOf r n) (new n h)
+
+    coordinate-has : (c : Coordinate) (n : ℕ) → coordinateAllowed c n ≡ true → AllVertices P (coordinateCompletes r c n)
+    unfolding coordinateCompletes
+    coordinate-has I n h = tt
+    coordinate-has Z n h = tt
+    coordinate-has Y n h = tt
+    coordinate-has X n h = vertex-has n h
+    coordinate-has T1x n h = tt
+    coordinate-has T2x n h = tt
+    coordinate-has Lx n h = tt
+    coordinate-has Px n h = vertex-has n h
+
+    word-has : (w : Word) → allowed r w ≡ true → AllVertices P (completedBy r w)
+    unfolding completedBy
+    word-has (Init d) h = tt
+    word-has (Aux n) h = tt
+    word-has (Parm v) h = tt
+    word-has (At c n) h = coordinate-has c n h
+    word-has Reserved h = tt
+    word-has Unmodelled h = tt
+    word-has Unknown h = tt
+
+    -- what the open figure's vertices have, and each that an allowed x makes, the vertices have of what an accepted word completes
+    pub completed-has : (ni nz : ℕ) (w : Word) → refusalOf ni nz r w ≡ 0 → AllVertices P (completedBy r w)
+    completed-has ni nz w e = word-has w (accepted-when ni nz r w .0 e .valued)
+
 -- a vertex whose coordinates are at most 8191
 pub record Near (v : Vertex) : Type 0 where
   pub across : v .x ≤ 8191
   pub up : v .y ≤ 8191
 
--- all vertices of a completed figure are such
-abbrev pub AllNear : Completed → Type 0
-AllNear None = Unit {0}
-AllNear (Triangle a b c) = Near a × Near b × Near c
-AllNear (Segment a b) = Near a × Near b
-
 near : (v : Vertex) → vertexFits v ≡ true → Near v
 unfolding vertexFits
 near v h = let q = both (isCoordinate (v .x)) (isCoordinate (v .y)) h in record { across = leb-true _ _ (q .0); up = leb-true _ _ (q .1) }
 
-triangle-near : (f : Figure) (v : Vertex) → figureFits f ≡ true → vertexFits v ≡ true → AllNear (cond (isPair f) (Triangle (f .first) (f .second) v) None)
-triangle-near f v h k = let q = vertices f h in chosen AllNear (isPair f) _ _ (λ t. (near (f .first) (q .0), near (f .second) (q .1), near v k)) (λ t. tt)
-
-completes-near : (shape : Shape) (inv : Bool) (f : Figure) (v : Vertex) → figureFits f ≡ true → vertexFits v ≡ true → AllNear (completes shape inv f v)
-unfolding completes
-completes-near Closed inv f v h k = tt
-completes-near Strip inv f v h k = triangle-near f v h k
-completes-near Fan inv f v h k = triangle-near f v h k
-completes-near Line inv f v h k = chosen AllNear inv _ _ (λ t. tt) (λ t. (near (f .first) (vertices f h .0), near v k))
-
-module _ (r : Registers) (s : Sound r) where
-  vertex-near : (n : ℕ) → isCoordinate n ≡ true → AllNear (vertexCompletes r n)
-  vertex-near n h = completes-near (shapeOf (r .figure .shape)) _ (r .figure) (vertexOf r n) (s .figure) (vertex-fits r s n h)
-
-  coordinate-near : (c : Coordinate) (n : ℕ) → coordinateAllowed c n ≡ true → AllNear (coordinateCompletes r c n)
-  unfolding coordinateCompletes
-  coordinate-near I n h = tt
-  coordinate-near Z n h = tt
-  coordinate-near Y n h = tt
-  coordinate-near X n h = vertex-near n h
-  coordinate-near T1x n h = tt
-  coordinate-near T2x n h = tt
-  coordinate-near Lx n h = tt
-  coordinate-near Px n h = vertex-near n h
-
-  word-near : (w : Word) → allowed r w ≡ true → AllNear (completedBy r w)
-  unfolding completedBy
-  word-near (Init d) h = tt
-  word-near (Aux n) h = tt
-  word-near (Parm v) h = tt
-  word-near (At c n) h = coordinate-near c n h
-  word-near Reserved h = tt
-  word-near Unmodelled h = tt
-  word-near Unknown h = tt
-
 -- the vertices of what an accepted word completes have coordinates of at most 8191
-pub completed-near : (ni nz : ℕ) (r : Registers) (w : Word) → refusalOf ni nz r w ≡ 0 → AllNear (completedBy r w)
-completed-near ni nz r w e = let a = accepted-when ni nz r w .0 e in word-near r (parts r (a .sound)) w (a .valued)
+pub completed-near : (ni nz : ℕ) (r : Registers) (w : Word) → refusalOf ni nz r w ≡ 0 → AllVertices Near (completedBy r w)
+completed-near ni nz r w e =
+    let s = parts r (accepted-when ni nz r w .0 e .sound) in
+    let q = vertices (r .figure) (s .figure) in
+    completed-has Near r (near (r .figure .first) (q .0)) (near (r .figure .second) (q .1)) (λ n h. near (vertexOf r n) (vertex-fits r s n h)) ni nz w e

@@ -1,0 +1,79 @@
+-- The order's demand 3: what an operator believes of the picture. What words leave at a place is what the offers made there leave of the two
+-- numbers that stood there; each of them lands, by what is supposed; and offers that land leave the least depth. Assumes nothing.
+use mathlib.Core.Path.{_≡_, sym, ap, _∙_, subst}
+use mathlib.Core.List.{List, [], _∷_, map, List·Memᴰ, List·Memᴰ·not-nil}
+use Prim.Native.Nat.{ℕ}
+use lib.Dec.{eqb}
+use lib.ListN.{length}
+use borrow.Author.Tests.{eq-eqb, ne-eqb}
+use Rattle.stream.specs.Format.{unpackOf}
+use Rattle.registers.specs.declared.Registers.{Registers}
+use Rattle.registers.specs.declared.word.Word.{Word}
+use Rattle.registers.specs.Record.{resetOf}
+use Rattle.registers.specs.Word.{wordOf}
+use Rattle.registers.specs.Next.{completedBy}
+use Rattle.registers.proofs.Truth.{chosen}
+use Rattle.machine.specs.Run.{Outcome, Ran}
+use Rattle.machine.specs.Machine.{Memories, memories, stepOf}
+use Rattle.machine.specs.Touched.{cellIn}
+use Rattle.machine.specs.Offers.{allOf}
+use Rattle.machine.proofs.Runs.{zero-or-not}
+use Rattle.machine.proofs.Offers.{all-cell, run-taken, taken-member, cells-as}
+use Rattle.chip.specs.Chip.{chip}
+use Rattle.chip.specs.Stream.{wordsOf, flawIn, flawOf, running}
+use Rattle.chip.specs.Demands.{Ended}
+use Rattle.chip.proofs.Laws.{inside}
+use Rattle.belief.specs.Belief.{wordsTaken, offersOf, isSupposed, Believed, Believable, AfterCalls, Demand3}
+use Rattle.belief.proofs.Numbers.{Narrow, words-narrow, Small, reset-small, after-small, completed-small}
+use Rattle.belief.proofs.Ends.{lands, lands-believed}
+use Rattle.belief.proofs.Lands.{supposed-lands}
+
+-- all of some words whose data have 16 bits
+words-believed : (ws : List Word) (m : Memories) → ((w : Word) → List·Memᴰ w ws → Narrow w) → Believable ws m (allOf (stepOf chip) resetOf ws m .memories)
+words-believed ws m narrow suppose at =
+    lands-believed _ (cellIn m at) _
+    (all-cell chip inside at ws resetOf m
+    ∙ cells-as chip (length (m .i)) (length (m .z)) at lands Small Narrow (λ r w. isSupposed r (completedBy r w)) (λ r w s h. after-small r s w h)
+    (λ r w s e on. supposed-lands _ r (completedBy r w) (completed-small (length (m .i)) (length (m .z)) r w s e) on)
+    ws resetOf (cellIn m at) reset-small narrow suppose)
+
+-- a packed stream leaves what all of the words that it takes leave
+stream-leaves : (bytes : List ℕ) (m : Memories) → running bytes m .memories ≡ allOf (stepOf chip) resetOf (wordsTaken (length (m .i)) (length (m .z)) bytes) m .memories
+unfolding running flawOf wordsTaken
+stream-leaves bytes m =
+    zero-or-not (flawIn bytes (length (m .i)) (length (m .z)))
+    (λ none. rw (eq-eqb _ _ none) (run-taken chip (wordsOf bytes) 0 0 resetOf m))
+    (λ some. rw (ne-eqb _ _ some))
+
+taken-narrow : (ni nz : ℕ) (bytes : List ℕ) (w : Word) → List·Memᴰ w (wordsTaken ni nz bytes) → Narrow w
+unfolding wordsTaken
+taken-narrow ni nz bytes w =
+    chosen (λ (ws : List Word). List·Memᴰ w ws → Narrow w) (eqb (flawIn bytes ni nz) 0) _ _
+    (λ t u. words-narrow (unpackOf bytes) w (taken-member chip ni nz (wordsOf bytes) resetOf w u)) (λ t u. absurd (List·Memᴰ·not-nil u))
+
+streams-believed : (bytes i z : List ℕ) (o : Ended bytes i z) → Believable (wordsTaken (length i) (length z) bytes) (memories i z) (memories (o .i-left) (o .z-left))
+streams-believed bytes i z o suppose at =
+    let left = ap (λ (a : Ran Registers Memories). a .memories) (o .promise) ∙ stream-leaves bytes (memories i z) in
+    subst (λ (m : Memories). Believed (cellIn (memories i z) at) (offersOf (length i) (length z) (wordsTaken (length i) (length z) bytes) at) (cellIn m at)) (sym left)
+    (words-believed (wordsTaken (length i) (length z) bytes) (memories i z) (taken-narrow (length i) (length z) bytes) suppose at)
+
+-- calls of `step`, one after the other, leave what all of their words leave
+calls-leave : (So : Memories → Type 0) (numbers : List ℕ) (r : Registers) (m : Memories) → So (allOf (stepOf chip) r (map wordOf numbers) m .memories)
+    → AfterCalls So r numbers m
+unfolding wordOf
+calls-leave So [] r m so = so
+calls-leave So (n ∷ numbers) r m so = λ o.
+    calls-leave So numbers (o .registers) (memories (o .i-left) (o .z-left))
+    (subst (λ (a : Outcome Registers Memories). So (allOf (stepOf chip) (a .registers) (map wordOf numbers) (a .memories) .memories)) (sym (o .promise)) so)
+
+numbers-believed : (numbers : List ℕ) (m : Memories) → Believable (map wordOf numbers) m (allOf (stepOf chip) resetOf (map wordOf numbers) m .memories)
+numbers-believed numbers m = words-believed (map wordOf numbers) m (words-narrow numbers)
+
+-- each place has the least of its starting depth and all depths offered there, with the intensity that goes with it
+pub demand-3 : Demand3
+demand-3 =
+    record {
+      words = numbers-believed;
+      calls = λ numbers m. calls-leave (Believable (map wordOf numbers) m) numbers resetOf m (numbers-believed numbers m);
+      streams = streams-believed;
+    }

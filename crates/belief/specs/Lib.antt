@@ -1,0 +1,2 @@
+pub mod Belief
+pub mod Worked

@@ -1,0 +1,47 @@
+-- A run that is such as demand 3 supposes, over 512 places. It draws two faces that overlap and a mode 2 line across both, with a refused word
+-- among its words, and goes on with another line length.
+use mathlib.Core.Path.{_≡_}
+use mathlib.Core.Bool.{true}
+use mathlib.Core.List.{List, [], _∷_, map}
+use Prim.Native.Nat.{ℕ}
+use lib.ListN.{replicate}
+use Rattle.picture.specs.declared.Kind.the-variants.{Gouraud, Line2}
+use Rattle.picture.specs.Offer.{Offer, offer}
+use Rattle.picture.specs.Cell.{cell}
+use Rattle.registers.specs.Record.{resetOf}
+use Rattle.registers.specs.Word.{wordOf}
+use Rattle.machine.specs.Machine.{Memories, memories, stepOf}
+use Rattle.machine.specs.Touched.{cellIn}
+use Rattle.machine.specs.Offers.{allOf}
+use Rattle.chip.specs.Chip.{chip}
+use Rattle.belief.specs.Belief.{offersOf, supposed}
+
+-- the words, each told by its number
+unfoldable pub scene : List ℕ
+scene =
+    0xF0000 ∷ 0xE0004 ∷ 0xD0006 ∷ 0xE0003 ∷ 0xD0040 ∷ 0xE0001 ∷ 0xD0002  -- INIT; both write enables, depth test, line mode 2
+    ∷ 0x100C8 ∷ 0x2000A ∷ 0x30000 ∷ 0x50001 ∷ 0x40005 ∷ 0x30002 ∷ 0x40001  -- a near face, I 200 and Z 10: (1, 0) (5, 0) (1, 2)
+    ∷ 0x70000  -- refused with 4
+    ∷ 0x10064 ∷ 0x20014 ∷ 0x30000 ∷ 0x50000 ∷ 0x40004 ∷ 0x30002 ∷ 0x40000  -- a far face, I 100 and Z 20: (0, 0) (4, 0) (0, 2)
+    ∷ 0x1012C ∷ 0x20005 ∷ 0x30000 ∷ 0x80002 ∷ 0xE000C ∷ 0xD0000 ∷ 0x40003  -- a line before both, I 300 and Z 5: (2, 0) to (3, 0)
+    ∷ 0xF0100 ∷ 0xE0004 ∷ 0xD0006 ∷ 0xE0003 ∷ 0xD0040 ∷ 0xE0001 ∷ 0xD0002  -- INIT to a line length of 320
+    ∷ 0x10190 ∷ 0x2000F ∷ 0x80100 ∷ 0xE000C ∷ 0xD0000 ∷ 0x40100  -- a line of one pixel, I 400 and Z 15: (256, 0)
+    ∷ []
+
+-- nothing is drawn yet, and all is far
+unfoldable pub blank : Memories
+blank = memories (replicate 512 0) (replicate 512 65535)
+
+-- what the run offers at a place, and how the place ends
+pub record Owned (at : ℕ) (os : List Offer) (i z : ℕ) : Type 0 where
+  pub offers : offersOf 512 512 (map wordOf scene) at ≡ os
+  pub ends : cellIn (allOf (stepOf chip) resetOf (map wordOf scene) blank .memories) at ≡ cell i z
+
+pub record Worked : Type 0 where
+  pub meets : supposed 512 512 (map wordOf scene) ≡ true
+  -- each of the three owns a place
+  pub far-face : Owned 0 (offer Gouraud 0 0 100 20 ∷ []) 100 20
+  pub near-face : Owned 1 (offer Gouraud 1 0 200 10 ∷ offer Gouraud 1 0 100 20 ∷ []) 200 10
+  pub line : Owned 2 (offer Gouraud 2 0 200 10 ∷ offer Gouraud 2 0 100 20 ∷ offer Line2 2 0 300 5 ∷ []) 300 5
+  -- (0, 1) was at the place where (256, 0) is now
+  pub after-init : Owned 256 (offer Gouraud 0 1 100 20 ∷ offer Line2 256 0 400 15 ∷ []) 400 15
