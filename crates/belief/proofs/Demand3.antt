@@ -1,8 +1,9 @@
 -- The order's demand 3: what an operator believes of the picture. What words leave at a place is what the offers made there leave of the two
 -- numbers that stood there; each of them lands, by what is supposed; and offers that land leave the least depth. Assumes nothing.
-use mathlib.Core.Path.{_≡_, sym, ap, _∙_, subst}
+use mathlib.Core.Path.{_≡_, refl, sym, ap, _∙_, subst}
 use mathlib.Core.List.{List, [], _∷_, map, List·Memᴰ, List·Memᴰ·not-nil}
 use Prim.Native.Nat.{ℕ}
+use native.Mathlib.Nat.{zero-add}
 use lib.Dec.{eqb}
 use lib.ListN.{length}
 use borrow.Author.Tests.{eq-eqb, ne-eqb}
@@ -16,9 +17,9 @@ use Rattle.registers.proofs.Truth.{chosen}
 use Rattle.machine.specs.Run.{Outcome, Ran}
 use Rattle.machine.specs.Machine.{Memories, memories, stepOf}
 use Rattle.machine.specs.Touched.{cellIn}
-use Rattle.machine.specs.Offers.{allOf}
+use Rattle.machine.specs.Offers.{State, allOf}
 use Rattle.machine.proofs.Runs.{zero-or-not}
-use Rattle.machine.proofs.Offers.{all-cell, run-taken, taken-member, cells-as}
+use Rattle.machine.proofs.Offers.{all-cell, Took, run-taken, taken-member, cells-as}
 use Rattle.chip.specs.Chip.{chip}
 use Rattle.chip.specs.Stream.{wordsOf, flawIn, flawOf, running}
 use Rattle.chip.specs.Demands.{Ended}
@@ -37,13 +38,13 @@ words-believed ws m narrow suppose at =
     (λ r w s e on. supposed-lands _ r (completedBy r w) (completed-small (length (m .i)) (length (m .z)) r w s e) on)
     ws resetOf (cellIn m at) reset-small narrow suppose)
 
--- a packed stream leaves what all of the words that it takes leave
-stream-leaves : (bytes : List ℕ) (m : Memories) → running bytes m .memories ≡ allOf (stepOf chip) resetOf (wordsTaken (length (m .i)) (length (m .z)) bytes) m .memories
+-- a packed stream takes as many words as its index tells, and leaves what all of them leave
+stream-took : (bytes : List ℕ) (m : Memories) → Took chip (wordsTaken (length (m .i)) (length (m .z)) bytes) 0 resetOf m (running bytes m)
 unfolding running flawOf wordsTaken
-stream-leaves bytes m =
+stream-took bytes m =
     zero-or-not (flawIn bytes (length (m .i)) (length (m .z)))
     (λ none. rw (eq-eqb _ _ none) (run-taken chip (wordsOf bytes) 0 0 resetOf m))
-    (λ some. rw (ne-eqb _ _ some))
+    (λ some. rw (ne-eqb _ _ some) (record { index = refl; left = refl }))
 
 taken-narrow : (ni nz : ℕ) (bytes : List ℕ) (w : Word) → List·Memᴰ w (wordsTaken ni nz bytes) → Narrow w
 unfolding wordsTaken
@@ -53,9 +54,13 @@ taken-narrow ni nz bytes w =
 
 streams-believed : (bytes i z : List ℕ) (o : Ended bytes i z) → Believable (wordsTaken (length i) (length z) bytes) (memories i z) (memories (o .i-left) (o .z-left))
 streams-believed bytes i z o suppose at =
-    let left = ap (λ (a : Ran Registers Memories). a .memories) (o .promise) ∙ stream-leaves bytes (memories i z) in
+    let left = ap (λ (a : Ran Registers Memories). a .memories) (o .promise) ∙ ap (λ (a : State Registers Memories). a .memories) (stream-took bytes (memories i z) .left) in
     subst (λ (m : Memories). Believed (cellIn (memories i z) at) (offersOf (length i) (length z) (wordsTaken (length i) (length z) bytes) at) (cellIn m at)) (sym left)
     (words-believed (wordsTaken (length i) (length z) bytes) (memories i z) (taken-narrow (length i) (length z) bytes) suppose at)
+
+-- the words that a packed stream takes are as many as each outcome tells
+pub taken-told : (bytes i z : List ℕ) (o : Ended bytes i z) → o .index ≡ length (wordsTaken (length i) (length z) bytes)
+taken-told bytes i z o = ap (λ (a : Ran Registers Memories). a .index) (o .promise) ∙ stream-took bytes (memories i z) .index ∙ zero-add _
 
 -- calls of `step`, one after the other, leave what all of their words leave
 calls-leave : (So : Memories → Type 0) (numbers : List ℕ) (r : Registers) (m : Memories) → So (allOf (stepOf chip) r (map wordOf numbers) m .memories)

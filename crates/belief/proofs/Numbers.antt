@@ -77,6 +77,7 @@ settings-small : (started : ℕ) (frame : Frame) → Small (settings started fra
 unfolding settings
 settings-small started frame = record { i = zero-le; z = zero-le; figure = record { first = no-numbers; second = no-numbers } }
 
+-- so they are small after reset
 pub reset-small : Small resetOf
 reset-small = settings-small 0 (frameOf 256)
 

@@ -36,30 +36,33 @@ pub record First (depth : ℕ) (os : List Offer) : Type 0 where
   pub none : (o : Offer) → List·Memᴰ o before → o .z ≢ depth
   pub gives : earliest depth os ≡ offer .i
 
+-- an offer with another depth does not come before it
+first-later : (depth : ℕ) (o : Offer) (os : List Offer) → o .z ≢ depth → First depth os → First depth (o ∷ os)
+unfolding earliest
+first-later depth o os other f =
+    record {
+      before = o ∷ f .before;
+      offer = f .offer;
+      rest = f .rest;
+      among = ap (λ (us : List Offer). o ∷ us) (f .among);
+      has = f .has;
+      none = λ p u. ⊎-elim (λ same e. other (ap (λ (q : Offer). q .z) (sym same) ∙ e)) (λ v. f .none p v) (List·Memᴰ·cases-cons u);
+      gives = rw (ne-eqb (o .z) depth other) (f .gives);
+    }
+
 -- a least depth below the starting depth is an offer's
 pub least-offered : (z : ℕ) (os : List Offer) → least z os < z → First (least z os) os
 unfolding least earliest
 least-offered z [] h = absurd (omega (arith, h))
-least-offered z (o ∷ os) h = go (ℕ-discrete (o .z) (least (min z (o .z)) os)) (least-offered (min z (o .z)) os)
+least-offered z (o ∷ os) h = go (ℕ-discrete (o .z) d) (least-offered (min z (o .z)) os)
   where
     d : ℕ
     d = least (min z (o .z)) os
 
     go : Dec (o .z ≡ d) → (d < min z (o .z) → First d os) → First d (o ∷ os)
-    go (yes e) later =
+    go (yes e) rest =
         record { before = []; offer = o; rest = os; among = refl; has = e; none = λ p u. absurd (List·Memᴰ·not-nil u); gives = rw (eq-eqb (o .z) d e) }
-    go (no e) later =
-        let low = least-low (min z (o .z)) os in
-        let f = later (omega (arith, h, low, e)) in
-        record {
-          before = o ∷ f .before;
-          offer = f .offer;
-          rest = f .rest;
-          among = ap (λ (us : List Offer). o ∷ us) (f .among);
-          has = f .has;
-          none = λ p u. ⊎-elim (λ s q. e (ap (λ (x : Offer). x .z) (sym s) ∙ q)) (λ v. f .none p v) (List·Memᴰ·cases-cons u);
-          gives = rw (ne-eqb (o .z) d e) (f .gives);
-        }
+    go (no e) rest = let low = least-low (min z (o .z)) os in first-later d o os e (rest (omega (arith, h, low, e)))
 
 -- the intensity, told by whether the depth is below the starting depth
 module _ (depth : ℕ) (start : Cell) (os : List Offer) where

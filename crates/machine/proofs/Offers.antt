@@ -5,6 +5,7 @@ use mathlib.Core.Logic.{_≢_, ⊎-elim}
 use mathlib.Core.Bool.{Bool, true, false, cond}
 use mathlib.Core.List.{List, [], _∷_, foldl, foldl-append, List·Memᴰ, List·Memᴰ·head, List·Memᴰ·tail, List·Memᴰ·cases-cons, List·Memᴰ·not-nil}
 use Prim.Native.Nat.{ℕ, _+_, _%_, _^_, _<_}
+use native.Mathlib.Omega.{arith}
 use lib.Dec.{eqb}
 use lib.ListN.{length}
 use borrow.Author.Tests.{eq-eqb, ne-eqb}
@@ -18,7 +19,7 @@ use Rattle.machine.specs.Run.{Ran, ran, runFrom}
 use Rattle.machine.specs.Machine.{Machine, Memories, rowsIn, numberOf, stepOf}
 use Rattle.machine.specs.Touched.{cellIn}
 use Rattle.machine.specs.Promises.{Inside}
-use Rattle.machine.specs.Offers.{allOf, nextIn, offersIn, offersThere, registersIn, offersAt, cellAfter, takenOf, eachIn}
+use Rattle.machine.specs.Offers.{state, allOf, nextIn, offersIn, offersThere, registersIn, offersAt, cellAfter, takenOf, eachIn}
 use Rattle.machine.proofs.Runs.{zero-or-not, stays, advance-accepted, advance-refused}
 use Rattle.machine.proofs.Steps.{step-either, step-number}
 use Rattle.machine.proofs.Kept.{step-length-i, step-length-z}
@@ -107,26 +108,34 @@ module _ (M : Machine) where
       ∙ ap₂ (λ (a b : ℕ). cellAfter M a b at (o .registers) ws (cellIn (o .memories) at)) (step-length-i M r w m) (step-length-z M r w m)
       ∙ ap₂ (λ (q : M .Registers) (c : Cell). cellAfter M (length (m .i)) (length (m .z)) at q ws c) (step-registers M r w m) (step-cell M r w m inside at)
 
-  -- a run that stops leaves what all of the words before the first refused one leave
+  -- a run has taken some words more, and leaves what all of them leave
+  pub record Took (vs : List (M .Word)) (k : ℕ) (r : M .Registers) (m : Memories) (b : Ran (M .Registers) Memories) : Type 0 where
+    pub index : b .index ≡ k + length vs
+    pub left : state (b .registers) (b .memories) ≡ allOf (stepOf M) r vs m
+
+  -- a run that stops took the words before the first refused one
   pub run-taken : (ws : List (M .Word)) (k s : ℕ) (r : M .Registers) (m : Memories)
-      → runFrom (stepOf M) (ran 0 k s r m) ws .memories ≡ allOf (stepOf M) r (takenOf M (length (m .i)) (length (m .z)) r ws) m .memories
+      → Took (takenOf M (length (m .i)) (length (m .z)) r ws) k r m (runFrom (stepOf M) (ran 0 k s r m) ws)
   unfolding takenOf
-  run-taken [] k s r m = refl
+  run-taken [] k s r m = record { index = omega arith; left = refl }
   run-taken (w ∷ ws) k s r m =
       let o = stepOf M r w m in
+      let number = step-number M r w m in
       zero-or-not (numberOf M r w m)
       (λ e.
-      rw (eq-eqb _ _ e)
-      (ap (λ (b : Ran (M .Registers) Memories). runFrom (stepOf M) b ws .memories) (advance-accepted (stepOf M) (ran 0 k s r m) w refl (step-number M r w m ∙ e))
-      ∙ run-taken ws (k + 1) ((s + o .passed) % 2 ^ 64) (o .registers) (o .memories)
-      ∙ ap₂ (λ (a b : ℕ). allOf (stepOf M) (o .registers) (takenOf M a b (o .registers) ws) (o .memories) .memories) (step-length-i M r w m) (step-length-z M r w m)
-      ∙ ap (λ (q : M .Registers). allOf (stepOf M) (o .registers) (takenOf M (length (m .i)) (length (m .z)) q ws) (o .memories) .memories)
-      (step-registers M r w m ∙ next-accepted M _ _ r w e)))
+      let same : takenOf M (length (o .memories .i)) (length (o .memories .z)) (o .registers) ws ≡ takenOf M (length (m .i)) (length (m .z)) (M .next r w) ws =
+      ap₂ (λ (a b : ℕ). takenOf M a b (o .registers) ws) (step-length-i M r w m) (step-length-z M r w m)
+      ∙ ap (λ (q : M .Registers). takenOf M (length (m .i)) (length (m .z)) q ws) (step-registers M r w m ∙ next-accepted M _ _ r w e) in
+      let rest = run-taken ws (k + 1) ((s + o .passed) % 2 ^ 64) (o .registers) (o .memories) in
+      rw (eq-eqb _ _ e, advance-accepted (stepOf M) (ran 0 k s r m) w refl (number ∙ e))
+      (record {
+        index = omega (arith, rest .index, ap length same);
+        left = rest .left ∙ ap (λ (vs : List (M .Word)). allOf (stepOf M) (o .registers) vs (o .memories)) same;
+      }))
       (λ e.
-      rw (ne-eqb _ _ e)
-      (ap (λ (b : Ran (M .Registers) Memories). runFrom (stepOf M) b ws .memories)
-      (advance-refused (stepOf M) (ran 0 k s r m) w refl (λ none. e (sym (step-number M r w m) ∙ none)))
-      ∙ ap (λ (b : Ran (M .Registers) Memories). b .memories) (stays (stepOf M) ws _ (λ none. e (sym (step-number M r w m) ∙ none)))))
+      let stops : o .refusal ≢ 0 = λ none. e (sym number ∙ none) in
+      rw (ne-eqb _ _ e, advance-refused (stepOf M) (ran 0 k s r m) w refl stops, stays (stepOf M) ws (ran (o .refusal) k s r m) stops)
+      (record { index = omega arith; left = refl }))
 
   -- the words before the first refused one are among the words
   pub taken-member : (ni nz : ℕ) (ws : List (M .Word)) (r : M .Registers) (v : M .Word) → List·Memᴰ v (takenOf M ni nz r ws) → List·Memᴰ v ws
