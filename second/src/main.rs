@@ -15,6 +15,7 @@ mod program;
 mod random;
 mod registers;
 mod run;
+mod seeds;
 mod shares;
 mod stream;
 mod vectors;
@@ -22,7 +23,7 @@ mod vectors;
 use std::io::{self, Read, Write};
 use std::process::ExitCode;
 
-const USAGE: &str = "usage: second draw | pack | unpack | generate SEED | vectors DIR | shares FIRST COUNT";
+const USAGE: &str = "usage: second draw | pack | unpack | generate SEED | seeds FIRST COUNT DIR | vectors DIR | shares FIRST COUNT";
 
 fn main() -> ExitCode {
     let arguments: Vec<String> = std::env::args().skip(1).collect();
@@ -42,6 +43,7 @@ fn dispatch(arguments: &[&str]) -> Result<(), String> {
         ["pack"] => write_out(&hexwords::pack_text(&read_all()?)?),
         ["unpack"] => write_out(hexwords::unpack_text(&read_all()?)?.as_bytes()),
         ["generate", seed] => write_out(&generator::generate(number(seed)?)),
+        ["seeds", first, count, directory] => seeds::write(number(first)?, number(count)?, directory),
         ["vectors", directory] => vectors::write(directory),
         ["shares", first, count] => print_shares(number(first)?, number(count)?),
         _ => Err(USAGE.to_string()),

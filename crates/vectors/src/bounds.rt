@@ -1,0 +1,131 @@
+// Records that break one bound each (docs/REGISTERS.md), from one that is ready to draw: the word that would draw is refused.
+use crate::record::ready;
+use crate::word::row;
+use registers::Parked;
+use registers::Registers;
+
+// A word that would draw, from a record that breaks a bound.
+fn broken(name: &[u8], r: Registers) {
+    row(name, r, 4, 8);
+}
+
+// Started, and the line length: too short, too long, no multiple of 64.
+fn frame() {
+    let mut a = ready();
+    a.started = 2;
+    broken(b"bounds, started 2", a);
+    let mut b = ready();
+    b.frame.line = 192;
+    broken(b"bounds, line length 192", b);
+    let mut c = ready();
+    c.frame.line = 8832;
+    broken(b"bounds, line length 8832", c);
+    let mut d = ready();
+    d.frame.line = 257;
+    broken(b"bounds, line length 257", d);
+}
+
+// The words of the modes.
+fn modes() {
+    let mut a = ready();
+    a.modes.pmode = 2;
+    broken(b"bounds, PMODE 2", a);
+    let mut b = ready();
+    b.modes.lmode = 3;
+    broken(b"bounds, LMODE 3", b);
+    let mut c = ready();
+    c.modes.zcontrol = 0x0041;
+    broken(b"bounds, ZCONTROL 0041 hex", c);
+    let mut d = ready();
+    d.modes.hcontrol = 0x0007;
+    broken(b"bounds, HCONTROL 0007 hex", d);
+    let mut e = ready();
+    e.modes.lstatus = 0x0001;
+    broken(b"bounds, LSTATUS 0001 hex", e);
+}
+
+// The window's borders.
+fn window() {
+    let mut a = ready();
+    a.window.left = 8193;
+    broken(b"bounds, left 8193", a);
+    let mut b = ready();
+    b.window.top = 8193;
+    broken(b"bounds, top 8193", b);
+    let mut c = ready();
+    c.window.right = 8193;
+    broken(b"bounds, right 8193", c);
+    let mut d = ready();
+    d.window.bottom = 8193;
+    broken(b"bounds, bottom 8193", d);
+}
+
+// The Y register, and the open figure.
+fn figure() {
+    let mut a = ready();
+    a.latch.y = 8192;
+    broken(b"bounds, Y 8192", a);
+    let mut b = ready();
+    b.figure.shape = 4;
+    broken(b"bounds, shape 4", b);
+    let mut c = ready();
+    c.figure.pair = 2;
+    broken(b"bounds, pair 2", c);
+    let mut d = ready();
+    d.figure.first.x = 8192;
+    broken(b"bounds, first x 8192", d);
+    let mut e = ready();
+    e.figure.first.y = 8192;
+    broken(b"bounds, first y 8192", e);
+    let mut f = ready();
+    f.figure.second.x = 8192;
+    broken(b"bounds, second x 8192", f);
+    let mut g = ready();
+    g.figure.second.y = 8192;
+    broken(b"bounds, second y 8192", g);
+}
+
+// What is awaited: AUX numbers that take no parameters, and as many come as they take.
+fn parked() {
+    awaited(b"bounds, AUX 2 awaited", 2, 0);
+    awaited(b"bounds, AUX 7 awaited", 7, 0);
+    awaited(b"bounds, AUX 11 awaited", 11, 0);
+    awaited(b"bounds, AUX 14 awaited", 14, 0);
+    awaited(b"bounds, none awaited and 1 come", 13, 1);
+    awaited(b"bounds, LMODE awaited and 1 come", 1, 1);
+    awaited(b"bounds, COLOR awaited and 2 come", 8, 2);
+    awaited(b"bounds, WINDOW awaited and 5 come", 6, 5);
+}
+
+// A record that awaits parameters of an AUX number, of which some have come.
+fn awaited(name: &[u8], subcommand: u16, came: u16) {
+    let mut r = ready();
+    r.parked.subcommand = subcommand;
+    r.parked.came = came;
+    broken(name, r);
+}
+
+// A record that awaits parameters of WINDOW, with these parked.
+fn borders(name: &[u8], values: [u16; 5]) {
+    let mut r = ready();
+    let parked = Parked {
+        subcommand: 6,
+        came: 0,
+        values: values,
+    };
+    r.parked = parked;
+    broken(name, r);
+}
+
+// All bounds, one by one.
+pub(crate) fn rows() {
+    frame();
+    modes();
+    window();
+    figure();
+    parked();
+    borders(b"bounds, parked left 8193", [8193, 0, 0, 0, 0]);
+    borders(b"bounds, parked top 8193", [0, 8193, 0, 0, 0]);
+    borders(b"bounds, parked right 8193", [0, 0, 8193, 0, 0]);
+    borders(b"bounds, parked bottom 8193", [0, 0, 0, 8193, 0]);
+}

@@ -1,0 +1,75 @@
+// A record that is ready to draw, and whether two records are the same.
+use registers::Registers;
+
+// Reset's record with a line open at (0, 0), visible and in mode 2, and both enables: X draws, and stores I and Z.
+pub(crate) fn ready() -> Registers {
+    let mut r = Registers::reset();
+    r.started = 1;
+    r.modes.lmode = 2;
+    r.modes.hcontrol = 6;
+    r.modes.lstatus = 0;
+    r.figure.shape = 3;
+    r
+}
+
+// A record's numbers, in the order of docs/REGISTERS.md.
+fn numbers(r: Registers) -> [u16; 37] {
+    let modes = r.modes;
+    let window = r.window;
+    let dash = r.dash;
+    let figure = r.figure;
+    let first = figure.first;
+    let second = figure.second;
+    let values = r.parked.values;
+    [
+        r.started,
+        r.frame.line,
+        modes.pmode,
+        modes.lmode,
+        modes.zcontrol,
+        modes.hcontrol,
+        modes.lstatus,
+        modes.transparency,
+        modes.planes,
+        window.left,
+        window.top,
+        window.right,
+        window.bottom,
+        dash.foreground,
+        dash.background,
+        dash.high,
+        dash.low,
+        r.latch.i,
+        r.latch.z,
+        r.latch.y,
+        figure.shape,
+        figure.pair,
+        first.x,
+        first.y,
+        first.i,
+        first.z,
+        second.x,
+        second.y,
+        second.i,
+        second.z,
+        r.parked.subcommand,
+        r.parked.came,
+        values[0],
+        values[1],
+        values[2],
+        values[3],
+        values[4],
+    ]
+}
+
+// Whether two records are the same.
+pub(crate) fn same(r: Registers, s: Registers) -> bool {
+    let a = numbers(r);
+    let b = numbers(s);
+    for k in 0..37 {
+        if a[k] != b[k] {
+            return false;
+        }
+    }
+    true
+}
