@@ -12,15 +12,11 @@ pub(crate) fn ready() -> Registers {
     r
 }
 
-// A record's numbers, in the order of docs/REGISTERS.md.
-fn numbers(r: Registers) -> [u16; 37] {
+// The first 20 of a record's 37 numbers, in the order of docs/REGISTERS.md: what was set.
+fn settings(r: Registers) -> [u16; 20] {
     let modes = r.modes;
     let window = r.window;
     let dash = r.dash;
-    let figure = r.figure;
-    let first = figure.first;
-    let second = figure.second;
-    let values = r.parked.values;
     [
         r.started,
         r.frame.line,
@@ -42,6 +38,16 @@ fn numbers(r: Registers) -> [u16; 37] {
         r.latch.i,
         r.latch.z,
         r.latch.y,
+    ]
+}
+
+// The other 17: what is open, and what is awaited.
+fn pending(r: Registers) -> [u16; 17] {
+    let figure = r.figure;
+    let first = figure.first;
+    let second = figure.second;
+    let values = r.parked.values;
+    [
         figure.shape,
         figure.pair,
         first.x,
@@ -62,14 +68,20 @@ fn numbers(r: Registers) -> [u16; 37] {
     ]
 }
 
-// Whether two records are the same.
-pub(crate) fn same(r: Registers, s: Registers) -> bool {
-    let a = numbers(r);
-    let b = numbers(s);
-    for k in 0..37 {
+// Whether two lists of numbers are the same.
+fn are_same(a: &[u16], b: &[u16]) -> bool {
+    if a.len() != b.len() {
+        return false;
+    }
+    for k in 0..a.len() {
         if a[k] != b[k] {
             return false;
         }
     }
     true
+}
+
+// Whether two records are the same.
+pub(crate) fn same(r: Registers, s: Registers) -> bool {
+    are_same(&settings(r), &settings(s)) & are_same(&pending(r), &pending(s))
 }
