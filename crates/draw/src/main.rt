@@ -1,6 +1,5 @@
 // The drawing program: reads a packed stream from standard input, draws it, and prints the picture as text. What it prints for what it
 // reads is `printed` (specs/Draw.antt). Where a read or a write fails, it says so on standard error.
-mod input;
 mod text;
 
 use input::Taken;

@@ -1,12 +1,12 @@
--- `input::take` meets its contract. The invariant of its loop: the bytes taken fit the buffer, whose length is kept. The measure is the room
+-- `take` meets its contract. The invariant of its loop: the bytes taken fit the buffer, whose length is kept. The measure is the room
 -- left. Assumes nothing.
 use mathlib.Core.Path.{_≡_, refl, _∙_}
 use Prim.Native.Nat.{_-_, _≤_}
 use native.Mathlib.Omega.{arith}
 use borrow.Author.Needs.{needs}
 use lib.ListN.{length}
-use Rattle.draw.proofs.input.take.Statement.{statement}
-use Rattle.draw.proofs.input.take.Tie as tie
+use Rattle.input.proofs.take.Statement.{statement}
+use Rattle.input.proofs.take.Tie as tie
 
 abbrev Inv-loop : tie.InvT-loop
 Inv-loop buf₀ at₀ buf at = (at ≤ length buf) × (length buf ≡ length buf₀)

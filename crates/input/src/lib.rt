@@ -1,11 +1,12 @@
-// Standard input, read to its end or until the buffer is full.
+// Standard input, for the programs: read to its end or until a lent buffer is full. Which bytes come no contract can say; specs/Input.antt
+// says how many may.
 ghost use lib.ListN.{length};
 ghost use Prim.Native.Nat.{_≤_, _-_};
-ghost use Rattle.draw.specs.Input.{Within};
+ghost use Rattle.input.specs.Input.{Within};
 use libc::STDIN_FILENO;
 
 // How many bytes came, or that a read failed.
-pub(crate) enum Taken {
+pub enum Taken {
     Bytes(usize),
     Failed,
 }
@@ -23,7 +24,7 @@ fn read_from(buf: &mut [u8], at: usize) -> Taken
 }
 
 // Reads until the input ends or the buffer is full: the bytes may come in pieces.
-pub(crate) fn take(buf: &mut [u8]) -> Taken
+pub fn take(buf: &mut [u8]) -> Taken
     ensures { λ r. ⌜ Within (length (now (buf .entry))) r ⌝ }
 {
     let mut at = 0;
