@@ -1,0 +1,20 @@
+-- `read::take_in_remark` meets its contract. Assumes nothing.
+use borrow.Author.Needs.{needs}
+use borrow.Author.Tests.{eq-eqb, ne-eqb}
+use Rattle.listing.specs.Reading.{remarked}
+use Rattle.listing.proofs.read.take_in_remark.Statement.{statement}
+use Rattle.listing.proofs.read.take_in_remark.Tie as tie
+
+next-line-requires : tie.Need-next-line-requires
+next-line-requires c κs = search needs
+
+returns : tie.Need-returns
+unfolding remarked
+returns c = rw (eq-eqb _ _ (c .before .if1 .taken)) (c .next-line .ensures)
+
+returns-2 : tie.Need-returns-2
+unfolding remarked
+returns-2 c = rw (ne-eqb _ _ (c .if1 .left))
+
+pub take-in-remark-spec : {M : Type 1} → statement M
+take-in-remark-spec = tie.close (tie.spec next-line-requires returns returns-2)
