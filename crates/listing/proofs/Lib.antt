@@ -1,3 +1,7 @@
 pub mod Lines
 pub mod Calls
 pub mod Turns
+pub mod Kept
+pub mod Settled
+pub mod Back
+pub mod Pages

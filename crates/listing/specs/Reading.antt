@@ -4,7 +4,7 @@
 use Prim.Native.Nat.{ℕ, _+_, _-_, _*_, _%_, _^_}
 use mathlib.Core.Bool.{Bool, cond, _&&_, _||_, not}
 use mathlib.Core.List.{List, [], _∷_, foldl}
-use lib.ListN.{length, set}
+use lib.ListN.{length, set, take}
 use lib.Dec.{ltb, eqb}
 use Rattle.listing.specs.declared.read.Reader.{Reader}
 use Rattle.listing.specs.declared.read.Mood.{Mood}
@@ -101,3 +101,7 @@ fresh = reader Words 0 0 0 1
 -- a text more
 unfoldable pub readOn : Reading → List ℕ → Reading
 readOn s text = foldl taken s text
+
+-- the words that were read
+unfoldable pub wordsIn : Reading → List ℕ
+wordsIn s = take (s .reader .held) (s .words)
