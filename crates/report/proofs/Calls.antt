@@ -1,40 +1,59 @@
--- What writing the text comes to, from the test on its way. Assumes nothing.
-use mathlib.Core.Path.{_≡_, sym, _∙_}
+-- What writing a text comes to, from the test on its way. Assumes nothing.
+use mathlib.Core.Path.{_≡_, sym, ap, _∙_}
 use mathlib.Core.Bool.{Bool, true, false}
 use mathlib.Core.List.{List}
-use Prim.Native.Nat.{ℕ, _≤_}
+use Prim.Native.Nat.{ℕ, _≤_, _<_}
+use native.Mathlib.Omega.{arith}
 use borrow.Author.Tests.{ltb-true, ltb-false}
-use lib.ListN.{length}
+use lib.ListN.{length, drop, length-append}
 use lib.Dec.{ltb}
-use Rattle.stream.specs.Calls.{written, outcome}
+use lib.Seq.{length-take-le}
+use Rattle.stream.specs.Calls.{Outcome, over, written, outcome}
 use Rattle.stream.proofs.Calls.{no-room, room}
-use Rattle.report.specs.Text.{lines, heading, report}
-use Rattle.report.specs.Calls.{writing, told, Put}
+use Rattle.report.specs.Calls.{writingText, told, Put, Stands}
+use Rattle.report.specs.declared.Written.{Written}
 use Rattle.report.specs.declared.Written.the-variants.{Done, NoRoom}
-use Rattle.report.proofs.Putting.{put-append, put-over}
+use Rattle.report.proofs.Putting.{put-over}
 
-module _ (words refusal passed line : ℕ) (im zm out : List ℕ) where
-  pub longer : {answer : Bool} → answer ≡ ltb (length out) (length (report words refusal passed line im zm)) → answer ≡ true
-      → told NoRoom out ≡ writing words refusal passed line im zm out
-  unfolding writing outcome
-  longer e t =
-      let text = report words refusal passed line im zm in
-      rw (no-room text out (ltb-true (length out) (length text) (sym e ∙ t)))
-
-  pub fits : {answer : Bool} → answer ≡ ltb (length out) (length (report words refusal passed line im zm)) → answer ≡ false
-      → length (report words refusal passed line im zm) ≤ length out
-  fits e t = ltb-false (length out) (length (report words refusal passed line im zm)) (sym e ∙ t)
+module _ (text out : List ℕ) where
+  -- a text that does not fit is not written
+  pub unwritten : length out < length text → told NoRoom out ≡ writingText text out
+  unfolding writingText outcome
+  unwritten h = rw (no-room text out h)
 
   -- a text that fits is written
-  pub writes : length (report words refusal passed line im zm) ≤ length out
-      → writing words refusal passed line im zm out ≡ written (report words refusal passed line im zm) out
-  unfolding writing outcome
-  writes h = rw (room (report words refusal passed line im zm) out h)
+  pub writes : length text ≤ length out → writingText text out ≡ written text out
+  unfolding writingText outcome
+  writes h = rw (room text out h)
 
-  pub done : {m left : List ℕ} {k n : ℕ} → length (report words refusal passed line im zm) ≤ length out
-      → Put (heading words refusal passed) out 0 m k → Put (lines line im zm (length im)) m k left n
-      → told (Done n) left ≡ writing words refusal passed line im zm out
-  unfolding report
-  done h p q =
-      let all = put-over h (put-append p q) in
+  pub done : {left : List ℕ} {n : ℕ} → length text ≤ length out → Put text out 0 left n → told (Done n) left ≡ writingText text out
+  done h p =
+      let all = put-over h p in
       rw (writes h, all .0, all .1)
+
+  -- the test's answer decides
+  pub longer : {answer : Bool} → answer ≡ ltb (length out) (length text) → answer ≡ true → told NoRoom out ≡ writingText text out
+  longer e t = unwritten (ltb-true (length out) (length text) (sym e ∙ t))
+
+  pub fits : {answer : Bool} → answer ≡ ltb (length out) (length text) → answer ≡ false → length text ≤ length out
+  fits e t = ltb-false (length out) (length text) (sym e ∙ t)
+
+-- what was written stands
+pub stands : {text old new : List ℕ} {n : ℕ} → n ≡ length text → new ≡ over text old → Stands text old new n
+unfolding over
+stands {text} {old} {new} {n} e f =
+    let room : n ≤ length new = omega (arith, ap (length {A = ℕ}) f ∙ length-append text (drop (length text) old)) in
+    record { front = f; size = e; counts = (room, sym (length-take-le n new room)) }
+
+-- a caller that lends enough: the text stands, and it is never refused
+module _ (text old : List ℕ) {new : List ℕ} (answer : Written) (enough : length text ≤ length old) (e : told answer new ≡ writingText text old) where
+  succeeds : told answer new ≡ written text old
+  succeeds = e ∙ writes text old enough
+
+  pub answer-stands : {n : ℕ} → answer ≡ Done n → Stands text old new n
+  answer-stands q =
+      let s = rw q at succeeds in stands (ap (λ (o : Outcome). o .size) s) (ap (λ (o : Outcome). o .left) s)
+
+  pub answer-fits : answer ≡ NoRoom → ⊥
+  answer-fits q =
+      let s = ap (λ (o : Outcome). o .refusal) (rw q at succeeds) in omega (arith, s)

@@ -1,18 +1,21 @@
--- What writing the text tells and leaves, for every input (document 01, "Numbers that come back": 13).
+-- What writing a text tells and leaves, for every input (document 01, "Numbers that come back": 13).
 use Prim.Native.Nat.{ℕ, _+_, _≤_}
 use mathlib.Core.Path.{_≡_}
 use mathlib.Core.List.{List}
-use lib.ListN.{length}
+use lib.ListN.{length, take}
 use lib.Seq.{sets}
-use Rattle.stream.specs.Calls.{Outcome, outcome, noRoom}
+use Rattle.stream.specs.Calls.{Outcome, outcome, noRoom, over}
 use Rattle.report.specs.Text.{report}
 use Rattle.report.specs.declared.Written.{Written}
 use Rattle.report.specs.declared.Written.the-variants.{Done, NoRoom}
 
 -- writing checks 13
-unfoldable pub writing : ℕ → ℕ → ℕ → ℕ → List ℕ → List ℕ → List ℕ → Outcome
-writing words refusal passed line im zm out =
-    outcome (noRoom (report words refusal passed line im zm) out) (report words refusal passed line im zm) out
+unfoldable pub writingText : List ℕ → List ℕ → Outcome
+writingText text out = outcome (noRoom text out) text out
+
+-- the text of a run
+abbrev pub writing : ℕ → ℕ → ℕ → ℕ → List ℕ → List ℕ → List ℕ → Outcome
+writing words refusal passed line im zm out = writingText (report words refusal passed line im zm) out
 
 -- the number, and the length, that each answer of the code stands for
 abbrev pub refusalOf : Written → ℕ
@@ -38,3 +41,9 @@ pub record Sized (text : List ℕ) (most r : ℕ) : Type 0 where
 pub record Put (text old : List ℕ) (at : ℕ) (new : List ℕ) (next : ℕ) : Type 0 where
   pub stands : new ≡ sets old at text
   pub ends : next ≡ at + length text
+
+-- a text written to the front of a buffer: the places beyond are untouched, and its length is told
+pub record Stands (text old new : List ℕ) (n : ℕ) : Type 0 where
+  pub front : new ≡ over text old
+  pub size : n ≡ length text
+  pub counts : (n ≤ length new) × (n ≡ length (take n new))

@@ -8,7 +8,7 @@ use crate::number::digits;
 use crate::number::put_field;
 
 // Puts a name at a place, and tells the place after it.
-fn put_name(name: &[u8], out: &mut [u8], at: usize) -> usize
+pub(crate) fn put_name(name: &[u8], out: &mut [u8], at: usize) -> usize
     requires { ⌜ at + length (now name) ≤ length (now out) ⌝ }
     ensures { λ r. ⌜ Put (now (name .entry)) (now (out .entry)) at (now (out .exit)) r ⌝ }
 {

@@ -1,10 +1,13 @@
-// The text of a run: a line for its three numbers, and one for each place of the picture that shows. specs/Text.antt is the text,
-// specs/Calls.antt what the call tells and leaves.
+// The text of a run: a line for its three numbers, and one for each place of the picture that shows. And the image of a memory. specs/Text.antt
+// is the text, specs/Image.antt the image, specs/Calls.antt what the calls tell and leave.
 mod heading;
+mod image;
 mod number;
 mod place;
 mod text;
 
+pub use image::image_heading;
+pub use image::image_rows;
 pub use text::write;
 
 // What writing answers: the length that it wrote, or that the text does not fit. specs/Calls.antt has document 01's number of each.

@@ -1,0 +1,126 @@
+-- Images: how long each part is, rows that reach past a memory's end, and pages that join. Assumes nothing.
+use mathlib.Core.Path.{_≡_, refl, sym, ap, ap₂, _∙_}
+use mathlib.Core.Bool.{Bool, true, false}
+use mathlib.Core.List.{List, [], _∷_, _++_, append-assoc, append-nil}
+use Prim.Native.Nat.{ℕ, zero, suc, _+_, _-_, _*_, _/_, _≤_, _<_, min}
+use native.Mathlib.Nat.{add-zero, add-suc, suc-mul, mul-le-mul-right, le-div-iff-mul-le, div-lt-iff-lt-mul}
+use native.Mathlib.Numerals.{add-one}
+use native.Mathlib.Omega.{arith}
+use borrow.Author.Tests.{lt-ltb, le-ltb, ltb-true, ltb-false}
+use lib.ListN.{length, getD, length-append, List·getD-eq-default}
+use lib.Dec.{ltb}
+use Rattle.report.specs.Text.{digits, decimal, field, pair}
+use Rattle.report.specs.Image.{magic, imageHeading, twoBytes, numbers, rowBytes, down, image}
+use Rattle.report.proofs.Lengths.{length-field, length-pair}
+
+-- ---- the heading
+
+greatest : length (decimal 65535) ≡ 5
+unfolding decimal digits
+greatest = refl
+
+module _ (line rows : ℕ) where
+  pub image-heading-parts : length (imageHeading line rows) ≡ 3 + length (pair line rows 10) + length (field 65535 10)
+  unfolding imageHeading
+  image-heading-parts =
+      let size = pair line rows 10 in
+      omega (arith, length-append (magic ++ size) (field 65535 10), length-append magic size)
+
+  pub length-image-heading : length (imageHeading line rows) ≡ length (decimal line) + length (decimal rows) + 11
+  length-image-heading = omega (arith, image-heading-parts, length-pair line rows 10, length-field 65535 10, greatest)
+
+-- ---- rows
+
+-- a product is more than the room where its factor is more than the quotient
+pub over-quotient : (room row count : ℕ) → 0 < row → ltb (room / row) count ≡ ltb room (count * row)
+over-quotient room row count h = go (ltb (room / row) count) refl
+  where
+    go : (b : Bool) → ltb (room / row) count ≡ b → b ≡ ltb room (count * row)
+    go true t = sym (lt-ltb room (count * row) (div-lt-iff-lt-mul h .0 (ltb-true (room / row) count t)))
+    go false t = sym (le-ltb room (count * row) (le-div-iff-mul-le h .0 (ltb-false (room / row) count t)))
+
+module _ (memory : List ℕ) where
+  -- one number more
+  pub numbers-more : (from n : ℕ) → numbers memory from (n + 1) ≡ numbers memory from n ++ twoBytes (getD memory (from + n) 0)
+  unfolding numbers
+  numbers-more from n = rw (add-one n)
+
+  pub length-numbers : (from n : ℕ) → length (numbers memory from n) ≡ 2 * n
+  unfolding numbers
+  length-numbers from zero = refl
+  length-numbers from (suc n) =
+      omega (arith, length-append (numbers memory from n) (twoBytes (getD memory (from + n) 0)), length-numbers from n)
+
+  -- from a memory's end on all numbers are alike
+  numbers-beyond : (from n : ℕ) → length memory ≤ from → numbers memory (length memory) n ≡ numbers memory from n
+  unfolding numbers
+  numbers-beyond from zero h = refl
+  numbers-beyond from (suc n) h =
+      let here = List·getD-eq-default memory 0 {n = length memory + n} (omega arith) in
+      let there = List·getD-eq-default memory 0 {n = from + n} (omega arith) in
+      rw (numbers-beyond from n h, here, there)
+
+  pub numbers-from : (from n : ℕ) → numbers memory (min from (length memory)) n ≡ numbers memory from n
+  numbers-from from n = go (ltb from (length memory)) refl
+    where
+      go : (b : Bool) → ltb from (length memory) ≡ b → numbers memory (min from (length memory)) n ≡ numbers memory from n
+      go true t =
+          let low = ltb-true from (length memory) t in
+          let e : min from (length memory) ≡ from = omega arith in
+          rw e
+      go false t =
+          let high = ltb-false from (length memory) t in
+          let e : min from (length memory) ≡ length memory = omega arith in
+          rw e (numbers-beyond from n high)
+
+module _ (line : ℕ) (memory : List ℕ) where
+  pub length-row : (y : ℕ) → length (rowBytes line memory y) ≡ 2 * line
+  unfolding rowBytes
+  length-row y = length-numbers memory (y * line) line
+
+  -- one row more
+  pub down-more : (below k : ℕ) → down line memory below (k + 1) ≡ down line memory below k ++ rowBytes line memory (below - suc k)
+  unfolding down
+  down-more below k = rw (add-one k)
+
+  pub length-down : (below k : ℕ) → length (down line memory below k) ≡ k * (2 * line)
+  unfolding down
+  length-down below zero = omega arith
+  length-down below (suc k) =
+      let row = rowBytes line memory (below - suc k) in
+      omega (arith, length-append (down line memory below k) row, length-down below k, length-row (below - suc k), suc-mul k (2 * line))
+
+  -- a test of the product is a test of the rows' length
+  pub rows-asked : (below k room : ℕ) {answer : Bool} → answer ≡ ltb room (k * (2 * line)) → answer ≡ ltb room (length (down line memory below k))
+  rows-asked below k room e = e ∙ ap (ltb room) (sym (length-down below k))
+
+  -- a row and those above it
+  pub down-within : (below k count : ℕ) → k < count
+      → length (down line memory below k) + length (rowBytes line memory (below - suc k)) ≤ length (down line memory below count)
+  down-within below k count h =
+      omega (
+        arith,
+        length-down below k,
+        length-down below count,
+        length-row (below - suc k),
+        suc-mul k (2 * line),
+        mul-le-mul-right (2 * line) h,
+      )
+
+  -- pages join: the rows under `below` are the first of them, and then those under the last of these
+  pub down-join : (below a b : ℕ) → down line memory below (a + b) ≡ down line memory below a ++ down line memory (below - a) b
+  unfolding down
+  down-join below a zero = rw (add-zero a) (sym (append-nil (down line memory below a)))
+  down-join below a (suc b) =
+      let row : below - suc (a + b) ≡ below - a - suc b = omega arith in
+      let first = down line memory below a in
+      let rest = down line memory (below - a) b in
+      rw (add-suc a b, down-join below a b, row) (append-assoc first rest (rowBytes line memory (below - a - suc b)))
+
+-- an image is its heading, and then its pages
+pub image-pages : (line : ℕ) (memory : List ℕ) (a b : ℕ)
+    → image line (a + b) memory ≡ imageHeading line (a + b) ++ down line memory (a + b) a ++ down line memory b b
+unfolding image
+image-pages line memory a b =
+    let under : a + b - a ≡ b = omega arith in
+    rw (down-join line memory (a + b) a b, under) (sym (append-assoc (imageHeading line (a + b)) (down line memory (a + b) a) (down line memory b b)))

@@ -1,0 +1,45 @@
+-- `image::put_two_bytes` meets its contract: two bytes, one behind the other. Assumes nothing.
+use mathlib.Core.Path.{refl}
+use native.Mathlib.Omega.{arith}
+use borrow.Author.Needs.{needs}
+use lib.ListN.{length-set}
+use Rattle.report.proofs.Putting.{put-byte, put-append}
+use Rattle.report.proofs.image.put_two_bytes.Statement.{statement}
+use Rattle.report.proofs.image.put_two_bytes.Tie as tie
+
+cast-out : tie.Need-cast-out
+cast-out c = search needs
+
+slice-write-out : tie.Need-slice-write-out
+slice-write-out c = search needs
+
+cast-out-2 : tie.Need-cast-out-2
+cast-out-2 c = search needs
+
+add-out : tie.Need-add-out
+add-out c = search needs
+
+slice-write-out-2 : tie.Need-slice-write-out-2
+slice-write-out-2 c = simp length-set (omega arith)
+
+add-result : tie.Need-add-result
+add-result c = search needs
+
+same-length : tie.Need-same-length
+same-length c = search needs
+
+returns : tie.Need-returns
+returns c = put-append (put-byte _ _ _) (record { stands = refl; ends = omega arith })
+
+pub put-two-bytes-spec : {M : Type 1} → statement M
+put-two-bytes-spec =
+    tie.close
+    (tie.spec
+    cast-out
+    slice-write-out
+    cast-out-2
+    add-out
+    slice-write-out-2
+    add-result
+    same-length
+    returns)
