@@ -1,5 +1,6 @@
 // Standard input, for the programs: read to its end or until a lent buffer is full. Which bytes come no contract can say; specs/Input.antt
-// says how many may.
+// says how many may. And room for what is read.
+ghost use mathlib.Core.Path.{_≡_};
 ghost use lib.ListN.{length};
 ghost use Prim.Native.Nat.{_≤_, _-_};
 ghost use Rattle.input.specs.Input.{Within};
@@ -39,4 +40,19 @@ pub fn take(buf: &mut [u8]) -> Taken
         at += n;
     }
     Taken::Bytes(at)
+}
+
+// Room for a recording of 1,048,576 bytes and one byte more, which is enough to tell that it is too long. The `ensures` gives only the length,
+// so that no proof that lends it looks at its places one by one.
+pub fn recording() -> [u8; 1048577]
+    ensures { λ r. ⌜ 1048577 ≡ length r ⌝ }
+{
+    [0; 1048577]
+}
+
+// Room for the words of such a recording, likewise.
+pub fn words() -> [u32; 419430]
+    ensures { λ r. ⌜ 419430 ≡ length r ⌝ }
+{
+    [0; 419430]
 }

@@ -1,5 +1,5 @@
 -- Reading keeps the buffer's length, and never stores more words than it has room for. Assumes nothing.
-use mathlib.Core.Path.{_≡_, refl, _∙_}
+use mathlib.Core.Path.{_≡_, refl, sym, _∙_, subst}
 use mathlib.Core.Bool.{Bool, true, false, cond}
 use mathlib.Core.List.{List, [], _∷_}
 use Prim.Native.Nat.{ℕ, _+_, _≤_, _<_}
@@ -79,3 +79,10 @@ module _ (n : ℕ) where
   unfolding readOn
   read-kept [] s k = k
   read-kept (b ∷ text) s k = read-kept text (taken s b) (taken-kept s b k)
+
+-- of a call of `read`: what it stores fits, if what was stored before does
+pub held-fits : (r a : Reader) (ws ws′ text : List ℕ) → reading a ws′ ≡ readOn (reading r ws) text → r .held ≤ length ws → a .held ≤ length ws′
+held-fits r a ws ws′ text e h =
+    let k = read-kept (length ws) text (reading r ws) (h, refl) in
+    let k′ : Kept (length ws) (reading a ws′) = subst (Kept (length ws)) (sym e) k in
+    omega (arith, k′ .0, k′ .1)

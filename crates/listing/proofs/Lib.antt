@@ -1,5 +1,4 @@
 pub mod Lines
-pub mod Calls
 pub mod Turns
 pub mod Kept
 pub mod Settled

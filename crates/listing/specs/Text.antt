@@ -6,7 +6,6 @@ use mathlib.Core.Bool.{cond}
 use mathlib.Core.List.{List, [], _∷_, _++_}
 use lib.ListN.{length, getD, take, drop}
 use lib.Dec.{ltb}
-use Rattle.stream.specs.Calls.{Outcome, outcome, noRoom}
 
 -- a digit's character: 0 to 9, then A to F
 unfoldable pub glyph : ℕ → ℕ
@@ -57,7 +56,3 @@ lines from words (suc n) = lines from words n ++ line (from + n) (getD words n 0
 -- the lines of all words
 unfoldable pub listing : ℕ → List ℕ → List ℕ
 listing from words = lines from words (length words)
-
--- writing them checks 13
-unfoldable pub writing : ℕ → List ℕ → List ℕ → Outcome
-writing from words out = outcome (noRoom (listing from words) out) (listing from words) out

@@ -2,8 +2,8 @@
 ghost use mathlib.Core.Path.{_≡_};
 ghost use Prim.Native.Nat.{_+_, _*_, _<_, _≤_};
 ghost use lib.ListN.{length, take, drop};
-ghost use Rattle.report.specs.Calls.{Put, told};
-ghost use Rattle.listing.specs.Text.{glyph, digits, nameOf, placed, line, lines, listing, writing};
+ghost use Rattle.report.specs.Calls.{Put, told, writingText};
+ghost use Rattle.listing.specs.Text.{glyph, digits, nameOf, placed, line, lines, listing};
 use report::Written;
 
 // The character of a digit.
@@ -102,7 +102,7 @@ fn put_lines(from: u32, words: &[u32], out: &mut [u8]) -> usize
 // Writes the lines of some words to the front of `out`, or refuses where that is too short. The first word's index is `from`, so that a
 // long recording can be written in pieces.
 pub fn list(from: u32, words: &[u32], out: &mut [u8]) -> Written
-    ensures { λ r. ⌜ told r (now (out .exit)) ≡ writing from (now (words .entry)) (now (out .entry)) ⌝ }
+    ensures { λ r. ⌜ told r (now (out .exit)) ≡ writingText (listing from (now (words .entry))) (now (out .entry)) ⌝ }
 {
     if out.len() / 26 < words.len() {
         return Written::NoRoom;

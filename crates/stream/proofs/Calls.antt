@@ -1,5 +1,5 @@
 -- What each call comes to, from the tests on its way. Assumes nothing.
-use mathlib.Core.Path.{_≡_, refl, sym}
+use mathlib.Core.Path.{_≡_, refl, sym, ap}
 use mathlib.Core.Bool.{Bool, true, false, cond}
 use mathlib.Core.List.{List}
 use Prim.Native.Nat.{ℕ, _+_, _^_, _≤_, _<_}
@@ -9,6 +9,7 @@ use lib.ListN.{length}
 use lib.Dec.{ltb, eqb}
 use Rattle.stream.specs.Format.{fit, unpackOf, packOf, wordAt}
 use Rattle.stream.specs.Calls.{badLength, badTail, checked, noRoom, over, Outcome, written, refused, outcome, unpacking, packing, told, entry, wordCount, wordEntry}
+use Rattle.stream.specs.declared.Coded.{Coded}
 use Rattle.stream.specs.declared.Coded.the-variants.{Done, BadWord, BadLength, BadTail, NoRoom}
 
 -- ---- the checks
@@ -142,3 +143,32 @@ module _ (s : List ℕ) where
     pub word-flaw : (checked s 0 ≡ 0 → ⊥) → wordEntry s k ≡ 2 ^ 63 + checked s 0
     unfolding wordEntry entry
     word-flaw e = rw (flaw-told s (cond (ltb k (length (unpackOf s))) 0 13) e, ne-eqb (checked s 0) 0 e)
+
+-- ---- what is told to be written fits the output
+
+size-fits : (number : ℕ) (result out : List ℕ) → (number ≡ 0 → length result ≤ length out) → outcome number result out .size ≤ length out
+unfolding outcome
+size-fits number result out h = go (eqb number 0) refl
+  where
+    go : (b : Bool) → eqb number 0 ≡ b → cond b (written result out) (refused number out) .size ≤ length out
+    go true e = h (eqb-true number 0 e)
+    go false e = omega arith
+
+-- an answer's length is that of its outcome
+done-size : {o : Outcome} {answer : Coded} {left : List ℕ} {n : ℕ} → told answer left ≡ o → answer ≡ Done n → n ≡ o .size
+done-size e d = ap (λ (o : Outcome). o .size) (rw d at e)
+
+pub unpacked-fits : (s out : List ℕ) {answer : Coded} {left : List ℕ} {n : ℕ} → told answer left ≡ unpacking s out → answer ≡ Done n → n ≤ length out
+unfolding unpacking
+unpacked-fits s out e d =
+    let number = checked s (noRoom (unpackOf s) out) in
+    let low = size-fits number (unpackOf s) out (λ z. room-told (unpackOf s) out (good s (noRoom (unpackOf s) out) z .2)) in
+    rw (done-size e d) low
+
+pub packed-fits : (ws out : List ℕ) {answer : Coded} {left : List ℕ} {n : ℕ} → told answer left ≡ packing ws out → answer ≡ Done n → n ≤ length out
+unfolding packing
+packed-fits ws out e d = rw (done-size e d) (size-fits (cond (fit 20 ws) (noRoom (packOf ws) out) 1) (packOf ws) out (go (fit 20 ws)))
+  where
+    go : (b : Bool) → cond b (noRoom (packOf ws) out) 1 ≡ 0 → length (packOf ws) ≤ length out
+    go true e = room-told (packOf ws) out e
+    go false e = absurd (omega (arith, e))

@@ -2,12 +2,16 @@
 use native.Mathlib.Omega.{arith}
 use borrow.Author.Needs.{needs}
 use borrow.Author.Needs.{needs}
-use Rattle.listing.proofs.Calls.{refuses, done}
+use Rattle.report.proofs.Calls.{unwritten, done}
+use Rattle.listing.specs.Text.{listing}
+use Rattle.listing.proofs.Lines.{length-listing}
 use Rattle.listing.proofs.write.list.Statement.{statement}
 use Rattle.listing.proofs.write.list.Tie as tie
 
 returns : tie.Need-returns
-returns c = refuses (c .before .before .before .args .from) (c .before .before .before .args .words .now) (c .before .before .before .args .out .now) (c .if1 .taken)
+returns c =
+    let a = c .before .before .before .args in
+    unwritten (listing (a .from) (a .words .now)) (a .out .now) (omega (arith, c .if1 .taken, length-listing (a .from) (a .words .now)))
 
 put-lines-requires : tie.Need-put-lines-requires
 put-lines-requires c κs = omega (arith, c .before .if1 .left)
@@ -16,7 +20,10 @@ same-length : tie.Need-same-length
 same-length c = search needs
 
 returns-2 : tie.Need-returns-2
-returns-2 c = done (c .before .before .before .before .before .before .before .args .from) (c .before .before .before .before .before .before .before .args .words .now) (c .before .before .before .before .before .before .before .args .out .now) (omega (arith, c .before .before .before .before .if1 .left)) (c .before .before .put-lines .ensures)
+unfolding listing
+returns-2 c =
+    let a = c .before .before .before .before .before .before .before .args in
+    done (listing (a .from) (a .words .now)) (a .out .now) (omega (arith, c .before .before .before .before .if1 .left, length-listing (a .from) (a .words .now))) (c .before .before .put-lines .ensures)
 
 pub list-spec : {M : Type 1} → statement M
 list-spec = tie.close (tie.spec returns put-lines-requires same-length returns-2)
