@@ -2,7 +2,7 @@
 use mathlib.Core.Path.{_≡_, refl, sym, ap, ap₂, _∙_}
 use mathlib.Core.Bool.{Bool, true, false}
 use mathlib.Core.List.{List, [], _∷_, _++_, append-assoc, append-nil}
-use Prim.Native.Nat.{ℕ, zero, suc, _+_, _-_, _*_, _/_, _≤_, _<_, min}
+use Prim.Native.Nat.{ℕ, zero, suc, _+_, _-_, _*_, _/_, _^_, _≤_, _<_, min}
 use native.Mathlib.Nat.{add-zero, add-suc, suc-mul, mul-le-mul-right, le-div-iff-mul-le, div-lt-iff-lt-mul}
 use native.Mathlib.Numerals.{add-one}
 use native.Mathlib.Omega.{arith}
@@ -11,6 +11,7 @@ use lib.ListN.{length, getD, length-append, List·getD-eq-default}
 use lib.Dec.{ltb}
 use Rattle.report.specs.Text.{digits, decimal, field, pair}
 use Rattle.report.specs.Image.{magic, imageHeading, twoBytes, numbers, rowBytes, down, image}
+use Rattle.report.proofs.Decimal.{decimal-short}
 use Rattle.report.proofs.Lengths.{length-field, length-pair}
 
 -- ---- the heading
@@ -28,6 +29,10 @@ module _ (line rows : ℕ) where
 
   pub length-image-heading : length (imageHeading line rows) ≡ length (decimal line) + length (decimal rows) + 11
   length-image-heading = omega (arith, image-heading-parts, length-pair line rows 10, length-field 65535 10, greatest)
+
+  -- it is short: two numbers of 64 bits
+  pub image-heading-short : line < 2 ^ 64 → rows < 2 ^ 64 → length (imageHeading line rows) ≤ 51
+  image-heading-short h k = omega (arith, length-image-heading, decimal-short line h, decimal-short rows k)
 
 -- ---- rows
 

@@ -99,7 +99,14 @@ fn row_under(below: usize, k: usize) -> usize
 }
 
 // Puts the rows under row `below`, downward.
-fn put_rows(line: u16, below: usize, count: usize, memory: &[u16], out: &mut [u8], at: usize) -> usize
+fn put_rows(
+    line: u16,
+    below: usize,
+    count: usize,
+    memory: &[u16],
+    out: &mut [u8],
+    at: usize,
+) -> usize
     requires { ⌜ at + length (down line (now memory) below count) ≤ length (now out) ⌝ }
     ensures { λ r. ⌜ Put (down line (now (memory .entry)) below count) (now (out .entry)) at (now (out .exit)) r ⌝ }
 {
