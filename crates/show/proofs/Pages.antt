@@ -3,7 +3,7 @@ use mathlib.Core.Path.{_≡_, refl, sym, ap, _∙_}
 use mathlib.Core.Bool.{Bool, true, false}
 use mathlib.Core.List.{List, [], _++_}
 use Prim.Native.Nat.{ℕ, zero, suc, _+_, _-_, _*_, _/_, _≤_, _<_, min}
-use native.Mathlib.Nat.{le-trans, mul-le-mul-right, div-mul-le-self, le-div-iff-mul-le}
+use native.Mathlib.Nat.{div-zero, le-trans, mul-le-mul-right, div-mul-le-self, le-div-iff-mul-le}
 use native.Mathlib.Omega.{arith}
 use borrow.Author.Tests.{ltb-true, ltb-false}
 use lib.ListN.{length, take, replicate, length-replicate}
@@ -11,6 +11,11 @@ use lib.Dec.{ltb}
 use Rattle.report.specs.Image.{imageHeading, down, image}
 use Rattle.report.proofs.Pages.{down-join}
 use Rattle.show.specs.Show.{blankOf, Blank, Fresh, pageRows, pages}
+
+-- rows that fit have a length
+pub rows-line : (places line rows : ℕ) → rows ≡ places / line → (rows ≡ 0 → ⊥) → 0 < line
+rows-line places zero rows e h = absurd (h (e ∙ div-zero places))
+rows-line places (suc line) rows e h = omega arith
 
 -- ---- one page
 

@@ -51,10 +51,6 @@ fn write_image(depth: bool, line: u16, rows: usize, im: &[u16], zm: &[u16]) -> b
 
 // Writes the image, if there is a whole row to show.
 fn write_shown(depth: bool, line: u16, im: &[u16], zm: &[u16]) {
-    if line == 0 {
-        say(b"show: no image, since no INIT was accepted\n");
-        return;
-    }
     let rows = whole_rows(line, im.len());
     if rows == 0 {
         say(b"show: no image, since a row has more places than the memory\n");
@@ -80,6 +76,10 @@ pub(crate) fn write_drawn(depth: bool, bytes: &[u8], im: &mut [u16], zm: &mut [u
     let end = drawn(bytes, im, zm);
     if end.refusal != 0 {
         say_refused(end.refusal, end.index);
+    }
+    if end.registers.started == 0 {
+        say(b"show: no image, since no INIT was accepted\n");
+        return;
     }
     write_shown(depth, end.registers.frame.line, im, zm);
 }
