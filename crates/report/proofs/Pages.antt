@@ -3,7 +3,7 @@ use mathlib.Core.Path.{_≡_, refl, sym, ap, ap₂, _∙_}
 use mathlib.Core.Bool.{Bool, true, false}
 use mathlib.Core.List.{List, [], _∷_, _++_, append-assoc, append-nil}
 use Prim.Native.Nat.{ℕ, zero, suc, _+_, _-_, _*_, _/_, _^_, _≤_, _<_, min}
-use native.Mathlib.Nat.{add-zero, add-suc, suc-mul, mul-le-mul-right, le-div-iff-mul-le, div-lt-iff-lt-mul}
+use native.Mathlib.Nat.{add-zero, add-suc, add-assoc, suc-mul, mul-le-mul-right, le-div-iff-mul-le, div-lt-iff-lt-mul}
 use native.Mathlib.Numerals.{add-one}
 use native.Mathlib.Omega.{arith}
 use borrow.Author.Tests.{lt-ltb, le-ltb, ltb-true, ltb-false}
@@ -55,6 +55,15 @@ module _ (memory : List ℕ) where
   length-numbers from zero = refl
   length-numbers from (suc n) =
       omega (arith, length-append (numbers memory from n) (twoBytes (getD memory (from + n) 0)), length-numbers from n)
+
+  -- numbers join
+  pub numbers-join : (from a b : ℕ) → numbers memory from (a + b) ≡ numbers memory from a ++ numbers memory (from + a) b
+  unfolding numbers
+  numbers-join from a zero = rw (add-zero a) (sym (append-nil (numbers memory from a)))
+  numbers-join from a (suc b) =
+      let first = numbers memory from a in
+      let rest = numbers memory (from + a) b in
+      rw (add-suc a b, numbers-join from a b, add-assoc from a b) (append-assoc first rest (twoBytes (getD memory (from + (a + b)) 0)))
 
   -- from a memory's end on all numbers are alike
   numbers-beyond : (from n : ℕ) → length memory ≤ from → numbers memory (length memory) n ≡ numbers memory from n
