@@ -1,7 +1,7 @@
 // What the arguments ask for: which memory, and how many places the memories have.
 ghost use mathlib.Core.Path.{_≡_};
 ghost use Prim.Native.Nat.{_+_, _*_, _%_, _≤_, min};
-ghost use Rattle.show.specs.Arguments.{isDigit, digitsOnly, valueOf, placesOf, placesIf, memoryOf, askedFor, askedOf, Few};
+ghost use Rattle.show.specs.Arguments.{isDigit, digitsOnly, valueOf, placesIf, memoryOf, askedFor, askedOf};
 use crate::Asked;
 use picture::place::least;
 
