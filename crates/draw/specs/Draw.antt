@@ -1,5 +1,4 @@
 -- What the drawing program prints (document 01, "Examples").
-use mathlib.Core.Path.{_≡_}
 use mathlib.Core.Bool.{cond}
 use mathlib.Core.List.{List, [], _∷_}
 use Prim.Native.Nat.{ℕ}
@@ -9,8 +8,6 @@ use Rattle.registers.specs.declared.Registers.{Registers}
 use Rattle.machine.specs.Run.{Ran}
 use Rattle.machine.specs.Machine.{Memories, memories}
 use Rattle.chip.specs.Stream.{running}
-use Rattle.io.specs.Counts.{Counts}
-use Rattle.stream.specs.Calls.{over}
 use Rattle.report.specs.Text.{report}
 
 -- the text of what a run came to, by the line length that it ends with
@@ -28,9 +25,3 @@ tooLong = 116 ∷ 111 ∷ 111 ∷ 32 ∷ 108 ∷ 111 ∷ 110 ∷ 103 ∷ 10 ∷ 
 -- what is printed for the bytes that are read
 unfoldable pub printed : List ℕ → List ℕ
 printed bytes = cond (ltb 8192 (length bytes)) tooLong (drawn bytes)
-
--- a text written to the front of a buffer: the places beyond are untouched, and its length is told
-pub record Stands (text old new : List ℕ) (n : ℕ) : Type 0 where
-  pub front : new ≡ over text old
-  pub size : n ≡ length text
-  pub counts : Counts n new

@@ -2,7 +2,8 @@
 ghost use Prim.Native.Nat.{_≤_};
 ghost use lib.ListN.{length};
 ghost use Rattle.report.specs.Text.{report};
-ghost use Rattle.draw.specs.Draw.{drawn, printed, tooLong, Stands};
+ghost use Rattle.report.specs.Calls.{Stands};
+ghost use Rattle.draw.specs.Draw.{drawn, printed, tooLong};
 use chip::run::run;
 use report::Written;
 use report::write;

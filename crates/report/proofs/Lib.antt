@@ -2,6 +2,7 @@ pub mod Decimal
 pub mod Putting
 pub mod Lengths
 pub mod Pages
+pub mod Upright
 pub mod Room
 pub mod Calls
 pub mod Settled

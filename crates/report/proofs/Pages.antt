@@ -1,9 +1,9 @@
 -- Images: how long each part is, rows that reach past a memory's end, and pages that join. Assumes nothing.
-use mathlib.Core.Path.{_≡_, refl, sym, ap, ap₂, _∙_}
+use mathlib.Core.Path.{_≡_, refl, sym, ap, _∙_}
 use mathlib.Core.Bool.{Bool, true, false}
-use mathlib.Core.List.{List, [], _∷_, _++_, append-assoc, append-nil}
-use Prim.Native.Nat.{ℕ, zero, suc, _+_, _-_, _*_, _/_, _≤_, _<_, min}
-use native.Mathlib.Nat.{add-zero, add-suc, suc-mul, mul-le-mul-right, le-div-iff-mul-le, div-lt-iff-lt-mul}
+use mathlib.Core.List.{List, _++_, append-assoc, append-nil}
+use Prim.Native.Nat.{ℕ, zero, suc, _+_, _-_, _*_, _/_, _^_, _≤_, _<_, min}
+use native.Mathlib.Nat.{add-zero, add-suc, add-assoc, suc-mul, mul-le-mul-right, le-div-iff-mul-le, div-lt-iff-lt-mul}
 use native.Mathlib.Numerals.{add-one}
 use native.Mathlib.Omega.{arith}
 use borrow.Author.Tests.{lt-ltb, le-ltb, ltb-true, ltb-false}
@@ -11,6 +11,7 @@ use lib.ListN.{length, getD, length-append, List·getD-eq-default}
 use lib.Dec.{ltb}
 use Rattle.report.specs.Text.{digits, decimal, field, pair}
 use Rattle.report.specs.Image.{magic, imageHeading, twoBytes, numbers, rowBytes, down, image}
+use Rattle.report.proofs.Decimal.{decimal-short}
 use Rattle.report.proofs.Lengths.{length-field, length-pair}
 
 -- ---- the heading
@@ -28,6 +29,10 @@ module _ (line rows : ℕ) where
 
   pub length-image-heading : length (imageHeading line rows) ≡ length (decimal line) + length (decimal rows) + 11
   length-image-heading = omega (arith, image-heading-parts, length-pair line rows 10, length-field 65535 10, greatest)
+
+  -- it is short: two numbers of 64 bits
+  pub image-heading-short : line < 2 ^ 64 → rows < 2 ^ 64 → length (imageHeading line rows) ≤ 51
+  image-heading-short h k = omega (arith, length-image-heading, decimal-short line h, decimal-short rows k)
 
 -- ---- rows
 
@@ -50,6 +55,15 @@ module _ (memory : List ℕ) where
   length-numbers from zero = refl
   length-numbers from (suc n) =
       omega (arith, length-append (numbers memory from n) (twoBytes (getD memory (from + n) 0)), length-numbers from n)
+
+  -- numbers join
+  pub numbers-join : (from a b : ℕ) → numbers memory from (a + b) ≡ numbers memory from a ++ numbers memory (from + a) b
+  unfolding numbers
+  numbers-join from a zero = rw (add-zero a) (sym (append-nil (numbers memory from a)))
+  numbers-join from a (suc b) =
+      let first = numbers memory from a in
+      let rest = numbers memory (from + a) b in
+      rw (add-suc a b, numbers-join from a b, add-assoc from a b) (append-assoc first rest (twoBytes (getD memory (from + (a + b)) 0)))
 
   -- from a memory's end on all numbers are alike
   numbers-beyond : (from n : ℕ) → length memory ≤ from → numbers memory (length memory) n ≡ numbers memory from n

@@ -1,4 +1,4 @@
--- What the promise of the call settles: one outcome. Assumes nothing.
+-- What the promise of a call settles: one outcome. Assumes nothing.
 use mathlib.Core.Path.{_≡_, refl, sym, ap, _∙_}
 use mathlib.Core.Bool.{cond}
 use mathlib.Core.List.{List}
@@ -18,7 +18,7 @@ unfolding writtenOf
 written-back (Done n) = refl
 written-back NoRoom = refl
 
--- of `write`: any two outcomes that its promise allows have the same answer and the same output
+-- of `write`, `image_heading` and `image_rows`: any two outcomes that its promise allows have the same answer and the same output
 pub settled : {o : Outcome} {r r′ : Written} {left left′ : List ℕ} → told r left ≡ o → told r′ left′ ≡ o → (r ≡ r′) × (left ≡ left′)
 settled {r = r} {r′ = r′} p q =
     let same = p ∙ sym q in

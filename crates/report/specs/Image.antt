@@ -1,8 +1,9 @@
 -- The image of a memory: a portable graymap of 16 bits (PGM, `P5`), the topmost row first, so that a picture whose row 0 is the lowest stands
 -- upright.
+use mathlib.Core.Path.{_≡_}
 use Prim.Native.Nat.{ℕ, zero, suc, _+_, _-_, _*_, _/_, _%_}
 use mathlib.Core.List.{List, [], _∷_, _++_}
-use lib.ListN.{getD}
+use lib.ListN.{length, getD}
 use Rattle.report.specs.Text.{field, pair}
 
 -- `P5`, and the line's end
@@ -34,3 +35,10 @@ down line memory below (suc k) = down line memory below k ++ rowBytes line memor
 -- the image of a memory's lowest rows
 unfoldable pub image : ℕ → ℕ → List ℕ → List ℕ
 image line rows memory = imageHeading line rows ++ down line memory rows rows
+
+-- a part that stands in a text, at a place
+pub record Holds (text : List ℕ) (at : ℕ) (part : List ℕ) : Type 0 where
+  pub before : List ℕ
+  pub after : List ℕ
+  pub whole : text ≡ before ++ part ++ after
+  pub place : at ≡ length before

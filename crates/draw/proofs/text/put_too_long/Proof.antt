@@ -5,8 +5,8 @@ use borrow.Author.Needs.{needs}
 use lib.Seq.{sets-eq}
 use lib.ListN.{length-set}
 use Rattle.stream.specs.Calls.{over}
+use Rattle.report.proofs.Calls.{stands}
 use Rattle.draw.specs.Draw.{tooLong}
-use Rattle.draw.proofs.Page.{stands}
 use Rattle.draw.proofs.text.put_too_long.Statement.{statement}
 use Rattle.draw.proofs.text.put_too_long.Tie as tie
 

@@ -1,0 +1,83 @@
+-- Pages: each has a row, and together they are the image. Assumes nothing.
+use mathlib.Core.Path.{_≡_, refl, sym, ap, _∙_}
+use mathlib.Core.Bool.{Bool, true, false}
+use mathlib.Core.List.{List, _++_}
+use Prim.Native.Nat.{ℕ, zero, suc, _+_, _-_, _*_, _/_, _≤_, _<_, min}
+use native.Mathlib.Nat.{div-zero, le-trans, mul-le-mul-right, div-mul-le-self, le-div-iff-mul-le}
+use native.Mathlib.Omega.{arith}
+use borrow.Author.Tests.{ltb-true, ltb-false}
+use lib.ListN.{length, take, replicate, length-replicate}
+use lib.Dec.{ltb}
+use Rattle.report.specs.Image.{imageHeading, down, image}
+use Rattle.report.proofs.Pages.{down-join}
+use Rattle.show.specs.Show.{blankOf, Blank, Fresh, pageRows, pages}
+
+-- rows that fit have a length
+pub rows-line : (places line rows : ℕ) → rows ≡ places / line → (rows ≡ 0 → ⊥) → 0 < line
+rows-line places zero rows e h = absurd (h (e ∙ div-zero places))
+rows-line places (suc line) rows e h = omega arith
+
+-- ---- one page
+
+module _ (line below : ℕ) where
+  pub page-low : pageRows line below ≤ below
+  unfolding pageRows
+  page-low = omega arith
+
+  -- it fits
+  pub page-fits : 0 < line → pageRows line below * (2 * line) ≤ 131072
+  unfolding pageRows
+  page-fits h =
+      let few : min below (131072 / (2 * line)) ≤ 131072 / (2 * line) = omega arith in
+      le-trans (mul-le-mul-right (2 * line) few) (div-mul-le-self 131072 (2 * line))
+
+  -- it has a row, for any line length of 16 bits
+  pub page-some : 0 < line → line < 65536 → 0 < below → 0 < pageRows line below
+  unfolding pageRows
+  page-some h k b =
+      let wide : 0 < 2 * line = omega arith in
+      let one : 1 * (2 * line) ≤ 131072 = omega arith in
+      let q : 1 ≤ 131072 / (2 * line) = le-div-iff-mul-le wide .1 one in
+      omega (arith, q)
+
+-- ---- all of them
+
+module _ (line : ℕ) (h : 0 < line) (k : line < 65536) where
+  page-left : (below n : ℕ) → below ≤ suc n → below - pageRows line below ≤ n
+  page-left below n b = go (ltb 0 below) refl
+    where
+      go : (t : Bool) → ltb 0 below ≡ t → below - pageRows line below ≤ n
+      go true e = omega (arith, page-some line below h k (ltb-true 0 below e))
+      go false e = omega (arith, ltb-false 0 below e)
+
+  pages-down : (memory : List ℕ) (n below : ℕ) → below ≤ n → pages line memory below n ≡ down line memory below below
+  unfolding pages down
+  pages-down memory zero below b =
+      let none : below ≡ 0 = omega arith in
+      rw none
+  pages-down memory (suc n) below b =
+      let p = pageRows line below in
+      let all : p + (below - p) ≡ below = omega (arith, page-low line below) in
+      rw (pages-down memory n (below - p) (page-left below n b)) (sym (down-join line memory below p (below - p)) ∙ ap (down line memory below) all)
+
+  -- the heading and the pages, written one after the other, are the image
+  pub shown-image : (rows : ℕ) (memory : List ℕ) → imageHeading line rows ++ pages line memory rows rows ≡ image line rows memory
+  unfolding image
+  shown-image rows memory = rw (pages-down memory rows rows (omega arith))
+
+-- ---- fresh memories
+
+take-replicate : (n m a : ℕ) → n ≤ m → take n (replicate m a) ≡ replicate n a
+take-replicate zero m a h = refl
+take-replicate (suc n) zero a h = absurd (omega arith)
+take-replicate (suc n) (suc m) a h = rw (take-replicate n m a (omega arith))
+
+take-blank : (n a : ℕ) {memory : List ℕ} → n ≤ 1048576 → Blank a memory → take n memory ≡ replicate n a
+unfolding blankOf
+take-blank n a h b = rw (b .same) (take-replicate n 1048576 a h)
+
+-- the first places of blank ones are fresh memories
+pub fresh : (n : ℕ) {im zm : List ℕ} → n ≤ 1048576 → Blank 0 im → Blank 65535 zm → Fresh (take n im) (take n zm)
+fresh n {im} {zm} h p q =
+    let size : length (take n im) ≡ n = ap (length {A = ℕ}) (take-blank n 0 h p) ∙ length-replicate n 0 in
+    record { dark = take-blank n 0 h p ∙ ap (λ (k : ℕ). replicate k 0) (sym size); far = take-blank n 65535 h q ∙ ap (λ (k : ℕ). replicate k 65535) (sym size) }

@@ -1,0 +1,108 @@
+-- `main` meets its contract: no more places are asked for than there may be. Assumes nothing.
+use borrow.Author.Needs.{needs}
+use Rattle.show.proofs.Reading.{asked-few}
+use Rattle.show.proofs.main.Statement.{statement}
+use Rattle.show.proofs.main.Tie as tie
+
+slice-aggregate-arg : tie.Need-slice-aggregate-arg
+slice-aggregate-arg c = search needs
+
+arg-requires : tie.Need-arg-requires
+arg-requires c κs = search needs
+
+slice-aggregate-arg-2 : tie.Need-slice-aggregate-arg-2
+slice-aggregate-arg-2 c = search needs
+
+arg-requires-2 : tie.Need-arg-requires-2
+arg-requires-2 c κs = search needs
+
+arg-count-requires : tie.Need-arg-count-requires
+arg-count-requires c κs = search needs
+
+array-share-prefix-first : tie.Need-array-share-prefix-first
+array-share-prefix-first c = search needs
+
+slice-aggregate-asked : tie.Need-slice-aggregate-asked
+slice-aggregate-asked c = search needs
+
+array-share-prefix-second : tie.Need-array-share-prefix-second
+array-share-prefix-second c = search needs
+
+slice-aggregate-asked-2 : tie.Need-slice-aggregate-asked-2
+slice-aggregate-asked-2 c = search needs
+
+asked-requires : tie.Need-asked-requires
+asked-requires c κs = search needs
+
+enum-known-wanted : tie.Need-enum-known-wanted
+enum-known-wanted c = search needs
+
+read-requires : tie.Need-read-requires
+read-requires c κs =
+    let w = c .before .before .before in rw (c .before .wanted .given .1) at (asked-few (w .asked .result) _ _ _ (w .asked .ensures))
+
+enum-known-wanted-2 : tie.Need-enum-known-wanted-2
+enum-known-wanted-2 c = search needs
+
+read-requires-2 : tie.Need-read-requires-2
+read-requires-2 c κs =
+    let w = c .before .before .before in rw (c .before .wanted2 .given .1) at (asked-few (w .asked .result) _ _ _ (w .asked .ensures))
+
+enum-told : tie.Need-enum-told
+enum-told c = search needs
+
+slice-aggregate-say : tie.Need-slice-aggregate-say
+slice-aggregate-say c = search needs
+
+say-requires : tie.Need-say-requires
+say-requires c κs = search needs
+
+enum-told-2 : tie.Need-enum-told-2
+enum-told-2 c = search needs
+
+slice-aggregate-say-2 : tie.Need-slice-aggregate-say-2
+slice-aggregate-say-2 c = search needs
+
+say-requires-2 : tie.Need-say-requires-2
+say-requires-2 c κs = search needs
+
+returns : tie.Need-returns
+returns c = search needs
+
+returns-2 : tie.Need-returns-2
+returns-2 c = search needs
+
+returns-3 : tie.Need-returns-3
+returns-3 c = search needs
+
+returns-4 : tie.Need-returns-4
+returns-4 c = search needs
+
+pub main-spec : {M : Type 1} → statement M
+main-spec =
+    tie.close
+    (tie.spec
+    slice-aggregate-arg
+    arg-requires
+    slice-aggregate-arg-2
+    arg-requires-2
+    arg-count-requires
+    array-share-prefix-first
+    slice-aggregate-asked
+    array-share-prefix-second
+    slice-aggregate-asked-2
+    asked-requires
+    enum-known-wanted
+    read-requires
+    enum-known-wanted-2
+    read-requires-2
+    enum-told
+    slice-aggregate-say
+    say-requires
+    enum-told-2
+    slice-aggregate-say-2
+    say-requires-2
+    returns
+    returns-2
+    returns-3
+    returns-4)

@@ -1,0 +1,36 @@
+-- `page::put_rows` meets its contract: no more rows are asked for than fit. Assumes nothing.
+use native.Mathlib.Omega.{arith}
+use borrow.Author.Needs.{needs}
+use Rattle.report.specs.Image.{down}
+use Rattle.report.proofs.Pages.{length-down}
+use Rattle.report.proofs.Calls.{answer-stands, answer-fits}
+use Rattle.show.proofs.page.put_rows.Statement.{statement}
+use Rattle.show.proofs.page.put_rows.Tie as tie
+
+image-rows-requires : tie.Need-image-rows-requires
+image-rows-requires c κs = search needs
+
+enum-known-answer : tie.Need-enum-known-answer
+enum-known-answer c = search needs
+
+enum-told : tie.Need-enum-told
+enum-told c = search needs
+
+returns : tie.Need-returns
+returns c =
+    let w = c .before .before .before in
+    let a = w .before .before .before .args in
+    let size = length-down (a .line) (a .memory .now) (a .below) (a .count) in
+    answer-stands (down (a .line) (a .memory .now) (a .below) (a .count)) (a .page .now) _ (omega (arith, size)) (w .image-rows .ensures) (c .before .answer .given .1)
+
+returns-2 : tie.Need-returns-2
+returns-2 c =
+    let w = c .before .before in
+    let a = w .before .before .before .args in
+    let size = length-down (a .line) (a .memory .now) (a .below) (a .count) in
+    absurd
+    (answer-fits (down (a .line) (a .memory .now) (a .below) (a .count)) (a .page .now) _ (omega (arith, size)) (w .image-rows .ensures) (c .enum-told .given .1))
+
+pub put-rows-spec : {M : Type 1} → statement M
+put-rows-spec =
+    tie.close (tie.spec image-rows-requires enum-known-answer enum-told returns returns-2)

@@ -1,0 +1,110 @@
+// What the arguments ask for: which memory, and how many places the memories have.
+ghost use mathlib.Core.Path.{_≡_};
+ghost use Prim.Native.Nat.{_+_, _*_, _%_, _≤_, min};
+ghost use Rattle.show.specs.Arguments.{isDigit, digitsOnly, valueOf, placesIf, memoryOf, askedFor, askedOf};
+use crate::Asked;
+use picture::place::least;
+
+// Whether a byte is a digit.
+fn is_digit(byte: u8) -> bool
+    ensures { λ r. ⌜ r ≡ isDigit byte ⌝ }
+{
+    !(byte < 48) & (byte < 58)
+}
+
+// Whether all bytes are digits.
+fn digits_only(arg: &[u8]) -> bool
+    ensures { λ r. ⌜ r ≡ digitsOnly (now (arg .entry)) ⌝ }
+{
+    let mut k = 0;
+    while k < arg.len() {
+        if !is_digit(arg[k]) {
+            return false;
+        }
+        k += 1;
+    }
+    true
+}
+
+// A number with one digit more, or 1,048,577 if it is greater: no number of digits can wrap.
+fn with_digit(n: usize, byte: u8) -> usize
+    requires { ⌜ n ≤ 1048577 ⌝ }
+    ensures { λ r. ⌜ r ≡ min (n * 10 + byte % 16) 1048577 ⌝ }
+{
+    least(n * 10 + (byte % 16) as usize, 1048577)
+}
+
+// The number that digits tell, or 1,048,577 if it is greater.
+fn value(arg: &[u8]) -> usize
+    ensures { λ r. ⌜ r ≡ min (valueOf 0 (now (arg .entry))) 1048577 ⌝ }
+{
+    let mut n = 0;
+    let mut k = 0;
+    while k < arg.len() {
+        n = with_digit(n, arg[k]);
+        k += 1;
+    }
+    n
+}
+
+// How many places an argument asks for, if it is given.
+fn places_if(given: bool, arg: &[u8]) -> usize
+    ensures { λ r. ⌜ r ≡ placesIf given (now (arg .entry)) ⌝ }
+{
+    if !given {
+        return 1048576;
+    }
+    if digits_only(arg) {
+        return value(arg);
+    }
+    0
+}
+
+// Which memory an argument names.
+fn memory_of(arg: &[u8]) -> u8
+    ensures { λ r. ⌜ r ≡ memoryOf (now (arg .entry)) ⌝ }
+{
+    if arg.len() != 1 {
+        return 0;
+    }
+    if arg[0] == b'i' {
+        return 1;
+    }
+    if arg[0] == b'z' {
+        return 2;
+    }
+    0
+}
+
+// A memory and a number of places.
+fn asked_for(memory: u8, places: usize) -> Asked
+    ensures { λ r. ⌜ r ≡ askedFor memory places ⌝ }
+{
+    if places == 0 {
+        return Asked::Unclear;
+    }
+    if 1048576 < places {
+        return Asked::TooMany;
+    }
+    if memory == 2 {
+        return Asked::Depth(places);
+    }
+    Asked::Intensity(places)
+}
+
+// What the arguments ask for. `count` has the program's own name among them, and an argument that is missing is empty.
+pub(crate) fn asked(count: usize, first: &[u8], second: &[u8]) -> Asked
+    ensures { λ r. ⌜ r ≡ askedOf count (now (first .entry)) (now (second .entry)) ⌝ }
+{
+    let memory = memory_of(first);
+    if memory == 0 {
+        if 2 < count {
+            return Asked::Unclear;
+        }
+        return asked_for(1, places_if(1 < count, first));
+    }
+    if 3 < count {
+        return Asked::Unclear;
+    }
+    asked_for(memory, places_if(2 < count, second))
+}
