@@ -4,6 +4,7 @@ ghost use Prim.Native.Nat.{_≤_};
 ghost use lib.ListN.{length};
 use input::Taken;
 use input::recording;
+use input::say;
 use input::take;
 use libc::STDERR_FILENO;
 use libc::STDOUT_FILENO;
@@ -13,11 +14,6 @@ use listing::read::read;
 use listing::read::start;
 use stream::Coded;
 use stream::write::pack;
-
-// A line to whoever started the program.
-fn say(text: &[u8]) {
-    io::write_all(STDERR_FILENO, text);
-}
 
 // Says in which line something stands that is no word.
 fn say_no_word(line: u64) {
@@ -33,7 +29,8 @@ fn write(bytes: &[u8]) {
     }
 }
 
-// Writes the recording of some words. They were read from five digits each, and there is room for all of them, so that no refusal comes.
+// Writes the recording of some words. They were read from five digits each, and there is room for all of them, so that no refusal comes
+// (by reasoning, not by proof).
 fn write_packed(words: &[u32]) {
     let mut out = recording();
     let answer = pack(words, &mut out);
@@ -61,28 +58,33 @@ fn finish(r: Reader, words: &mut [u32])
     }
 }
 
-// Reads the text piece by piece. A text of up to 16 MiB is read to its end, so that the listing of the longest recording is.
+// Reads the text piece by piece; one that is not full is the last. A text of less than 16 MiB is read to its end, so that the listing of
+// the longest recording is.
 fn assemble(words: &mut [u32]) {
     let mut piece = io::large_buffer();
     let mut r = start();
-    let mut left: usize = 257;
+    let mut left: usize = 256;
     while 0 < left {
         let taken = take(&mut piece);
         let Taken::Bytes(n) = taken else {
             os::fail(b"assemble: standard input");
             return;
         };
-        if n == 0 {
+        r = read(r, &piece[..n], words);
+        if n < 65536 {
             finish(r, words);
             return;
         }
-        r = read(r, &piece[..n], words);
         left -= 1;
     }
-    say(b"assemble: the text is longer than 16777216 bytes\n");
+    say(b"assemble: the text has 16777216 bytes or more\n");
 }
 
 fn main() {
+    if 1 < os::arg_count() {
+        say(b"usage: assemble < TEXT > RECORDING\n");
+        return;
+    }
     let mut words = input::words();
     assemble(&mut words);
 }

@@ -1,15 +1,21 @@
 // Standard input, for the programs: read to its end or until a lent buffer is full. Which bytes come no contract can say; specs/Input.antt
-// says how many may. And room for what is read.
-ghost use mathlib.Core.Path.{_≡_};
+// says how many may. Beside it, room for what is read, and what a program has to say.
 ghost use lib.ListN.{length};
 ghost use Prim.Native.Nat.{_≤_, _-_};
 ghost use Rattle.input.specs.Input.{Within};
+ghost use Rattle.input.specs.Room.{Filled};
+use libc::STDERR_FILENO;
 use libc::STDIN_FILENO;
 
 // How many bytes came, or that a read failed.
 pub enum Taken {
     Bytes(usize),
     Failed,
+}
+
+// A line to whoever started the program, on standard error.
+pub fn say(text: &[u8]) {
+    io::write_all(STDERR_FILENO, text);
 }
 
 // One read, to index `at` and behind it; 0 bytes at the end of the input.
@@ -42,17 +48,16 @@ pub fn take(buf: &mut [u8]) -> Taken
     Taken::Bytes(at)
 }
 
-// Room for a recording of 1,048,576 bytes and one byte more, which is enough to tell that it is too long. The `ensures` gives only the length,
-// so that no proof that lends it looks at its places one by one.
+// Room for a recording of 1,048,576 bytes and one byte more, which is enough to tell that it is too long.
 pub fn recording() -> [u8; 1048577]
-    ensures { λ r. ⌜ 1048577 ≡ length r ⌝ }
+    ensures { λ r. ⌜ Filled 1048577 0 r ⌝ }
 {
     [0; 1048577]
 }
 
-// Room for the words of such a recording, likewise.
+// Room for the words of such a recording.
 pub fn words() -> [u32; 419430]
-    ensures { λ r. ⌜ 419430 ≡ length r ⌝ }
+    ensures { λ r. ⌜ Filled 419430 0 r ⌝ }
 {
     [0; 419430]
 }

@@ -6,8 +6,8 @@ ghost use Prim.Native.Nat.{_≤_};
 ghost use lib.ListN.{length};
 use input::Taken;
 use input::recording;
+use input::say;
 use input::take;
-use libc::STDERR_FILENO;
 use libc::STDOUT_FILENO;
 use page::put_page;
 use stream::Coded;
@@ -39,7 +39,7 @@ fn print_words(words: &[u32]) -> bool
 }
 
 // Prints the words of a stream, or the number that refuses it. There is room for the words of 1,048,576 bytes, and words that are unpacked
-// have 20 bits, so that the last two cases never come.
+// have 20 bits, so that the last two cases never come (by reasoning, not by proof).
 fn print_stream(bytes: &[u8]) -> bool {
     let mut words = input::words();
     let answer = unpack(bytes, &mut words);
@@ -52,19 +52,21 @@ fn print_stream(bytes: &[u8]) -> bool {
     }
 }
 
-// Lists the bytes that were read.
+// Lists the bytes that were read. `too long` is no text of words, so that nothing takes it for the listing of an empty recording.
 fn list(bytes: &[u8]) {
     if 1048576 < bytes.len() {
-        io::write_all(
-            STDERR_FILENO,
-            b"list: the recording is longer than 1048576 bytes\n",
-        );
+        say(b"list: the recording is longer than 1048576 bytes\n");
+        print(b"too long\n");
         return;
     }
     print_stream(bytes);
 }
 
 fn main() {
+    if 1 < os::arg_count() {
+        say(b"usage: list < RECORDING > TEXT\n");
+        return;
+    }
     let mut bytes = recording();
     let taken = take(&mut bytes);
     match taken {

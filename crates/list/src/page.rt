@@ -1,4 +1,4 @@
-// Pages of a listing, of 2,520 lines each: as many as a write takes well.
+// Pages of a listing, of 2,520 lines each: as many as fit a buffer of 65,536 bytes.
 ghost use Prim.Native.Nat.{_≤_, min};
 ghost use mathlib.Core.Path.{_≡_};
 ghost use lib.ListN.{length};

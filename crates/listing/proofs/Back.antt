@@ -7,22 +7,20 @@ use mathlib.Core.Logic.{_≢_}
 use Prim.Native.Nat.{ℕ, zero, suc, _+_, _-_, _*_, _/_, _%_, _^_, _≤_, _<_}
 use native.Mathlib.Nat.{mod-lt, zero-add, mul-comm, pow-succ', div-lt-iff-lt-mul}
 use native.Mathlib.Numerals.{add-one}
-use native.Mathlib.Decide.{ℕ-discrete}
 use native.Mathlib.Omega.{arith}
 use lib.ListN.{length, getD, set, take, drop}
 use lib.Seq.{sets, length-sets, take-suc, take-length, length-take-le, take-append-seam}
 use lib.Dec.{T, ltb, eqb}
-use borrow.Author.Tests.{lt-ltb, le-ltb, eq-eqb, ne-eqb, ltb-true, ltb-false, eqb-false}
+use borrow.Author.Tests.{lt-ltb, le-ltb, ne-eqb, ltb-true, ltb-false, eqb-false}
 use Rattle.stream.specs.Format.{unpackOf, packOf}
 use Rattle.stream.specs.Calls.{checked, over}
 use Rattle.stream.proofs.Bits.{Fits, fits-at}
 use Rattle.stream.proofs.Round.{unpack-fits, pack-unpack}
 use Rattle.report.specs.Calls.{Put}
 use Rattle.report.proofs.Putting.{put-byte, put-append, put-over}
-use Rattle.listing.specs.declared.read.Reader.{Reader}
 use Rattle.listing.specs.declared.read.Mood.the-variants.{Words, Remark}
 use Rattle.listing.specs.Text.{glyph, digits, names, nameOf, placed, line, lines, listing}
-use Rattle.listing.specs.Reading.{Reading, reading, reader, digitOf, isEnd, inMood, lined, grown, stored, closed, passed, ended, inWords, remarked, taken, readOn, wordsIn, fresh}
+use Rattle.listing.specs.Reading.{Reading, reading, reader, digitOf, isEnd, grown, stored, closed, passed, ended, inWords, remarked, taken, readOn, wordsIn, fresh}
 
 -- ---- reading on, in parts
 
@@ -148,11 +146,6 @@ module _ (held ln : ℕ) (ws : List ℕ) where
   unfolding begun taken inWords digitOf isEnd closed stored ended passed
   takes-word v h = rw (lt-ltb held (length ws) h)
 
-  -- # starts a remark
-  takes-mark : taken (begun 0 0) 35 ≡ reading (reader Remark 0 0 held ln) ws
-  unfolding begun taken inWords digitOf isEnd closed ended passed
-  takes-mark = refl
-
   -- a line's end ends it
   takes-end : taken (reading (reader Remark 0 0 held ln) ws) 10 ≡ reading (reader Words 0 0 held ((ln + 1) % 2 ^ 64)) ws
   unfolding taken remarked
@@ -168,13 +161,12 @@ module _ (held ln : ℕ) (ws : List ℕ) where
   takes-remark none = refl
   takes-remark (more {b} {text} e q) = ap (λ (s : Reading). readOn s text) (takes-quiet b e) ∙ takes-remark q
 
-  -- ---- a line
+  -- the word is stored, and a remark begins
+  takes-marked : (w : ℕ) → held < length ws → readOn (begun w 5) (32 ∷ 35 ∷ 32 ∷ []) ≡ reading (reader Remark 0 0 (held + 1) ln) (set ws held w)
+  unfolding readOn taken remarked inWords digitOf isEnd closed ended passed
+  takes-marked w room = ap (λ (s : Reading). taken (taken s 35) 32) (takes-word w room)
 
-  module _ (index w : ℕ) (h : w < 2 ^ 20) (room : held < length ws) where
-    -- the word is stored, and a remark begins
-    takes-marked : readOn (begun w 5) (32 ∷ 35 ∷ 32 ∷ []) ≡ reading (reader Remark 0 0 (held + 1) ln) (set ws held w)
-    unfolding readOn taken remarked inWords digitOf isEnd closed ended passed
-    takes-marked = ap (λ (s : Reading). taken (taken s 35) 32) (takes-word w room)
+-- ---- a line
 
 -- a line is read as its word, from the next place of the buffer
 pub read-line : (held ln index w : ℕ) (ws : List ℕ) → w < 2 ^ 20 → held < length ws
@@ -187,7 +179,7 @@ read-line held ln index w ws h room =
     let place = digits 10 7 index in
     let name = nameOf (w / 65536 % 16) in
     let operand = digits 16 4 w in
-    let marked = reads s word mark (takes-digits held ln ws 5 w h (omega arith) h) (takes-marked held ln ws index w h room) in
+    let marked = reads s word mark (takes-digits held ln ws 5 w h (omega arith) h) (takes-marked held ln ws w room) in
     let placed = reads s (word ++ mark) place marked (takes-remark (held + 1) ln (set ws held w) (quiet-digits 10 7 index)) in
     let named = reads s (word ++ mark ++ place) name placed (takes-remark (held + 1) ln (set ws held w) (quiet-name (w / 65536 % 16))) in
     let all = reads s (word ++ mark ++ place ++ name) operand named (takes-remark (held + 1) ln (set ws held w) (quiet-digits 16 4 w)) in

@@ -1,21 +1,16 @@
 -- Reading keeps the buffer's length, and never stores more words than it has room for. Assumes nothing.
 use mathlib.Core.Path.{_≡_, refl, sym, _∙_, subst}
-use mathlib.Core.Bool.{Bool, true, false, cond}
 use mathlib.Core.List.{List, [], _∷_}
-use Prim.Native.Nat.{ℕ, _+_, _≤_, _<_}
+use Prim.Native.Nat.{ℕ, _≤_}
 use native.Mathlib.Omega.{arith}
-use lib.ListN.{length, set, length-set}
+use lib.ListN.{length, length-set}
 use lib.Dec.{ltb, eqb}
 use borrow.Author.Tests.{ltb-true}
+use Rattle.report.proofs.Choice.{either}
 use Rattle.listing.specs.declared.read.Reader.{Reader}
 use Rattle.listing.specs.declared.read.Mood.{Mood}
 use Rattle.listing.specs.declared.read.Mood.the-variants.{Words, Remark, NotWord, NoRoom}
-use Rattle.listing.specs.Reading.{Reading, reading, digitOf, isEnd, inMood, lined, grown, stored, closed, passed, after, ended, inWords, remarked, taking, taken, readOn, fresh}
-
--- a choice keeps what both of its sides keep
-either : {A : Type 0} (P : A → Type 0) (b : Bool) {x y : A} → (b ≡ true → P x) → (b ≡ false → P y) → P (cond b x y)
-either P true p q = p refl
-either P false p q = q refl
+use Rattle.listing.specs.Reading.{Reading, reading, digitOf, isEnd, grown, stored, closed, passed, after, ended, inWords, remarked, taking, taken, readOn}
 
 module _ (n : ℕ) where
   -- the buffer has n places, and no more words are stored

@@ -7,8 +7,7 @@ use native.Mathlib.Numerals.{add-one}
 use native.Mathlib.Omega.{arith}
 use lib.ListN.{length, getD, set, take, drop, length-append, length-drop}
 use lib.Seq.{sets, drop-cons, length-take-le, getD-take, getD-drop}
-use Rattle.report.specs.Calls.{Put}
-use Rattle.report.proofs.Putting.{store-first, put-none, put-append}
+use Rattle.report.proofs.Putting.{store-first}
 use Rattle.listing.specs.Text.{glyph, digits, names, nameOf, placed, line, lines, listing}
 
 -- ---- digits, stored from the last to the first

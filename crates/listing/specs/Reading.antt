@@ -2,8 +2,8 @@
 -- line's end stands a remark. It is read byte by byte, so that a text may come in pieces. The words are stored from the front of a lent
 -- buffer on.
 use Prim.Native.Nat.{ℕ, _+_, _-_, _*_, _%_, _^_}
-use mathlib.Core.Bool.{Bool, cond, _&&_, _||_, not}
-use mathlib.Core.List.{List, [], _∷_, foldl}
+use mathlib.Core.Bool.{Bool, cond, _||_}
+use mathlib.Core.List.{List, foldl}
 use lib.ListN.{length, set, take}
 use lib.Dec.{ltb, eqb}
 use Rattle.listing.specs.declared.read.Reader.{Reader}
@@ -34,7 +34,7 @@ isEnd b = eqb b 32 || eqb b 9 || eqb b 13 || eqb b 10 || eqb b 35
 
 -- ---- one byte
 
--- the same, in another mood
+-- the same reader, in another mood
 abbrev pub inMood : Mood → Reader → Reader
 inMood mood r = reader mood (r .value) (r .digits) (r .held) (r .line)
 
@@ -43,13 +43,14 @@ unfoldable pub grown : Reader → ℕ → Reader
 grown r d =
     cond (ltb (r .digits) 5) (reader (r .mood) (r .value % 65536 * 16 + d) (r .digits + 1) (r .held) (r .line)) (inMood NotWord r)
 
--- a word's end: five digits are a word, and it is stored; fewer are none
+-- the word that has begun, stored at the next place, if there is room
 unfoldable pub stored : Reading → Reading
 stored s =
     cond (ltb (s .reader .held) (length (s .words)))
     (reading (reader Words 0 0 (s .reader .held + 1) (s .reader .line)) (set (s .words) (s .reader .held) (s .reader .value)))
     (reading (inMood NoRoom (s .reader)) (s .words))
 
+-- a word's end: five digits are a word, no digits are nothing, and any other number of digits is no word
 unfoldable pub closed : Reading → Reading
 closed s =
     cond (eqb (s .reader .digits) 0) s (cond (eqb (s .reader .digits) 5) (stored s) (reading (inMood NotWord (s .reader)) (s .words)))
@@ -98,7 +99,7 @@ taken s b = taking (s .reader .mood) s b
 abbrev pub fresh : Reader
 fresh = reader Words 0 0 0 1
 
--- a text more
+-- a text more. A word is stored when the byte behind it comes, so that a whole text ends with a line's end or a blank
 unfoldable pub readOn : Reading → List ℕ → Reading
 readOn s text = foldl taken s text
 

@@ -37,6 +37,7 @@ names =
     ∷ 32 ∷ 65 ∷ 85 ∷ 88 ∷ 32 ∷ 32
     ∷ 32 ∷ 73 ∷ 78 ∷ 73 ∷ 84 ∷ 32 ∷ []
 
+-- the name of a command, with a blank on both sides
 unfoldable pub nameOf : ℕ → List ℕ
 nameOf command = take 6 (drop (6 * command) names)
 

@@ -117,7 +117,7 @@ fn store(r: Reader, words: &mut [u32]) -> Reader
     in_mood(Mood::NoRoom, r)
 }
 
-// A word's end: five digits are a word, and none is none.
+// A word's end: five digits are a word, no digits are nothing, and any other number of digits is no word.
 fn close(r: Reader, words: &mut [u32]) -> Reader
     ensures { λ a. ⌜ reading a (now (words .exit)) ≡ closed (reading r (now (words .entry))) ⌝ }
 {
@@ -207,7 +207,8 @@ fn take(r: Reader, b: u8, words: &mut [u32]) -> Reader
     }
 }
 
-// Reads on, over a text that may be a piece of one. The words are stored behind those that the reader has.
+// Reads on, over a text that may be a piece of one. The words are stored behind those that the reader has, each when the byte behind it comes,
+// so that a whole text ends with a line's end or a blank. Where reading has stopped, `mood` says why and `line` where.
 pub fn read(r: Reader, text: &[u8], words: &mut [u32]) -> Reader
     ensures { λ a. ⌜ reading a (now (words .exit)) ≡ readOn (reading r (now (words .entry))) (now (text .entry)) ⌝ }
 {

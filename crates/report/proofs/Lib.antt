@@ -7,3 +7,4 @@ pub mod Room
 pub mod Calls
 pub mod Settled
 pub mod Example
+pub mod Choice

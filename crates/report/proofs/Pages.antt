@@ -10,7 +10,7 @@ use borrow.Author.Tests.{lt-ltb, le-ltb, ltb-true, ltb-false}
 use lib.ListN.{length, getD, length-append, List·getD-eq-default}
 use lib.Dec.{ltb}
 use Rattle.report.specs.Text.{digits, decimal, field, pair}
-use Rattle.report.specs.Image.{magic, imageHeading, twoBytes, numbers, rowBytes, down, image}
+use Rattle.report.specs.Image.{magic, imageHeading, twoBytes, numbers, rowBytes, down}
 use Rattle.report.proofs.Decimal.{decimal-short}
 use Rattle.report.proofs.Lengths.{length-field, length-pair}
 
@@ -130,11 +130,3 @@ module _ (line : ℕ) (memory : List ℕ) where
       let first = down line memory below a in
       let rest = down line memory (below - a) b in
       rw (add-suc a b, down-join below a b, row) (append-assoc first rest (rowBytes line memory (below - a - suc b)))
-
--- an image is its heading, and then its pages
-pub image-pages : (line : ℕ) (memory : List ℕ) (a b : ℕ)
-    → image line (a + b) memory ≡ imageHeading line (a + b) ++ down line memory (a + b) a ++ down line memory b b
-unfolding image
-image-pages line memory a b =
-    let under : a + b - a ≡ b = omega arith in
-    rw (down-join line memory (a + b) a b, under) (sym (append-assoc (imageHeading line (a + b)) (down line memory (a + b) a) (down line memory b b)))

@@ -1,14 +1,13 @@
 // The first line: what came of the run.
 ghost use Prim.Native.Nat.{_+_, _≤_};
-ghost use mathlib.Core.Path.{_≡_};
 ghost use lib.ListN.{length};
 ghost use Rattle.report.specs.Text.{named, heading};
 ghost use Rattle.report.specs.Calls.{Put, Sized};
 use crate::number::digits;
 use crate::number::put_field;
 
-// Puts a name at a place, and tells the place after it.
-pub(crate) fn put_name(name: &[u8], out: &mut [u8], at: usize) -> usize
+// Puts bytes at a place, and tells the place after them.
+pub(crate) fn put_bytes(name: &[u8], out: &mut [u8], at: usize) -> usize
     requires { ⌜ at + length (now name) ≤ length (now out) ⌝ }
     ensures { λ r. ⌜ Put (now (name .entry)) (now (out .entry)) at (now (out .exit)) r ⌝ }
 {
@@ -25,7 +24,7 @@ fn put_named(name: &[u8], n: u64, after: u8, out: &mut [u8], at: usize) -> usize
     requires { ⌜ at + length (named (now name) n after) ≤ length (now out) ⌝ }
     ensures { λ r. ⌜ Put (named (now (name .entry)) n after) (now (out .entry)) at (now (out .exit)) r ⌝ }
 {
-    let next = put_name(name, out, at);
+    let next = put_bytes(name, out, at);
     put_field(n, after, out, next)
 }
 

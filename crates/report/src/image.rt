@@ -6,7 +6,7 @@ ghost use lib.Dec.{ltb};
 ghost use Rattle.report.specs.Image.{imageHeading, twoBytes, numbers, rowBytes, down};
 ghost use Rattle.report.specs.Calls.{Put, Sized, told, writingText};
 use crate::Written;
-use crate::heading::put_name;
+use crate::heading::put_bytes;
 use crate::number::digits;
 use crate::number::put_field;
 use crate::number::put_pair;
@@ -24,7 +24,7 @@ fn put_image_heading(line: u16, rows: usize, out: &mut [u8], at: usize) -> usize
     requires { ⌜ at + length (imageHeading line rows) ≤ length (now out) ⌝ }
     ensures { λ r. ⌜ Put (imageHeading line rows) (now (out .entry)) at (now (out .exit)) r ⌝ }
 {
-    let first = put_name(b"P5\n", out, at);
+    let first = put_bytes(b"P5\n", out, at);
     let second = put_pair(line as u64, rows as u64, b'\n', out, first);
     put_field(65535, b'\n', out, second)
 }

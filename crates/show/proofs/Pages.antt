@@ -10,7 +10,8 @@ use lib.ListN.{length, take, replicate, length-replicate}
 use lib.Dec.{ltb}
 use Rattle.report.specs.Image.{imageHeading, down, image}
 use Rattle.report.proofs.Pages.{down-join}
-use Rattle.show.specs.Show.{blankOf, Blank, Fresh, pageRows, pages}
+use Rattle.input.specs.Room.{filled, Filled}
+use Rattle.show.specs.Show.{Fresh, pageRows, pages}
 
 -- rows that fit have a length
 pub rows-line : (places line rows : ℕ) → rows ≡ places / line → (rows ≡ 0 → ⊥) → 0 < line
@@ -72,12 +73,12 @@ take-replicate zero m a h = refl
 take-replicate (suc n) zero a h = absurd (omega arith)
 take-replicate (suc n) (suc m) a h = rw (take-replicate n m a (omega arith))
 
-take-blank : (n a : ℕ) {memory : List ℕ} → n ≤ 1048576 → Blank a memory → take n memory ≡ replicate n a
-unfolding blankOf
+take-blank : (n a : ℕ) {memory : List ℕ} → n ≤ 1048576 → Filled 1048576 a memory → take n memory ≡ replicate n a
+unfolding filled
 take-blank n a h b = rw (b .same) (take-replicate n 1048576 a h)
 
 -- the first places of blank ones are fresh memories
-pub fresh : (n : ℕ) {im zm : List ℕ} → n ≤ 1048576 → Blank 0 im → Blank 65535 zm → Fresh (take n im) (take n zm)
+pub fresh : (n : ℕ) {im zm : List ℕ} → n ≤ 1048576 → Filled 1048576 0 im → Filled 1048576 65535 zm → Fresh (take n im) (take n zm)
 fresh n {im} {zm} h p q =
     let size : length (take n im) ≡ n = ap (length {A = ℕ}) (take-blank n 0 h p) ∙ length-replicate n 0 in
     record { dark = take-blank n 0 h p ∙ ap (λ (k : ℕ). replicate k 0) (sym size); far = take-blank n 65535 h q ∙ ap (λ (k : ℕ). replicate k 65535) (sym size) }

@@ -11,6 +11,7 @@ use Rattle.show.specs.declared.Asked.the-variants.{Intensity, Depth, Too
 unfoldable pub isDigit : ℕ → Bool
 isDigit byte = not (ltb byte 48) && ltb byte 58
 
+-- whether all bytes are digits
 unfoldable pub digitsOnly : List ℕ → Bool
 digitsOnly [] = true
 digitsOnly (byte ∷ rest) = isDigit byte && digitsOnly rest
@@ -37,7 +38,7 @@ askedFor memory places =
 unfoldable pub placesIf : Bool → List ℕ → ℕ
 placesIf given arg = cond given (placesOf arg) 1048576
 
--- what the arguments ask for, of which there are `count` with the program's name before them; one that is missing is empty
+-- what the arguments ask for, of which there are `count` with the program's name before them; one that is missing, or longer than 64 bytes, is empty
 unfoldable pub askedOf : ℕ → List ℕ → List ℕ → Asked
 askedOf count first second =
     cond (eqb (memoryOf first) 0)

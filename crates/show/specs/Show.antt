@@ -10,14 +10,6 @@ use Rattle.machine.specs.Machine.{Memories, memories}
 use Rattle.chip.specs.Stream.{running}
 use Rattle.report.specs.Image.{down}
 
--- the most places that a memory may have, all with the same number
-unfoldable pub blankOf : ℕ → List ℕ
-blankOf n = replicate 1048576 n
-
-pub record Blank (n : ℕ) (memory : List ℕ) : Type 0 where
-  pub same : memory ≡ blankOf n
-  pub long : 1048576 ≡ length memory
-
 -- memories that nothing was drawn on: I all 0 and Z all 65535
 pub record Fresh (im zm : List ℕ) : Type 0 where
   pub dark : im ≡ replicate (length im) 0

@@ -92,7 +92,7 @@ fn asked_for(memory: u8, places: usize) -> Asked
     Asked::Intensity(places)
 }
 
-// What the arguments ask for. `count` has the program's own name among them, and an argument that is missing is empty.
+// What the arguments ask for. `count` has the program's own name among them, and an argument that is missing, or longer than 64 bytes, is empty.
 pub(crate) fn asked(count: usize, first: &[u8], second: &[u8]) -> Asked
     ensures { λ r. ⌜ r ≡ askedOf count (now (first .entry)) (now (second .entry)) ⌝ }
 {

@@ -10,9 +10,9 @@ ghost use Prim.Native.Nat.{_≤_};
 use arguments::asked;
 use input::Taken;
 use input::recording;
+use input::say;
 use input::take;
 use space::blank;
-use write::say;
 use write::write_drawn;
 
 // What is to be shown, and how large the memories are.
@@ -58,6 +58,8 @@ fn main() {
         Asked::Intensity(places) => read(false, places),
         Asked::Depth(places) => read(true, places),
         Asked::TooMany => say(b"show: the memories have at most 1048576 places\n"),
-        Asked::Unclear => say(b"usage: show [i|z] [PLACES] < RECORDING > IMAGE.pgm\n"),
+        Asked::Unclear => say(
+            b"usage: show [i|z] [PLACES, 1 to 1048576] < RECORDING > IMAGE.pgm   (i: intensity, z: depth)\n",
+        ),
     }
 }

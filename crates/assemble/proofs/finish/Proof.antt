@@ -1,6 +1,5 @@
 -- `finish` meets its contract: no more words are stored than there is room for. Assumes nothing.
 use mathlib.Core.Path.{sym}
-use native.Mathlib.Omega.{arith}
 use lib.Seq.{length-take-le}
 use borrow.Author.Needs.{needs}
 use Rattle.listing.proofs.Kept.{held-fits}

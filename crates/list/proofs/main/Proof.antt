@@ -6,6 +6,18 @@ use borrow.Author.Needs.{needs}
 use Rattle.list.proofs.main.Statement.{statement}
 use Rattle.list.proofs.main.Tie as tie
 
+arg-count-requires : tie.Need-arg-count-requires
+arg-count-requires c κs = search needs
+
+slice-aggregate-say : tie.Need-slice-aggregate-say
+slice-aggregate-say c = search needs
+
+say-requires : tie.Need-say-requires
+say-requires c κs = search needs
+
+returns : tie.Need-returns
+returns c = search needs
+
 recording-requires : tie.Need-recording-requires
 recording-requires c κs = search needs
 
@@ -40,16 +52,20 @@ slice-aggregate-fail c = search needs
 fail-requires : tie.Need-fail-requires
 fail-requires c κs = search needs
 
-returns : tie.Need-returns
-returns c = search needs
-
 returns-2 : tie.Need-returns-2
 returns-2 c = search needs
+
+returns-3 : tie.Need-returns-3
+returns-3 c = search needs
 
 pub main-spec : {M : Type 1} → statement M
 main-spec =
     tie.close
     (tie.spec
+    arg-count-requires
+    slice-aggregate-say
+    say-requires
+    returns
     recording-requires
     slice-aggregate-take
     take-requires
@@ -60,5 +76,5 @@ main-spec =
     enum-told
     slice-aggregate-fail
     fail-requires
-    returns
-    returns-2)
+    returns-2
+    returns-3)

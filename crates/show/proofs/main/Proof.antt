@@ -1,6 +1,6 @@
 -- `main` meets its contract: no more places are asked for than there may be. Assumes nothing.
 use borrow.Author.Needs.{needs}
-use Rattle.show.proofs.Reading.{asked-few}
+use Rattle.show.proofs.Asking.{asked-few}
 use Rattle.show.proofs.main.Statement.{statement}
 use Rattle.show.proofs.main.Tie as tie
 

@@ -1,10 +1,9 @@
 -- `page::put_page` meets its contract: 2,520 lines of 26 bytes always fit, so that they are written and `NoRoom` is never answered. Assumes
 -- nothing.
-use mathlib.Core.Path.{_≡_, sym, ap, _∙_}
+use mathlib.Core.Path.{ap, _∙_}
 use mathlib.Core.List.{List}
 use Prim.Native.Nat.{ℕ}
 use native.Mathlib.Omega.{arith}
-use lib.ListN.{length}
 use borrow.Author.Needs.{needs}
 use Rattle.report.specs.Calls.{writingText}
 use Rattle.report.proofs.Calls.{answer-stands, answer-fits}

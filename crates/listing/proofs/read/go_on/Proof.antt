@@ -1,5 +1,5 @@
 -- `read::go_on` meets its contract, a clause of the definition a mood. Assumes nothing.
-use mathlib.Core.Path.{_≡_, sym, ap, _∙_}
+use mathlib.Core.Path.{sym, ap, _∙_}
 use borrow.Author.Needs.{needs}
 use Rattle.listing.specs.declared.read.Mood.{Mood}
 use Rattle.listing.specs.Reading.{after}

@@ -1,11 +1,11 @@
 -- `read::take` meets its contract, a clause of the definition a mood. Assumes nothing.
-use mathlib.Core.Path.{_≡_, refl, sym, ap, _∙_}
+use mathlib.Core.Path.{_≡_, sym, ap, _∙_}
 use mathlib.Core.List.{List}
 use Prim.Native.Nat.{ℕ}
 use borrow.Author.Needs.{needs}
 use Rattle.listing.specs.declared.read.Mood.{Mood}
 use Rattle.listing.specs.declared.read.Reader.{Reader}
-use Rattle.listing.specs.Reading.{Reading, reading, taking, taken}
+use Rattle.listing.specs.Reading.{reading, taking, taken}
 use Rattle.listing.proofs.read.take.Statement.{statement}
 use Rattle.listing.proofs.read.take.Tie as tie
 

@@ -1,5 +1,5 @@
 -- `read::take_in_words` meets its contract: the byte's digit, and whether it ends words, decide a case of the definition. Assumes nothing.
-use mathlib.Core.Path.{_≡_, sym, ap, _∙_}
+use mathlib.Core.Path.{sym, ap, _∙_}
 use borrow.Author.Needs.{needs}
 use borrow.Author.Tests.{lt-ltb, le-ltb}
 use Rattle.listing.specs.Reading.{Reading, inWords, ended}

@@ -1,7 +1,7 @@
 -- `write::put_digits` meets its contract. The invariant of its loop: the first k digits of the rest, put over what stands, give what all digits
 -- give, put over what stood. The measure is k. Assumes nothing.
 use mathlib.Core.Path.{_≡_, refl, sym, ap, _∙_}
-use Prim.Native.Nat.{ℕ, _+_, _-_, _≤_, _<_}
+use Prim.Native.Nat.{ℕ, _+_, _-_, _≤_}
 use native.Mathlib.Nat.{mod-lt}
 use native.Mathlib.Omega.{arith}
 use lib.ListN.{length, length-set}

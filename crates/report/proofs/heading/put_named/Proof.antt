@@ -7,8 +7,8 @@ use Rattle.report.proofs.Putting.{put-append}
 use Rattle.report.proofs.heading.put_named.Statement.{statement}
 use Rattle.report.proofs.heading.put_named.Tie as tie
 
-put-name-requires : tie.Need-put-name-requires
-put-name-requires c κs = let a = c .before .before .before .args in omega (arith, named-parts (a .name .now) (a .n) (a .after))
+put-bytes-requires : tie.Need-put-bytes-requires
+put-bytes-requires c κs = let a = c .before .before .before .args in omega (arith, named-parts (a .name .now) (a .n) (a .after))
 
 put-field-requires : tie.Need-put-field-requires
 put-field-requires c κs = let a = c .before .before .before .before .before .before .before .args in omega (arith, named-parts (a .name .now) (a .n) (a .after))
@@ -18,7 +18,7 @@ same-length c = search needs
 
 returns : tie.Need-returns
 unfolding named
-returns c = put-append (c .before .before .before .before .before .before .put-name .ensures) (c .before .before .put-field .ensures)
+returns c = put-append (c .before .before .before .before .before .before .put-bytes .ensures) (c .before .before .put-field .ensures)
 
 pub put-named-spec : {M : Type 1} → statement M
-put-named-spec = tie.close (tie.spec put-name-requires put-field-requires same-length returns)
+put-named-spec = tie.close (tie.spec put-bytes-requires put-field-requires same-length returns)

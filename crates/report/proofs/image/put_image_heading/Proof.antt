@@ -7,11 +7,11 @@ use Rattle.report.proofs.Putting.{put-append}
 use Rattle.report.proofs.image.put_image_heading.Statement.{statement}
 use Rattle.report.proofs.image.put_image_heading.Tie as tie
 
-slice-aggregate-put-name : tie.Need-slice-aggregate-put-name
-slice-aggregate-put-name c = search needs
+slice-aggregate-put-bytes : tie.Need-slice-aggregate-put-bytes
+slice-aggregate-put-bytes c = search needs
 
-put-name-requires : tie.Need-put-name-requires
-put-name-requires c κs = let a = c .before .before .before .args in omega (arith, image-heading-parts (a .line) (a .rows))
+put-bytes-requires : tie.Need-put-bytes-requires
+put-bytes-requires c κs = let a = c .before .before .before .args in omega (arith, image-heading-parts (a .line) (a .rows))
 
 put-pair-requires : tie.Need-put-pair-requires
 put-pair-requires c κs = let a = c .before .before .before .before .before .before .before .args in omega (arith, image-heading-parts (a .line) (a .rows))
@@ -32,14 +32,14 @@ returns c =
     let third = c .before .before in
     let second = third .before .before .before .before in
     let first = second .before .before .before .before in
-    put-append (put-append (first .put-name .ensures) (second .put-pair .ensures)) (third .put-field .ensures)
+    put-append (put-append (first .put-bytes .ensures) (second .put-pair .ensures)) (third .put-field .ensures)
 
 pub put-image-heading-spec : {M : Type 1} → statement M
 put-image-heading-spec =
     tie.close
     (tie.spec
-    slice-aggregate-put-name
-    put-name-requires
+    slice-aggregate-put-bytes
+    put-bytes-requires
     put-pair-requires
     put-field-requires
     same-length

@@ -7,7 +7,7 @@ use borrow.Author.Needs.{needs}
 use lib.ListN.{length, drop}
 use lib.Seq.{drop-length}
 use Rattle.show.specs.Arguments.{valueOf}
-use Rattle.show.proofs.Reading.{value-more, value-end}
+use Rattle.show.proofs.Asking.{value-more, value-end}
 use Rattle.show.proofs.arguments.value.Statement.{statement}
 use Rattle.show.proofs.arguments.value.Tie as tie
 

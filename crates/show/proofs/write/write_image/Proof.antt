@@ -1,4 +1,4 @@
--- `write::write_image` meets its contract. The invariant of its loop: no more rows are left than there are. The measure is the number of rows left. Assumes nothing.
+-- `write::write_image` meets its contract. Its loop needs no invariant: each page is asked for anew. The measure is the number of rows left. Assumes nothing.
 use Prim.Native.Nat.{_≤_}
 use native.Mathlib.Omega.{arith}
 use borrow.Author.Needs.{needs}
@@ -7,7 +7,7 @@ use Rattle.show.proofs.write.write_image.Statement.{statement}
 use Rattle.show.proofs.write.write_image.Tie as tie
 
 abbrev Inv-loop : tie.InvT-loop
-Inv-loop depth line rows im zm page₀ size below₀ page below = below ≤ rows
+Inv-loop depth line rows im zm page₀ size below₀ page below = Unit {0}
 
 abbrev μ-loop : tie.MeasureT-loop
 μ-loop depth line rows im zm page₀ size below₀ page below = below
@@ -28,7 +28,7 @@ returns : tie.Need-returns Inv-loop μ-loop
 returns c = search needs
 
 loop-holds : tie.Need-loop-holds Inv-loop μ-loop
-loop-holds c = omega arith
+loop-holds c = tt
 
 page-rows-requires : tie.Need-page-rows-requires Inv-loop μ-loop
 page-rows-requires c κs = c .before .before .before .before .before .before .before .before .before .pre
@@ -64,7 +64,7 @@ loop-less c =
     omega (arith, some, p .page-rows .ensures)
 
 loop-again : tie.Need-loop-again Inv-loop μ-loop
-loop-again c = omega arith
+loop-again c = tt
 
 returns-3 : tie.Need-returns-3 Inv-loop μ-loop
 returns-3 c = search needs

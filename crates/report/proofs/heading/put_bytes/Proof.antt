@@ -1,4 +1,4 @@
--- `heading::put_name` meets its contract. The invariant of its loop: the bytes from k on, put over what stands, give what the whole name
+-- `heading::put_bytes` meets its contract. The invariant of its loop: the bytes from k on, put over what stands, give what the whole name
 -- gives, put over what stood. The measure is the number of bytes left. Assumes nothing.
 use mathlib.Core.Path.{_≡_, refl, sym, ap, _∙_}
 use Prim.Native.Nat.{ℕ, suc, _+_, _-_, _≤_}
@@ -8,8 +8,8 @@ use native.Mathlib.Omega.{arith}
 use borrow.Author.Needs.{needs}
 use lib.ListN.{length, getD, set, drop, length-set}
 use lib.Seq.{sets, drop-cons, drop-length}
-use Rattle.report.proofs.heading.put_name.Statement.{statement}
-use Rattle.report.proofs.heading.put_name.Tie as tie
+use Rattle.report.proofs.heading.put_bytes.Statement.{statement}
+use Rattle.report.proofs.heading.put_bytes.Tie as tie
 
 next : (at k : ℕ) → at + (k + 1) ≡ suc (at + k)
 next at k = omega arith
@@ -63,8 +63,8 @@ returns c =
     let all : l .loop .k ≡ length (a .name .now) = omega arith in
     record { stands = rw (all, drop-length (a .name .now)) at (l .loop .inv .2); ends = ap (λ (k : ℕ). a .at + k) all }
 
-pub put-name-spec : {M : Type 1} → statement M
-put-name-spec =
+pub put-bytes-spec : {M : Type 1} → statement M
+put-bytes-spec =
     tie.close
     (tie.spec
     Inv-loop

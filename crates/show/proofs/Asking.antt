@@ -1,6 +1,6 @@
 -- Arguments, byte by byte. Assumes nothing.
 use mathlib.Core.Path.{_≡_, refl, sym, subst}
-use mathlib.Core.Bool.{Bool, true, false, not, cond}
+use mathlib.Core.Bool.{Bool, true, false, not}
 use mathlib.Core.List.{List, [], _∷_}
 use Prim.Native.Nat.{ℕ, suc, _+_, _*_, _%_, _≤_, _<_, min}
 use native.Mathlib.Numerals.{add-one}
@@ -9,9 +9,9 @@ use borrow.Author.Tests.{ltb-true, ltb-false}
 use lib.ListN.{length, getD, drop}
 use lib.Seq.{drop-cons}
 use lib.Dec.{ltb, eqb}
+use Rattle.report.proofs.Choice.{either}
 use Rattle.show.specs.Arguments.{isDigit, digitsOnly, valueOf, memoryOf, placesIf, askedFor, askedOf, Few}
 use Rattle.show.specs.declared.Asked.{Asked}
-use Rattle.show.specs.declared.Asked.the-variants.{Intensity, Depth, TooMany, Unclear}
 
 pub not-true : (b : Bool) → not b ≡ true → b ≡ false
 not-true true e = sym e
@@ -71,23 +71,19 @@ value-end n h = omega arith
 
 -- ---- what is asked for
 
-either : (b : Bool) (x y : Asked) → (b ≡ true → Few x) → (b ≡ false → Few y) → Few (cond b x y)
-either true x y p q = p refl
-either false x y p q = q refl
-
 for-few : (memory places : ℕ) → Few (askedFor memory places)
 unfolding askedFor
 for-few memory places =
-    either (eqb places 0) Unclear _ (λ e. tt) (λ e.
-    either (ltb 1048576 places) TooMany _ (λ h. tt) (λ h.
-    either (eqb memory 2) (Depth places) (Intensity places) (λ d. ltb-false 1048576 places h) (λ d. ltb-false 1048576 places h)))
+    either Few (eqb places 0) (λ e. tt) (λ e.
+    either Few (ltb 1048576 places) (λ h. tt) (λ h.
+    either Few (eqb memory 2) (λ d. ltb-false 1048576 places h) (λ d. ltb-false 1048576 places h)))
 
 of-few : (count : ℕ) (first second : List ℕ) → Few (askedOf count first second)
 unfolding askedOf
 of-few count first second =
-    either (eqb (memoryOf first) 0) _ _ (λ e.
-    either (ltb 2 count) Unclear _ (λ h. tt) (λ h. for-few 1 (placesIf (ltb 1 count) first))) (λ e.
-    either (ltb 3 count) Unclear _ (λ h. tt) (λ h. for-few (memoryOf first) (placesIf (ltb 2 count) second)))
+    either Few (eqb (memoryOf first) 0) (λ e.
+    either Few (ltb 2 count) (λ h. tt) (λ h. for-few 1 (placesIf (ltb 1 count) first))) (λ e.
+    either Few (ltb 3 count) (λ h. tt) (λ h. for-few (memoryOf first) (placesIf (ltb 2 count) second)))
 
 -- no more places than there may be
 pub asked-few : (r : Asked) (count : ℕ) (first second : List ℕ) → r ≡ askedOf count first second → Few r
