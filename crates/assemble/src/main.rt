@@ -4,7 +4,6 @@ ghost use Prim.Native.Nat.{_≤_};
 ghost use lib.ListN.{length};
 use input::Taken;
 use input::recording;
-use input::say;
 use input::take;
 use libc::STDERR_FILENO;
 use libc::STDOUT_FILENO;
@@ -14,6 +13,11 @@ use listing::read::read;
 use listing::read::start;
 use stream::Coded;
 use stream::write::pack;
+
+// A line to whoever started the program.
+fn say(text: &[u8]) {
+    io::write_all(STDERR_FILENO, text);
+}
 
 // Says in which line something stands that is no word.
 fn say_no_word(line: u64) {

@@ -1,21 +1,15 @@
 // Standard input, for the programs: read to its end or until a lent buffer is full. Which bytes come no contract can say; specs/Input.antt
-// says how many may. Beside it, room for what is read, and what a program has to say.
+// says how many may. Beside it, room for what is read (specs/Room.antt).
 ghost use lib.ListN.{length};
 ghost use Prim.Native.Nat.{_≤_, _-_};
 ghost use Rattle.input.specs.Input.{Within};
 ghost use Rattle.input.specs.Room.{Filled};
-use libc::STDERR_FILENO;
 use libc::STDIN_FILENO;
 
 // How many bytes came, or that a read failed.
 pub enum Taken {
     Bytes(usize),
     Failed,
-}
-
-// A line to whoever started the program, on standard error.
-pub fn say(text: &[u8]) {
-    io::write_all(STDERR_FILENO, text);
 }
 
 // One read, to index `at` and behind it; 0 bytes at the end of the input.

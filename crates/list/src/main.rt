@@ -6,12 +6,17 @@ ghost use Prim.Native.Nat.{_≤_};
 ghost use lib.ListN.{length};
 use input::Taken;
 use input::recording;
-use input::say;
 use input::take;
+use libc::STDERR_FILENO;
 use libc::STDOUT_FILENO;
 use page::put_page;
 use stream::Coded;
 use stream::read::unpack;
+
+// A line to whoever started the program.
+fn say(text: &[u8]) {
+    io::write_all(STDERR_FILENO, text);
+}
 
 // Prints a text, or says that it cannot.
 fn print(text: &[u8]) -> bool {

@@ -10,9 +10,9 @@ ghost use Prim.Native.Nat.{_≤_};
 use arguments::asked;
 use input::Taken;
 use input::recording;
-use input::say;
 use input::take;
 use space::blank;
+use write::say;
 use write::write_drawn;
 
 // What is to be shown, and how large the memories are.

@@ -11,9 +11,13 @@ use crate::page::put_page;
 use crate::page::whole_rows;
 use chip::run::Ran;
 use chip::run::run;
-use input::say;
 use libc::STDERR_FILENO;
 use libc::STDOUT_FILENO;
+
+// A line to whoever started the program.
+pub(crate) fn say(text: &[u8]) {
+    io::write_all(STDERR_FILENO, text);
+}
 
 // Says that a word was refused, or the whole recording: 11 and 12 are of no word.
 fn say_refused(number: u64, word: u64) {
