@@ -10,6 +10,7 @@ use Rattle.listing.specs.declared.read.Reader.{Reader}
 use Rattle.listing.specs.declared.read.Mood.{Mood}
 use Rattle.listing.specs.declared.read.Mood.the-variants.{Words, Remark, NotWord, NoRoom}
 
+-- a reader, by its parts: the mood, the digits that have come as a number and how many they are, the words stored, and the line
 abbrev pub reader : Mood → ℕ → ℕ → ℕ → ℕ → Reader
 reader mood value count held line = record { mood = mood; value = value; digits = count; held = held; line = line }
 
@@ -70,6 +71,7 @@ after Remark r b = r
 after NotWord r b = r
 after NoRoom r b = r
 
+-- the byte behind a word
 unfoldable pub ended : Reading → ℕ → Reading
 ended s b = reading (after (s .reader .mood) (s .reader) b) (s .words)
 
@@ -90,6 +92,7 @@ taking Remark s b = reading (remarked (s .reader) b) (s .words)
 taking NotWord s b = s
 taking NoRoom s b = s
 
+-- one byte more
 unfoldable pub taken : Reading → ℕ → Reading
 taken s b = taking (s .reader .mood) s b
 

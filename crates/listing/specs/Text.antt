@@ -16,26 +16,25 @@ unfoldable pub digits : ℕ → ℕ → ℕ → List ℕ
 digits base zero n = []
 digits base (suc k) n = digits base k (n / base) ++ (glyph (n % base) ∷ [])
 
--- the names of the commands 0 to F hex (the sheet's table of commands), each in six columns: PTRN, I, Z, Y, X, T1X, T2X, reserved (RSVD), LX,
--- IMG, ADDR, PX, reserved, PARM, AUX, INIT
+-- the names of the commands 0 to F hex (the sheet's table of commands), each in six columns, a row for each
 unfoldable pub names : List ℕ
 names =
-    32 ∷ 80 ∷ 84 ∷ 82 ∷ 78 ∷ 32
-    ∷ 32 ∷ 73 ∷ 32 ∷ 32 ∷ 32 ∷ 32
-    ∷ 32 ∷ 90 ∷ 32 ∷ 32 ∷ 32 ∷ 32
-    ∷ 32 ∷ 89 ∷ 32 ∷ 32 ∷ 32 ∷ 32
-    ∷ 32 ∷ 88 ∷ 32 ∷ 32 ∷ 32 ∷ 32
-    ∷ 32 ∷ 84 ∷ 49 ∷ 88 ∷ 32 ∷ 32
-    ∷ 32 ∷ 84 ∷ 50 ∷ 88 ∷ 32 ∷ 32
-    ∷ 32 ∷ 82 ∷ 83 ∷ 86 ∷ 68 ∷ 32
-    ∷ 32 ∷ 76 ∷ 88 ∷ 32 ∷ 32 ∷ 32
-    ∷ 32 ∷ 73 ∷ 77 ∷ 71 ∷ 32 ∷ 32
-    ∷ 32 ∷ 65 ∷ 68 ∷ 68 ∷ 82 ∷ 32
-    ∷ 32 ∷ 80 ∷ 88 ∷ 32 ∷ 32 ∷ 32
-    ∷ 32 ∷ 82 ∷ 83 ∷ 86 ∷ 68 ∷ 32
-    ∷ 32 ∷ 80 ∷ 65 ∷ 82 ∷ 77 ∷ 32
-    ∷ 32 ∷ 65 ∷ 85 ∷ 88 ∷ 32 ∷ 32
-    ∷ 32 ∷ 73 ∷ 78 ∷ 73 ∷ 84 ∷ 32 ∷ []
+    32 ∷ 80 ∷ 84 ∷ 82 ∷ 78 ∷ 32  -- 0: PTRN
+    ∷ 32 ∷ 73 ∷ 32 ∷ 32 ∷ 32 ∷ 32  -- 1: I
+    ∷ 32 ∷ 90 ∷ 32 ∷ 32 ∷ 32 ∷ 32  -- 2: Z
+    ∷ 32 ∷ 89 ∷ 32 ∷ 32 ∷ 32 ∷ 32  -- 3: Y
+    ∷ 32 ∷ 88 ∷ 32 ∷ 32 ∷ 32 ∷ 32  -- 4: X
+    ∷ 32 ∷ 84 ∷ 49 ∷ 88 ∷ 32 ∷ 32  -- 5: T1X
+    ∷ 32 ∷ 84 ∷ 50 ∷ 88 ∷ 32 ∷ 32  -- 6: T2X
+    ∷ 32 ∷ 82 ∷ 83 ∷ 86 ∷ 68 ∷ 32  -- 7: reserved: RSVD
+    ∷ 32 ∷ 76 ∷ 88 ∷ 32 ∷ 32 ∷ 32  -- 8: LX
+    ∷ 32 ∷ 73 ∷ 77 ∷ 71 ∷ 32 ∷ 32  -- 9: IMG
+    ∷ 32 ∷ 65 ∷ 68 ∷ 68 ∷ 82 ∷ 32  -- A: ADDR
+    ∷ 32 ∷ 80 ∷ 88 ∷ 32 ∷ 32 ∷ 32  -- B: PX
+    ∷ 32 ∷ 82 ∷ 83 ∷ 86 ∷ 68 ∷ 32  -- C: reserved: RSVD
+    ∷ 32 ∷ 80 ∷ 65 ∷ 82 ∷ 77 ∷ 32  -- D: PARM
+    ∷ 32 ∷ 65 ∷ 85 ∷ 88 ∷ 32 ∷ 32  -- E: AUX
+    ∷ 32 ∷ 73 ∷ 78 ∷ 73 ∷ 84 ∷ 32 ∷ []  -- F: INIT
 
 -- the name of a command, with a blank on both sides
 unfoldable pub nameOf : ℕ → List ℕ
