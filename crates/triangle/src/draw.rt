@@ -129,7 +129,8 @@ fn divided_pixel(
     put(pen, Kind::Gouraud, x as u16, y, i, z, im, zm)
 }
 
-// A row of a Gouraud triangle that is too large for carried numbers (doubled area above 2^31): two divisions a pixel.
+// A row of a Gouraud triangle that is too large for carried numbers (doubled area above 2^31): two divisions a pixel. No word that the chip
+// accepts completes one.
 fn divided_row(
     pen: Pen,
     t: Corners,
