@@ -1,5 +1,5 @@
 -- What words and runs keep: bounds, places where nothing is drawn, the Z memory under lines of the modes 0 and 1, and both memories while the
--- enables are off. Assumes nothing.
+-- enables are off; and that no triangle divides for its pixels. Assumes nothing.
 use mathlib.Core.Path.{_≡_, refl, sym, ap, _∙_, subst}
 use mathlib.Core.Bool.{true, false, _&&_}
 use mathlib.Core.List.{List, List·Memᴰ, List·Memᴰ·not-nil}
@@ -15,8 +15,10 @@ use Rattle.picture.specs.Picture.{isDeep, Picture, picture, drawn}
 use Rattle.picture.proofs.Fold.{drawn-nil}
 use Rattle.picture.proofs.Places.{rows-low}
 use Rattle.picture.proofs.Members.{Member, offered-at}
-use Rattle.triangle.specs.Offers.{kindOf as triangleKind}
+use Rattle.triangle.specs.Offers.{kindOf as triangleKind, cornersOf}
+use Rattle.triangle.specs.Loops.{Large}
 use Rattle.triangle.proofs.Members.{triangle-member, triangle-counts}
+use Rattle.triangle.proofs.Sizes.{Below, never-large}
 use Rattle.line.specs.Segment.{larger}
 use Rattle.line.proofs.Members.{kindOf, segment-member, segment-counts}
 use Rattle.registers.specs.declared.Registers.{Registers}
@@ -32,7 +34,7 @@ use Rattle.registers.specs.Record.{isOn, invBit, iBit, zBit, resetOf}
 use Rattle.registers.specs.Figure.{shapeOf, vertexOf, completes, vertexCompletes}
 use Rattle.registers.specs.Next.{awaited, coordinateCompletes, after, completedBy, penOf}
 use Rattle.registers.specs.Bounds.{frameFits, inBounds}
-use Rattle.registers.specs.Refusal.{isInit, isParm}
+use Rattle.registers.specs.Refusal.{isInit, isParm, refusalOf}
 use Rattle.registers.proofs.Truth.{both, chosen}
 use Rattle.registers.proofs.Kept.{parts, reset-kept, after-kept}
 use Rattle.registers.proofs.Refusals.{accepted-when}
@@ -212,3 +214,19 @@ count-low r w m =
           (rows-low (r .frame) (length (m .i)) (length (m .z))) (line-low r (fits .sound)),
     ))
     (λ e. omega arith)
+
+-- ---- divisions
+
+near-below : {v : Vertex} → Near v → Below 16383 v
+near-below h = record { across = omega (arith, h .across); up = omega (arith, h .up) }
+
+-- no triangle that an accepted word completes is too large for carried numbers, whichever way its corners turn; and only such triangles may be
+-- drawn with divisions a pixel (`divided_row` of `triangle` asks for `Large`)
+pub undivided : (ni nz : ℕ) (r : Registers) (w : Word) (a b c : Vertex) → refusalOf ni nz r w ≡ 0 → completedBy r w ≡ Triangle a b c
+    → (Large (cornersOf a b c c) → ⊥) × (Large (cornersOf a c b c) → ⊥)
+undivided ni nz r w a b c e is =
+    let near = subst (λ (f : Completed). AllVertices Near f) is (completed-near ni nz r w e) in
+    let p = near-below (near .0) in
+    let q = near-below (near .1) in
+    let s = near-below (near .2) in
+    (never-large (cornersOf a b c c) p q s, never-large (cornersOf a c b c) p s q)

@@ -9,3 +9,4 @@ pub mod Shared
 pub mod Once
 pub mod Members
 pub mod Integers
+pub mod Sizes

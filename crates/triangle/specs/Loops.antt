@@ -109,11 +109,15 @@ pub record Carries (t : Corners) (g : Slopes) : Type 0 where
 pub record Runs (t : Corners) (p q r lo hi y k g : ℕ) : Type 0 where
   pub tells : (j : ℕ) → lo + j < hi → (k + j * g) % 2 ^ 64 / 2 ^ 48 ≡ shade t p q r (lo + j) y
 
--- numbers that come to a triangle's pixels in a way that serves it
+-- the corners have a doubled area above 2 ^ 31, too large for carried numbers
+pub record Large (t : Corners) : Type 0 where
+  pub over : 2147483648 < areaOf t
+
+-- numbers that come to a triangle's pixels in a way that serves it: by divisions only where they cannot be carried
 abbrev pub Shaded : Bool → Corners → Shades → Type 0
 Shaded constant t Flat = constant ≡ true
 Shaded constant t (Carried g) = (constant ≡ false) × Carries t g
-Shaded constant t Divided = constant ≡ false
+Shaded constant t Divided = (constant ≡ false) × Large t
 
 -- the run's numbers are those of the row's covered pixels
 pub record Told (constant : Bool) (t : Corners) (y : ℕ) (s : Span) (r : Run) : Type 0 where
@@ -122,7 +126,7 @@ pub record Told (constant : Bool) (t : Corners) (y : ℕ) (s : Span) (r : Run) :
 -- a way of drawing a row that serves it
 abbrev pub Serves : Bool → Corners → ℕ → Span → Way → Type 0
 Serves constant t y s (Along r) = Told constant t y s r
-Serves constant t y s Each = constant ≡ false
+Serves constant t y s Each = (constant ≡ false) × Large t
 
 -- a row of the window
 pub record InRows (pen : Pen) (y : ℕ) : Type 0 where

@@ -7,7 +7,7 @@ ghost use Rattle.picture.specs.Draw.{carriedTo};
 ghost use Rattle.picture.specs.Place.{rowsOf};
 ghost use Rattle.picture.specs.Picture.{picture, drawn};
 ghost use Rattle.triangle.specs.Edge.{covers, areaOf};
-ghost use Rattle.triangle.specs.Loops.{endOf, startOf, Turned, Spanned, Carries, Shaded, Told, Serves, InRows};
+ghost use Rattle.triangle.specs.Loops.{endOf, startOf, Turned, Spanned, Carries, Shaded, Told, Serves, InRows, Large};
 ghost use Rattle.triangle.specs.Offers.{kindOf, offersAt, rowOffers, turnedOffers, triangleOffers};
 use crate::Corners;
 use crate::Run;
@@ -120,7 +120,7 @@ fn divided_pixel(
     im: &mut [u16],
     zm: &mut [u16],
 ) -> u64
-    requires { ⌜ (Turned t) × (d ≡ areaOf t) × (d ≤ 12884508675) × (covers t x y ≡ true) × (x ≤ 65535) ⌝ }
+    requires { ⌜ (Turned t) × (d ≡ areaOf t) × (d ≤ 12884508675) × (covers t x y ≡ true) × (x ≤ 65535) × (Large t) ⌝ }
     ensures { λ r. ⌜ picture (now (im .exit)) (now (zm .exit)) r ≡ drawn pen (offersAt pen (rowsOf (pen .frame) (length (now (im .entry))) (length (now (zm .entry)))) false t x y) (picture (now (im .entry)) (now (zm .entry)) 0) ⌝ }
 {
     let e = edges_at(t, x, y as usize);
@@ -129,7 +129,8 @@ fn divided_pixel(
     put(pen, Kind::Gouraud, x as u16, y, i, z, im, zm)
 }
 
-// A row of a Gouraud triangle that is too large for carried numbers (doubled area above 2^31): two divisions a pixel.
+// A row of a Gouraud triangle that is too large for carried numbers (doubled area above 2^31): two divisions a pixel. No word that the chip
+// accepts completes one.
 fn divided_row(
     pen: Pen,
     t: Corners,
@@ -139,7 +140,7 @@ fn divided_row(
     im: &mut [u16],
     zm: &mut [u16],
 ) -> u64
-    requires { ⌜ (Turned t) × (d ≡ areaOf t) × (d ≤ 12884508675) × (Spanned pen t y s) × (InRows pen y) × (s .lo < s .hi) ⌝ }
+    requires { ⌜ (Turned t) × (d ≡ areaOf t) × (d ≤ 12884508675) × (Spanned pen t y s) × (InRows pen y) × (s .lo < s .hi) × (Large t) ⌝ }
     ensures { λ r. ⌜ picture (now (im .exit)) (now (zm .exit)) r ≡ drawn pen (rowOffers pen (rowsOf (pen .frame) (length (now (im .entry))) (length (now (zm .entry)))) false t y) (picture (now (im .entry)) (now (zm .entry)) 0) ⌝ }
 {
     let hi = s.hi;

@@ -35,8 +35,8 @@ pub(crate) struct Span {
     pub(crate) hi: usize,
 }
 
-// How the numbers of a triangle are carried along its rows: the factor of a sum, or `long` for sums that want a division a row, and what a
-// step to the right adds to I and to Z, modulo 2^64.
+// How the numbers of a triangle are carried along its rows: the factor of a sum, or `long` for sums that want divisions in each row, and what
+// a step to the right adds to I and to Z, modulo 2^64.
 pub(crate) struct Slopes {
     pub(crate) long: bool,
     pub(crate) f: usize,

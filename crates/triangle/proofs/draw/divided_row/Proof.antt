@@ -38,7 +38,7 @@ divided-pixel-requires c κs =
     let l = c .before .before .before .loop in
     let k = s .pre .3 in
     let h = c .before .before .loop-test .taken in
-    (s .pre .0, s .pre .1, s .pre .2, k .columns (l .x) (l .inv .0) h .2, omega (arith, h, k .wide))
+    (s .pre .0, s .pre .1, s .pre .2, k .columns (l .x) (l .inv .0) h .2, omega (arith, h, k .wide), s .pre .6)
 
 add-n : tie.Need-add-n Inv-loop μ-loop
 add-n c =

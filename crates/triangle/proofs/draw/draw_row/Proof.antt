@@ -35,7 +35,10 @@ enum-told : tie.Need-enum-told
 enum-told c = search needs
 
 divided-row-requires : tie.Need-divided-row-requires
-divided-row-requires c κs = search needs
+divided-row-requires c κs =
+    let s = c .before .before .before .before .before .before .before .before .before .before in
+    let w = rw (c .before .before .enum-told .given .1) at (c .before .before .before .before .way-of .ensures) in
+    (s .pre .0, s .pre .1, s .pre .2, c .before .before .before .before .before .before .before .spanned .ensures, s .pre .4, c .before .before .before .before .before .if1 .taken, w .1)
 
 same-length-3 : tie.Need-same-length-3
 same-length-3 c = search needs
@@ -44,7 +47,9 @@ same-length-4 : tie.Need-same-length-4
 same-length-4 c = search needs
 
 returns-2 : tie.Need-returns-2
-returns-2 c = rw (rw (c .before .before .before .before .before .before .before .enum-told .given .1) at (c .before .before .before .before .before .before .before .before .before .way-of .ensures)) (c .before .before .before .before .divided-row .ensures)
+returns-2 c =
+    let w = rw (c .before .before .before .before .before .before .before .enum-told .given .1) at (c .before .before .before .before .before .before .before .before .before .way-of .ensures) in
+    rw (w .0) (c .before .before .before .before .divided-row .ensures)
 
 returns-3 : tie.Need-returns-3
 returns-3 c = let a = c .before .before .before .before .before .args in row-empty (a .pen) (rowsOf (a .pen .frame) (length (a .im .now)) (length (a .zm .now))) (a .constant) (a .t) (a .y) _ (c .before .before .spanned .ensures) (omega (arith, c .if1 .left)) (picture (a .im .now) (a .zm .now) 0)
