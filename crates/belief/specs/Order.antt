@@ -28,7 +28,7 @@ SameThere at m n = cellIn m at ≡ cellIn n at
 abbrev pub leftBy : Registers → List Word → Memories → Memories
 leftBy r ws m = allOf (stepOf chip) r ws m .memories
 
--- so it is of what calls of `step` leave over two pairs of memories, from the same registers, whatever outcomes its promise allows
+-- it is so of what calls of `step` leave of one pair of memories and of another, whatever outcomes its promise allows
 abbrev pub AfterBoth : (Memories → Memories → Type 0) → Registers → List ℕ → List ℕ → Memories → Memories → Type 0
 AfterBoth So r numbers others m n = AfterCalls (λ left. AfterCalls (So left) r others n) r numbers m
 
@@ -58,6 +58,7 @@ pub record Agrees (ws : List Word) (m : Memories) (at : ℕ) (left other : Memor
   pub depth : cellIn left at .z ≡ cellIn other at .z
   pub shown : Apart (offeredAt ws m at) → cellIn left at .i ≡ cellIn other at .i
 
+-- so it is, if the two runs were such
 pub record AnyOrder : Type 0 where
   -- of any words from reset, a refused one among them changing nothing
   pub words : (numbers others : List ℕ) (m n : Memories) (at : ℕ) → Reordered (map wordOf numbers) (map wordOf others) m n at
