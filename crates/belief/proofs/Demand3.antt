@@ -52,10 +52,16 @@ taken-narrow ni nz bytes w =
     chosen (λ (ws : List Word). List·Memᴰ w ws → Narrow w) (eqb (flawIn bytes ni nz) 0) _ _
     (λ t u. words-narrow (unpackOf bytes) w (taken-member chip ni nz (wordsOf bytes) resetOf w u)) (λ t u. absurd (List·Memᴰ·not-nil u))
 
+-- each outcome has the memories that those words leave
+pub stream-left : (bytes i z : List ℕ) (o : Ended bytes i z)
+    → memories (o .i-left) (o .z-left) ≡ allOf (stepOf chip) resetOf (wordsTaken (length i) (length z) bytes) (memories i z) .memories
+stream-left bytes i z o =
+    ap (λ (a : Ran Registers Memories). a .memories) (o .promise) ∙ ap (λ (a : State Registers Memories). a .memories) (stream-took bytes (memories i z) .left)
+
 streams-believed : (bytes i z : List ℕ) (o : Ended bytes i z) → Believable (wordsTaken (length i) (length z) bytes) (memories i z) (memories (o .i-left) (o .z-left))
 streams-believed bytes i z o suppose at =
-    let left = ap (λ (a : Ran Registers Memories). a .memories) (o .promise) ∙ ap (λ (a : State Registers Memories). a .memories) (stream-took bytes (memories i z) .left) in
-    subst (λ (m : Memories). Believed (cellIn (memories i z) at) (offersOf (length i) (length z) (wordsTaken (length i) (length z) bytes) at) (cellIn m at)) (sym left)
+    subst (λ (m : Memories). Believed (cellIn (memories i z) at) (offersOf (length i) (length z) (wordsTaken (length i) (length z) bytes) at) (cellIn m at))
+    (sym (stream-left bytes i z o))
     (words-believed (wordsTaken (length i) (length z) bytes) (memories i z) (taken-narrow (length i) (length z) bytes) suppose at)
 
 -- the words that a packed stream takes are as many as each outcome tells
@@ -63,7 +69,7 @@ pub taken-told : (bytes i z : List ℕ) (o : Ended bytes i z) → o .index ≡ l
 taken-told bytes i z o = ap (λ (a : Ran Registers Memories). a .index) (o .promise) ∙ stream-took bytes (memories i z) .index ∙ zero-add _
 
 -- calls of `step`, one after the other, leave what all of their words leave
-calls-leave : (So : Memories → Type 0) (numbers : List ℕ) (r : Registers) (m : Memories) → So (allOf (stepOf chip) r (map wordOf numbers) m .memories)
+pub calls-leave : (So : Memories → Type 0) (numbers : List ℕ) (r : Registers) (m : Memories) → So (allOf (stepOf chip) r (map wordOf numbers) m .memories)
     → AfterCalls So r numbers m
 unfolding wordOf
 calls-leave So [] r m so = so

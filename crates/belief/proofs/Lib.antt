@@ -2,5 +2,8 @@ pub mod Numbers
 pub mod Ends
 pub mod Lands
 pub mod Demand3
+pub mod Computed
 pub mod Worked
 pub mod Sense
+pub mod Order
+pub mod WorkedOrder

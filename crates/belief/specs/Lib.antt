@@ -1,2 +1,4 @@
 pub mod Belief
 pub mod Worked
+pub mod Order
+pub mod WorkedOrder

@@ -2,7 +2,7 @@
 -- among its words, and goes on with another line length.
 use mathlib.Core.Path.{_≡_}
 use mathlib.Core.Bool.{true}
-use mathlib.Core.List.{List, [], _∷_, map}
+use mathlib.Core.List.{List, [], _∷_, _++_, map}
 use Prim.Native.Nat.{ℕ}
 use lib.ListN.{replicate}
 use Rattle.picture.specs.declared.Kind.the-variants.{Gouraud, Line2}
@@ -16,17 +16,43 @@ use Rattle.machine.specs.Offers.{allOf}
 use Rattle.chip.specs.Chip.{chip}
 use Rattle.belief.specs.Belief.{offersOf, supposed}
 
--- the words, each told by its number
+-- ---- its words, each told by its number
+
+-- both write enables, depth test, line mode 2
+abbrev pub allOn : List ℕ
+allOn = 0xE0004 ∷ 0xD0006 ∷ 0xE0003 ∷ 0xD0040 ∷ 0xE0001 ∷ 0xD0002 ∷ []
+
+-- INIT to a line length of 256, and to one of 320
+abbrev pub init : List ℕ
+init = (0xF0000 ∷ []) ++ allOn
+
+abbrev pub initWide : List ℕ
+initWide = (0xF0100 ∷ []) ++ allOn
+
+-- a near face, I 200 and Z 10: (1, 0) (5, 0) (1, 2)
+abbrev pub nearFace : List ℕ
+nearFace = 0x100C8 ∷ 0x2000A ∷ 0x30000 ∷ 0x50001 ∷ 0x40005 ∷ 0x30002 ∷ 0x40001 ∷ []
+
+-- a far face, I 100 and Z 20: (0, 0) (4, 0) (0, 2)
+abbrev pub farFace : List ℕ
+farFace = 0x10064 ∷ 0x20014 ∷ 0x30000 ∷ 0x50000 ∷ 0x40004 ∷ 0x30002 ∷ 0x40000 ∷ []
+
+-- a line before both, I 300 and Z 5: (2, 0) to (3, 0)
+abbrev pub nearLine : List ℕ
+nearLine = 0x1012C ∷ 0x20005 ∷ 0x30000 ∷ 0x80002 ∷ 0xE000C ∷ 0xD0000 ∷ 0x40003 ∷ []
+
+-- a line of one pixel, I 400 and Z 15: (256, 0)
+abbrev pub point : List ℕ
+point = 0x10190 ∷ 0x2000F ∷ 0x80100 ∷ 0xE000C ∷ 0xD0000 ∷ 0x40100 ∷ []
+
+-- a word that is refused with 4
+abbrev pub reserved : List ℕ
+reserved = 0x70000 ∷ []
+
 unfoldable pub scene : List ℕ
-scene =
-    0xF0000 ∷ 0xE0004 ∷ 0xD0006 ∷ 0xE0003 ∷ 0xD0040 ∷ 0xE0001 ∷ 0xD0002  -- INIT; both write enables, depth test, line mode 2
-    ∷ 0x100C8 ∷ 0x2000A ∷ 0x30000 ∷ 0x50001 ∷ 0x40005 ∷ 0x30002 ∷ 0x40001  -- a near face, I 200 and Z 10: (1, 0) (5, 0) (1, 2)
-    ∷ 0x70000  -- refused with 4
-    ∷ 0x10064 ∷ 0x20014 ∷ 0x30000 ∷ 0x50000 ∷ 0x40004 ∷ 0x30002 ∷ 0x40000  -- a far face, I 100 and Z 20: (0, 0) (4, 0) (0, 2)
-    ∷ 0x1012C ∷ 0x20005 ∷ 0x30000 ∷ 0x80002 ∷ 0xE000C ∷ 0xD0000 ∷ 0x40003  -- a line before both, I 300 and Z 5: (2, 0) to (3, 0)
-    ∷ 0xF0100 ∷ 0xE0004 ∷ 0xD0006 ∷ 0xE0003 ∷ 0xD0040 ∷ 0xE0001 ∷ 0xD0002  -- INIT to a line length of 320
-    ∷ 0x10190 ∷ 0x2000F ∷ 0x80100 ∷ 0xE000C ∷ 0xD0000 ∷ 0x40100  -- a line of one pixel, I 400 and Z 15: (256, 0)
-    ∷ []
+scene = init ++ nearFace ++ reserved ++ farFace ++ nearLine ++ initWide ++ point
+
+-- ---- what it leaves
 
 -- nothing is drawn yet, and all is far
 unfoldable pub blank : Memories

@@ -1,0 +1,158 @@
+-- What stands at a place in the end does not depend on the order of its offers, nor on any other place. The least of some depths is the same in
+-- any order, and where no two share a depth the earliest offer of that depth is the only one. Assumes nothing.
+use mathlib.Core.Path.{_≡_, refl, sym, ap, ap₂, _∙_}
+use mathlib.Core.Logic.{_≢_, ∥∥₁-elim}
+use mathlib.Core.HLevel.{¬-prop}
+use mathlib.Core.Bool.{Bool, true, false, cond}
+use mathlib.Core.List.{List, [], _∷_, map, Perm, List·Permᴰ, List·Permᴰ·nil, List·Permᴰ·cons, List·Permᴰ·swap, List·Permᴰ·trans, Permᴰ·pairwise, Pairwise·cons, mem-cons-self}
+use Prim.Native.Nat.{ℕ, min}
+use native.Mathlib.Nat.{ℕ-set}
+use native.Mathlib.Omega.{arith}
+use lib.Dec.{eqb, ltb}
+use lib.ListN.{length}
+use borrow.Author.Tests.{eqb-true}
+use Rattle.picture.specs.Offer.{Offer}
+use Rattle.picture.specs.Cell.{Cell}
+use Rattle.registers.specs.declared.Registers.{Registers}
+use Rattle.registers.specs.declared.word.Word.{Word}
+use Rattle.registers.specs.Record.{resetOf}
+use Rattle.registers.specs.Word.{wordOf}
+use Rattle.machine.specs.Machine.{Memories, memories}
+use Rattle.machine.specs.Touched.{cellIn}
+use Rattle.machine.specs.Offers.{cellAfter}
+use Rattle.machine.proofs.Offers.{all-cell}
+use Rattle.chip.specs.Chip.{chip}
+use Rattle.chip.specs.Demands.{Ended}
+use Rattle.chip.proofs.Laws.{inside}
+use Rattle.belief.specs.Belief.{wordsTaken, offersOf, least, earliest, intensity, Believable, AfterCalls}
+use Rattle.belief.specs.Order.{SameThere, leftBy, AfterBoth, numbersOf, Apart, Reordered, Agrees, AnyOrder, AlikeAt, NoOtherPlace}
+use Rattle.belief.proofs.Demand3.{stream-left, calls-leave, demand-3}
+
+-- ---- the least and the earliest, told by the offers' numbers alone
+
+leastIn : ℕ → List Cell → ℕ
+leastIn z [] = z
+leastIn z (o ∷ os) = leastIn (min z (o .z)) os
+
+earliestIn : ℕ → List Cell → ℕ
+earliestIn d [] = 0
+earliestIn d (o ∷ os) = cond (eqb (o .z) d) (o .i) (earliestIn d os)
+
+least-in : (z : ℕ) (os : List Offer) → least z os ≡ leastIn z (map numbersOf os)
+unfolding least leastIn
+least-in z [] = refl
+least-in z (o ∷ os) = least-in (min z (o .z)) os
+
+earliest-in : (d : ℕ) (os : List Offer) → earliest d os ≡ earliestIn d (map numbersOf os)
+unfolding earliest earliestIn
+earliest-in d [] = refl
+earliest-in d (o ∷ os) = ap (λ (r : ℕ). cond (eqb (o .z) d) (o .i) r) (earliest-in d os)
+
+-- ---- the same up to order
+
+least-perm : {ts us : List Cell} → List·Permᴰ ts us → (z : ℕ) → leastIn z ts ≡ leastIn z us
+unfolding leastIn
+least-perm List·Permᴰ·nil z = refl
+least-perm (List·Permᴰ·cons {a = a} {l₂ = us} e d) z = least-perm d (min z (a .z)) ∙ ap (λ (t : Cell). leastIn (min z (t .z)) us) e
+least-perm (List·Permᴰ·swap {l = l} e f) z =
+    let g = ap (λ (t : Cell). t .z) e in
+    let h = ap (λ (t : Cell). t .z) f in
+    ap (λ (k : ℕ). leastIn k l) (omega arith)
+least-perm (List·Permᴰ·trans d f) z = least-perm d z ∙ least-perm f z
+
+-- of two neighbours of other depths, which comes first does not matter
+swapped : (a b : Cell) (d r : ℕ) → a .z ≢ b .z
+    → cond (eqb (a .z) d) (a .i) (cond (eqb (b .z) d) (b .i) r) ≡ cond (eqb (b .z) d) (b .i) (cond (eqb (a .z) d) (a .i) r)
+swapped a b d r n = go (eqb (a .z) d) (eqb (b .z) d) refl refl
+  where
+    go : (p q : Bool) → eqb (a .z) d ≡ p → eqb (b .z) d ≡ q → cond p (a .i) (cond q (b .i) r) ≡ cond q (b .i) (cond p (a .i) r)
+    go true true e f = absurd (n (eqb-true _ _ e ∙ sym (eqb-true _ _ f)))
+    go true false e f = refl
+    go false true e f = refl
+    go false false e f = refl
+
+earliest-perm : {ts us : List Cell} → List·Permᴰ ts us → Apart ts → (d : ℕ) → earliestIn d ts ≡ earliestIn d us
+unfolding earliestIn
+earliest-perm List·Permᴰ·nil n d = refl
+earliest-perm (List·Permᴰ·cons e p) (Pairwise·cons h n) d = ap₂ (λ (t : Cell) (r : ℕ). cond (eqb (t .z) d) (t .i) r) e (earliest-perm p n d)
+earliest-perm (List·Permᴰ·swap {a = a} {b = b} {l = l} e f) (Pairwise·cons h n) d =
+    swapped a b d (earliestIn d l) (h b mem-cons-self)
+    ∙ ap₂ (λ (t u : Cell). cond (eqb (t .z) d) (t .i) (cond (eqb (u .z) d) (u .i) (earliestIn d l))) f e
+earliest-perm (List·Permᴰ·trans p q) n d =
+    earliest-perm p n d ∙ earliest-perm q (Permᴰ·pairwise {R = λ (t : Cell) (u : Cell). t .z ≢ u .z} (λ a b. ¬-prop) (λ x y k e. k (sym e)) p n) d
+
+module _ (os us : List Offer) (same : Perm (map numbersOf os) (map numbersOf us)) where
+  least-any : (z : ℕ) → least z os ≡ least z us
+  least-any z = least-in z os ∙ ∥∥₁-elim same (ℕ-set _ _) (λ q. least-perm q z) ∙ sym (least-in z us)
+
+  shown-any : (c : Cell) → Apart (map numbersOf os) → intensity (least (c .z) os) c os ≡ intensity (least (c .z) us) c us
+  unfolding intensity
+  shown-any c apart =
+      let d = least (c .z) us in
+      ap (λ (k : ℕ). cond (ltb k (c .z)) (earliest k os) (c .i)) (least-any (c .z))
+      ∙ ap (λ (k : ℕ). cond (ltb d (c .z)) k (c .i)) (earliest-in d os ∙ ∥∥₁-elim same (ℕ-set _ _) (λ q. earliest-perm q apart d) ∙ sym (earliest-in d us))
+
+-- ---- two runs
+
+-- of two runs of which demand 3 holds
+agrees : (ws vs : List Word) (m n left other : Memories) (at : ℕ) → Believable ws m left → Believable vs n other → Reordered ws vs m n at → Agrees ws m at left other
+agrees ws vs m n left other at b c r =
+    let p = b (r .one) at in
+    let q = c (r .other) at in
+    let os = offersOf (length (m .i)) (length (m .z)) ws at in
+    let us = offersOf (length (n .i)) (length (n .z)) vs at in
+    record {
+      depth = p .depth ∙ least-any os us (r .same) (cellIn m at .z) ∙ ap (λ (k : Cell). least (k .z) us) (r .start) ∙ sym (q .depth);
+      shown = λ apart. p .shown ∙ shown-any os us (r .same) (cellIn m at) apart ∙ ap (λ (k : Cell). intensity (least (k .z) us) k us) (r .start) ∙ sym (q .shown);
+    }
+
+-- calls of `step` leave what their words leave, so what is so of two runs of words is so of both rows of calls
+both-leave : (So : Memories → Memories → Type 0) (r : Registers) (numbers others : List ℕ) (m n : Memories)
+    → So (leftBy r (map wordOf numbers) m) (leftBy r (map wordOf others) n) → AfterBoth So r numbers others m n
+both-leave So r numbers others m n so =
+    calls-leave (λ left. AfterCalls (So left) r others n) numbers r m (calls-leave (So (leftBy r (map wordOf numbers) m)) others r n so)
+
+words-agree : (numbers others : List ℕ) (m n : Memories) (at : ℕ) → Reordered (map wordOf numbers) (map wordOf others) m n at
+    → Agrees (map wordOf numbers) m at (leftBy resetOf (map wordOf numbers) m) (leftBy resetOf (map wordOf others) n)
+words-agree numbers others m n at =
+    agrees (map wordOf numbers) (map wordOf others) m n (leftBy resetOf (map wordOf numbers) m) (leftBy resetOf (map wordOf others) n) at
+    (demand-3 .words numbers m) (demand-3 .words others n)
+
+-- under demand 3's premises the order of a place's offers does not matter
+pub any-order : AnyOrder
+any-order =
+    record {
+      words = words-agree;
+      calls = λ numbers others m n at r.
+          both-leave (Agrees (map wordOf numbers) m at) resetOf numbers others m n (words-agree numbers others m n at r);
+      streams = λ bytes others i z j y o p at.
+          agrees (wordsTaken (length i) (length z) bytes) (wordsTaken (length j) (length y) others) (memories i z) (memories j y)
+          (memories (o .i-left) (o .z-left)) (memories (p .i-left) (p .z-left)) at (demand-3 .streams bytes i z o) (demand-3 .streams others j y p);
+    }
+
+-- ---- one place
+
+words-alike : (ws : List Word) (r : Registers) (m n : Memories) (at : ℕ) → AlikeAt at m n → SameThere at (leftBy r ws m) (leftBy r ws n)
+words-alike ws r m n at k =
+    all-cell chip inside at ws r m
+    ∙ ap₂ (λ (a b : ℕ). cellAfter chip a b at r ws (cellIn m at)) (k .i-length) (k .z-length)
+    ∙ ap (cellAfter chip (length (n .i)) (length (n .z)) at r ws) (k .numbers)
+    ∙ sym (all-cell chip inside at ws r n)
+
+-- over memories of the same lengths a stream takes the same words
+streams-alike : (bytes i z j y : List ℕ) (o : Ended bytes i z) (p : Ended bytes j y) (at : ℕ) → AlikeAt at (memories i z) (memories j y)
+    → SameThere at (memories (o .i-left) (o .z-left)) (memories (p .i-left) (p .z-left))
+streams-alike bytes i z j y o p at k =
+    ap (λ (m : Memories). cellIn m at) (stream-left bytes i z o)
+    ∙ words-alike (wordsTaken (length i) (length z) bytes) resetOf (memories i z) (memories j y) at k
+    ∙ ap₂ (λ (a b : ℕ). cellIn (leftBy resetOf (wordsTaken a b bytes) (memories j y)) at) (k .i-length) (k .z-length)
+    ∙ ap (λ (m : Memories). cellIn m at) (sym (stream-left bytes j y p))
+
+-- what words leave at a place depends on the words, the lengths and that place's two starting numbers, and on no other place
+pub no-other-place : NoOtherPlace
+no-other-place =
+    record {
+      words = words-alike;
+      calls = λ numbers r m n at k. both-leave (SameThere at) r numbers numbers m n (words-alike (map wordOf numbers) r m n at k);
+      streams = streams-alike;
+    }

@@ -1,0 +1,90 @@
+-- The picture does not depend on the drawing order, and what words leave at a place depends on no other place (document 02, [4]).
+use mathlib.Core.Path.{_≡_}
+use mathlib.Core.Logic.{_≢_}
+use mathlib.Core.Bool.{true}
+use mathlib.Core.List.{List, map, Perm, Pairwise}
+use Prim.Native.Nat.{ℕ}
+use lib.ListN.{length}
+use Rattle.picture.specs.Offer.{Offer}
+use Rattle.picture.specs.Cell.{Cell, cell}
+use Rattle.registers.specs.declared.Registers.{Registers}
+use Rattle.registers.specs.declared.word.Word.{Word}
+use Rattle.registers.specs.Record.{resetOf}
+use Rattle.registers.specs.Word.{wordOf}
+use Rattle.machine.specs.Machine.{Memories, memories, stepOf}
+use Rattle.machine.specs.Touched.{cellIn}
+use Rattle.machine.specs.Offers.{allOf}
+use Rattle.chip.specs.Chip.{chip}
+use Rattle.chip.specs.Demands.{Ended}
+use Rattle.belief.specs.Belief.{wordsTaken, offersOf, supposed, AfterCalls}
+
+-- ---- two runs, each with its words and its two memories
+
+-- the same two numbers stand at a place
+abbrev pub SameThere : ℕ → Memories → Memories → Type 0
+SameThere at m n = cellIn m at ≡ cellIn n at
+
+-- the memories after all of some words
+abbrev pub leftBy : Registers → List Word → Memories → Memories
+leftBy r ws m = allOf (stepOf chip) r ws m .memories
+
+-- it is so of what calls of `step` leave of one pair of memories and of another, whatever outcomes its promise allows
+abbrev pub AfterBoth : (Memories → Memories → Type 0) → Registers → List ℕ → List ℕ → Memories → Memories → Type 0
+AfterBoth So r numbers others m n = AfterCalls (λ left. AfterCalls (So left) r others n) r numbers m
+
+-- ---- in any order
+
+-- the two numbers of an offer
+abbrev pub numbersOf : Offer → Cell
+numbersOf o = cell (o .i) (o .z)
+
+-- those that words from reset offer at a place. Which pixel is there goes by the line length, and is not told
+abbrev pub offeredAt : List Word → Memories → ℕ → List Cell
+offeredAt ws m at = map numbersOf (offersOf (length (m .i)) (length (m .z)) ws at)
+
+-- no two of them share a depth
+abbrev pub Apart : List Cell → Type 0
+Apart os = Pairwise (λ (o : Cell) (p : Cell). o .z ≢ p .z) os
+
+-- demand 3's premises hold of both runs, memory is equal at a place, and what is offered there is the same up to order
+pub record Reordered (ws vs : List Word) (m n : Memories) (at : ℕ) : Type 0 where
+  pub one : supposed (length (m .i)) (length (m .z)) ws ≡ true
+  pub other : supposed (length (n .i)) (length (n .z)) vs ≡ true
+  pub start : SameThere at m n
+  pub same : Perm (offeredAt ws m at) (offeredAt vs n at)
+
+-- the place ends with equal depth, and with equal intensity if no two of the offers there share a depth
+pub record Agrees (ws : List Word) (m : Memories) (at : ℕ) (left other : Memories) : Type 0 where
+  pub depth : cellIn left at .z ≡ cellIn other at .z
+  pub shown : Apart (offeredAt ws m at) → cellIn left at .i ≡ cellIn other at .i
+
+-- so it is, if the two runs were such
+pub record AnyOrder : Type 0 where
+  -- of any words from reset, a refused one among them changing nothing
+  pub words : (numbers others : List ℕ) (m n : Memories) (at : ℕ) → Reordered (map wordOf numbers) (map wordOf others) m n at
+      → Agrees (map wordOf numbers) m at (leftBy resetOf (map wordOf numbers) m) (leftBy resetOf (map wordOf others) n)
+  -- of the calls of `step` that they are
+  pub calls : (numbers others : List ℕ) (m n : Memories) (at : ℕ) → Reordered (map wordOf numbers) (map wordOf others) m n at
+      → AfterBoth (Agrees (map wordOf numbers) m at) resetOf numbers others m n
+  -- of any packed streams, and each outcome that the promise of `run` allows
+  pub streams : (bytes others i z j y : List ℕ) (o : Ended bytes i z) (p : Ended others j y) (at : ℕ)
+      → Reordered (wordsTaken (length i) (length z) bytes) (wordsTaken (length j) (length y) others) (memories i z) (memories j y) at
+      → Agrees (wordsTaken (length i) (length z) bytes) (memories i z) at (memories (o .i-left) (o .z-left)) (memories (p .i-left) (p .z-left))
+
+-- ---- without any premise
+
+-- two pairs of memories have the same lengths, and the same two numbers at a place
+pub record AlikeAt (at : ℕ) (m n : Memories) : Type 0 where
+  pub i-length : length (m .i) ≡ length (n .i)
+  pub z-length : length (m .z) ≡ length (n .z)
+  pub numbers : SameThere at m n
+
+-- what a run of words leaves at a place depends on the words, the lengths and that place's two starting numbers, and on no other place
+pub record NoOtherPlace : Type 0 where
+  -- of any words from any registers
+  pub words : (ws : List Word) (r : Registers) (m n : Memories) (at : ℕ) → AlikeAt at m n → SameThere at (leftBy r ws m) (leftBy r ws n)
+  -- of the calls of `step` that they are
+  pub calls : (numbers : List ℕ) (r : Registers) (m n : Memories) (at : ℕ) → AlikeAt at m n → AfterBoth (SameThere at) r numbers numbers m n
+  -- of any packed stream, and each outcome that the promise of `run` allows
+  pub streams : (bytes i z j y : List ℕ) (o : Ended bytes i z) (p : Ended bytes j y) (at : ℕ) → AlikeAt at (memories i z) (memories j y)
+      → SameThere at (memories (o .i-left) (o .z-left)) (memories (p .i-left) (p .z-left))

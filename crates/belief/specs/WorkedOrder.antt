@@ -1,0 +1,64 @@
+-- The worked run of demand 3 with its faces in another order, in lines of another length too; and two faces that share a depth, so that the
+-- premise about depths is seen to be needed.
+use mathlib.Core.Path.{_≡_}
+use mathlib.Core.List.{List, [], _∷_, _++_, map}
+use Prim.Native.Nat.{ℕ}
+use lib.ListN.{replicate}
+use Rattle.picture.specs.Cell.{Cell, cell}
+use Rattle.registers.specs.Record.{resetOf}
+use Rattle.registers.specs.Word.{wordOf}
+use Rattle.machine.specs.Machine.{Memories, memories}
+use Rattle.machine.specs.Touched.{cellIn}
+use Rattle.belief.specs.Order.{leftBy, offeredAt, Apart, Reordered}
+use Rattle.belief.specs.Worked.{init, initWide, nearFace, farFace, nearLine, point, scene, blank}
+
+-- ---- the runs
+
+-- the scene with its far face first
+unfoldable pub farFirst : List ℕ
+farFirst = init ++ farFace ++ nearFace ++ nearLine ++ initWide ++ point
+
+-- its two faces in lines of 320
+unfoldable pub wideFaces : List ℕ
+wideFaces = initWide ++ farFace ++ nearFace
+
+-- 640 places, of which all but the first three have other numbers than the scene's had
+unfoldable pub elsewhere : Memories
+elsewhere = memories (0 ∷ 0 ∷ 0 ∷ replicate 637 7) (65535 ∷ 65535 ∷ 65535 ∷ replicate 637 3)
+
+-- the near face at the far one's depth, I 200 and Z 20
+abbrev pub tiedFace : List ℕ
+tiedFace = 0x100C8 ∷ 0x20014 ∷ 0x30000 ∷ 0x50001 ∷ 0x40005 ∷ 0x30002 ∷ 0x40001 ∷ []
+
+-- both orders of it and the far face
+unfoldable pub tiedLast : List ℕ
+tiedLast = init ++ farFace ++ tiedFace
+
+unfoldable pub tiedFirst : List ℕ
+tiedFirst = init ++ tiedFace ++ farFace
+
+-- ---- what they leave
+
+-- what a run offers at a place, and how the place ends
+pub record Left (numbers : List ℕ) (m : Memories) (at : ℕ) (os : List Cell) (i z : ℕ) : Type 0 where
+  pub offers : offeredAt (map wordOf numbers) m at ≡ os
+  pub ends : cellIn (leftBy resetOf (map wordOf numbers) m) at ≡ cell i z
+
+-- the scene and another run have the same offers at a place up to order, no two of one depth, and both leave it so
+pub record Matched (others : List ℕ) (n : Memories) (at : ℕ) (os us : List Cell) (i z : ℕ) : Type 0 where
+  pub reordered : Reordered (map wordOf scene) (map wordOf others) blank n at
+  pub apart : Apart (offeredAt (map wordOf scene) blank at)
+  pub one : Left scene blank at os i z
+  pub other : Left others n at us i z
+
+pub record WorkedOrder : Type 0 where
+  pub face : Matched farFirst blank 1 (cell 200 10 ∷ cell 100 20 ∷ []) (cell 100 20 ∷ cell 200 10 ∷ []) 200 10
+  pub line : Matched farFirst blank 2 (cell 200 10 ∷ cell 100 20 ∷ cell 300 5 ∷ []) (cell 100 20 ∷ cell 200 10 ∷ cell 300 5 ∷ []) 300 5
+  pub after-init : Matched farFirst blank 256 (cell 100 20 ∷ cell 400 15 ∷ []) (cell 100 20 ∷ cell 400 15 ∷ []) 400 15
+  -- in lines of another length, over memories of another length that have other numbers elsewhere
+  pub wide : Matched wideFaces elsewhere 1 (cell 200 10 ∷ cell 100 20 ∷ []) (cell 100 20 ∷ cell 200 10 ∷ []) 200 10
+  -- where two share a depth the depths agree, and the intensities need not
+  pub tied : Reordered (map wordOf tiedLast) (map wordOf tiedFirst) blank blank 1
+  pub shared : Apart (offeredAt (map wordOf tiedLast) blank 1) → ⊥
+  pub tied-last : Left tiedLast blank 1 (cell 100 20 ∷ cell 200 20 ∷ []) 100 20
+  pub tied-first : Left tiedFirst blank 1 (cell 200 20 ∷ cell 100 20 ∷ []) 200 20
