@@ -25,7 +25,7 @@ scene =
     ∷ 0x10064 ∷ 0x20014 ∷ 0x30000 ∷ 0x50000 ∷ 0x40004 ∷ 0x30002 ∷ 0x40000  -- a far face, I 100 and Z 20: (0, 0) (4, 0) (0, 2)
     ∷ 0x1012C ∷ 0x20005 ∷ 0x30000 ∷ 0x80002 ∷ 0xE000C ∷ 0xD0000 ∷ 0x40003  -- a line before both, I 300 and Z 5: (2, 0) to (3, 0)
     ∷ 0xF0100 ∷ 0xE0004 ∷ 0xD0006 ∷ 0xE0003 ∷ 0xD0040 ∷ 0xE0001 ∷ 0xD0002  -- INIT to a line length of 320
-    ∷ 0x10190 ∷ 0x2000F ∷ 0x80100 ∷ 0xE000C ∷ 0xD0000 ∷ 0x40100  -- a line of one pixel, I 400 and Z 15: (256, 0)
+    ∷ 0x10190 ∷ 0x2000F ∷ 0x80100 ∷ 0x40100  -- a line of one pixel, I 400 and Z 15: (256, 0); it starts visible
     ∷ []
 
 -- nothing is drawn yet, and all is far
