@@ -123,14 +123,39 @@ fn memories() {
 // The sheet's example "2-D Line Drawing", as recordings/sheet-2d.txt has it: the second of its two lines starts at the second LX and sends no
 // LSTATUS. A line starts visible (document 02, [5]).
 const SHEET: [u32; 23] = [
-    0xF0000, 0xE0001, 0xD0000, 0xE0004, 0xD0006, 0x30000, 0x80000, 0xE000C, 0xD0000, 0x30000, 0xB0004, 0x30002,
-    0xB0004, 0xE000C, 0xD0010, 0x30002, 0xB0000, 0x30004, 0x80000, 0x30006, 0xB0002, 0x30004, 0xB0004,
+    0xF0000,
+    0xE0001,
+    0xD0000,
+    0xE0004,
+    0xD0006,
+    0x30000,
+    0x80000,
+    0xE000C,
+    0xD0000,
+    0x30000,
+    0xB0004,
+    0x30002,
+    0xB0004,
+    0xE000C,
+    0xD0010,
+    0x30002,
+    0xB0000,
+    0x30004,
+    0x80000,
+    0x30006,
+    0xB0002,
+    0x30004,
+    0xB0004,
 ];
 
 // Both segments of the second line are drawn. With INV 1 after LX there is a hop; INV 1 before LX, and INIT's, hide nothing.
 fn starts() {
     let sheet = SHEET;
-    passed(b"pixels of the sheet's 2-D example, first line to point 4", &sheet[0..17], 5);
+    passed(
+        b"pixels of the sheet's 2-D example, first line to point 4",
+        &sheet[0..17],
+        5,
+    );
     passed(b"second line to point 2", &sheet[0..21], 3);
     passed(b"second line to point 3", &sheet[0..23], 3);
     passed(
