@@ -49,7 +49,7 @@ struct dextolumen_frame {
     uint16_t line;
 };
 
-/* The words of PMODE, LMODE, ZCONTROL, HCONTROL, LSTATUS, TPATTERN and MASK. */
+/* The words of PMODE, LMODE, ZCONTROL, HCONTROL, LSTATUS, TPATTERN and MASK. LX sets lstatus to 0: a line starts visible. */
 struct dextolumen_modes {
     uint16_t pmode, lmode, zcontrol, hcontrol, lstatus, transparency, planes;
 };

@@ -31,6 +31,8 @@ pub const LSTATUS: i64 = 12;
 pub const HARDWARE_BITS: i64 = 0x0D8E;
 pub const DEPTH_BITS: i64 = 0x0040;
 pub const STATUS_BITS: i64 = 0x0030;
+/// LSTATUS with INV 1, END 0.
+pub const INVISIBLE: i64 = 0x0020;
 
 /// The largest coordinate and the largest window border.
 pub const LARGEST_COORDINATE: i64 = 8191;
@@ -153,10 +155,10 @@ fn accept(mut registers: Registers, word: Word) -> Accepted {
     Accepted { registers, figure }
 }
 
-/// LX opens a line and sets INV 1, END 0.
+/// LX opens a line and sets INV 0 (document 02, [5]), END 0.
 fn open_line(registers: &mut Registers, x: i64) {
     registers.open = Open::Line(registers.vertex(x));
-    registers.invisible = true;
+    registers.invisible = false;
     registers.end = false;
 }
 

@@ -288,7 +288,7 @@ const DEPTHS: [(&str, &str); 10] = [
 ];
 
 /// Orders of openings, points and status, after BEGIN.
-const ORDERS: [(&str, &str); 20] = [
+const ORDERS: [(&str, &str); 22] = [
     ("order-x-without-figure", "40005"),
     ("order-px-without-figure", "B0005"),
     ("order-x-on-mode-1-line", "80000 E000C D0000 40005"),
@@ -297,23 +297,32 @@ const ORDERS: [(&str, &str); 20] = [
     ("order-px-on-fan", "60000 40005 B0006"),
     ("order-line-closed", "80000 E000C D0010 B0005 B0006"),
     ("order-line-closed-unseen", "80000 E000C D0030 B0005 B0006"),
-    ("order-line-unseen-moves-on", "80000 B0005 E000C D0000 30005 B0009"),
-    ("order-status-before-line", "E000C D0010 80000 B0005 B0006 E000C D0000 B0009"),
-    ("order-status-of-last-line", "80000 E000C D0010 B0005 80000 B0006 B0007"),
+    ("order-line-starts-visible", "80000 B0005 30005 B0009"),
+    ("order-line-starts-visible-mode-2", "E0001 D0002 10003 20003 80000 10009 20009 30005 40008"),
+    ("order-line-unseen-moves-on", "80000 E000C D0020 B0005 E000C D0000 30005 B0009"),
+    ("order-status-before-line", "E000C D0030 80000 B0005 B0006 E000C D0000 B0009"),
+    ("order-status-of-last-line", "80000 E000C D0030 B0005 80000 B0006 B0007"),
     ("order-end-taken-back", "80000 E000C D0010 E000C D0000 B0005 B0006"),
     ("order-end-on-strip", "10001 50000 E000C D0030 40009 30009 40000 40009"),
     ("order-strip-abandoned", "10001 50000 40009 60000 30009 40009 40000"),
     ("order-line-abandoned", "10001 80000 E000C D0000 50005 40009 30009 40000"),
-    ("order-line-abandoned-by-line", "10001 80000 E000C D0000 80005 B0009 E000C D0000 B000F"),
+    ("order-line-abandoned-by-line", "10001 80000 E000C D0020 80005 B0009 E000C D0000 B000F"),
     ("order-triangles-keep-status", "10001 80000 E000C D0010 50000 40009 30009 40000 80010 B0014 B0018"),
     ("order-wrong-pairing-then-stops", "80000 E000C D0000 B0005 E0001 D0002 B0006"),
     ("order-settings-keep-figure", "10001 50000 40009 E0006 D0000 D0008 D0008 D0000 D0000 E0008 D0001 D0002 30009 40000"),
     ("order-init-closes-figure", "50000 40009 F0000 30009 40000"),
 ];
 
+/// The sheet's example "2-D Line Drawing", with numbers for its points and,
+/// where it leaves words out, both enables. Its second line sends no LSTATUS.
+pub const SHEET_LINES: &str = "F0000 E0001 D0000 E0004 D0006 \
+    30000 80000 E000C D0000 30000 B0004 30002 B0004 E000C D0010 30002 B0000 \
+    30004 80000 30006 B0002 30004 B0004";
+
 /// Whole programs.
-const WHOLE: [(&str, &str); 19] = [
+const WHOLE: [(&str, &str); 20] = [
     ("example", "F0000 E0004 D0006 10064 2000A 30000 50000 100C8 30000 40002 1012C 30002 40000"),
+    ("sheet-2d-lines", SHEET_LINES),
     ("enables-off-after-init", "F0000 10064 50000 40008 30008 40000"),
     ("only-i-enabled", "F0000 E0004 D0004 10064 20005 50000 40008 30008 40000"),
     ("only-z-enabled", "F0000 E0004 D0002 10064 20005 50000 40008 30008 40000 E0004 D0004 50000 40008 30004 40000"),

@@ -1,7 +1,7 @@
 //! Document 01's examples, line by line, and some of the readings.
 
 use crate::commands::*;
-use crate::edges::packed;
+use crate::edges::{packed, SHEET_LINES};
 use crate::figures::{between, step_at, Figure};
 use crate::picture::{transparency_keeps, Picture};
 use crate::printing::drawing;
@@ -215,6 +215,25 @@ fn whole_example() {
     assert_eq!(bytes.len(), 33);
     let expected = "words 13 refusal 0 passed 3\n0 0 100 10\n1 0 150 10\n0 1 200 10\n";
     assert_eq!(drawing(&bytes), expected);
+}
+
+/// Both lines of the sheet's example are drawn (document 02, [5]).
+#[test]
+fn sheet_lines() {
+    let points = [(0, 0), (1, 0), (2, 0), (3, 0), (4, 0), (4, 1), (0, 2), (1, 2), (2, 2), (3, 2), (4, 2)];
+    let second = [(0, 4), (4, 4), (1, 5), (3, 5), (2, 6)];
+    let places: String = points.iter().chain(&second).map(|(x, y)| format!("{} {} 1 65535\n", x, y)).collect();
+    assert_eq!(drawing(&packed(SHEET_LINES)), format!("words 23 refusal 0 passed 19\n{}", places));
+}
+
+/// A line starts visible; INIT's INV 1, or that of another line, is gone.
+#[test]
+fn lines_start_visible() {
+    let passed = |words: &str| run_words(words).0.passed;
+    assert_eq!(passed("F0000 80000 B0004"), 5);
+    assert_eq!(passed("F0000 E000C D0030 80000 B0004 B0008"), 10);
+    assert_eq!(passed("F0000 E0001 D0002 80000 40004"), 5);
+    assert_eq!(passed("F0000 80000 E000C D0020 B0004 E000C D0000 B0008"), 5);
 }
 
 #[test]

@@ -279,7 +279,7 @@ fn limit_figure(program: &mut Program) {
     let command = program.random.pick(&[T1X, T2X, LX]);
     let x = limit_point(program);
     program.push(command, x);
-    if command == LX {
+    if command == LX && program.random.once_in(2) {
         program.subcommand(LSTATUS, &[0]);
     }
     for _ in 0..2 {

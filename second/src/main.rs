@@ -17,6 +17,7 @@ mod registers;
 mod run;
 mod seeds;
 mod shares;
+mod starts;
 mod stream;
 mod vectors;
 
@@ -79,9 +80,11 @@ fn draw() -> Result<(), String> {
 fn print_shares(first: u64, count: u64) -> Result<(), String> {
     let shares = shares::shares(first, count);
     write_out(shares.text().as_bytes())?;
-    if shares.all_came() {
-        Ok(())
-    } else {
-        Err("a refusal from 3 to 12 never came".to_string())
+    if !shares.all_came() {
+        return Err("a refusal from 3 to 12 never came".to_string());
     }
+    if !shares.starts_often() {
+        return Err("visible starts or hops are rare".to_string());
+    }
+    Ok(())
 }

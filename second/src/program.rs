@@ -327,9 +327,7 @@ impl Program {
             self.line_mode_setting();
         }
         self.open(LX);
-        if !self.random.once_in(10) {
-            self.subcommand(LSTATUS, &[0]);
-        }
+        self.start_of_line();
         let points = self.random.pick(&[1, 1, 2, 3, 4, 6]);
         for _ in 0..points {
             self.now_and_then_a_setting();
@@ -340,6 +338,26 @@ impl Program {
             self.subcommand(LSTATUS, &[status]);
             self.add_point();
         }
+    }
+
+    /// Visible as LX leaves it, visible by LSTATUS, or a hop.
+    fn start_of_line(&mut self) {
+        match self.random.below(4) {
+            0 | 1 => {}
+            2 => self.subcommand(LSTATUS, &[0]),
+            _ => {
+                self.hop();
+                if !self.random.once_in(4) {
+                    self.subcommand(LSTATUS, &[0]);
+                }
+            }
+        }
+    }
+
+    /// An invisible segment, by INV 1.
+    fn hop(&mut self) {
+        self.subcommand(LSTATUS, &[INVISIBLE]);
+        self.add_point();
     }
 
     fn now_and_then_a_setting(&mut self) {
@@ -357,7 +375,7 @@ impl Program {
         match self.random.below(4) {
             0 => {
                 self.open(LX);
-                self.add_point();
+                self.hop();
             }
             1 => self.open(T1X),
             2 => self.open(T2X),

@@ -1,7 +1,8 @@
-//! How often each refusal comes over many seeds.
+//! How often each refusal, and each start of a line, comes over many seeds.
 
 use crate::generator::generate;
 use crate::printing::drawing_outcome;
+use crate::starts::starts;
 
 /// The refusals that the drawing program can print.
 const REFUSALS: [i64; 11] = [0, 3, 4, 5, 6, 7, 8, 9, 10, 11, 12];
@@ -9,14 +10,25 @@ const REFUSALS: [i64; 11] = [0, 3, 4, 5, 6, 7, 8, 9, 10, 11, 12];
 pub struct Shares {
     pub refusals: Vec<(i64, u64)>,
     pub too_long: u64,
+    /// Streams with a line that starts visible, LX alone having come.
+    pub shown: u64,
+    /// Streams with a line that starts with a hop.
+    pub hopped: u64,
+    count: u64,
 }
 
 pub fn shares(first: u64, count: u64) -> Shares {
-    let mut shares = Shares { refusals: REFUSALS.iter().map(|number| (*number, 0)).collect(), too_long: 0 };
+    let refusals = REFUSALS.iter().map(|number| (*number, 0)).collect();
+    let mut shares = Shares { refusals, too_long: 0, shown: 0, hopped: 0, count };
     for seed in first..first + count {
-        match drawing_outcome(&generate(seed)) {
+        let bytes = generate(seed);
+        match drawing_outcome(&bytes) {
             None => shares.too_long += 1,
-            Some((outcome, _)) => shares.add(outcome.refusal),
+            Some((outcome, _)) => {
+                shares.add(outcome.refusal);
+                shares.shown += u64::from(starts(&bytes).shown);
+                shares.hopped += u64::from(starts(&bytes).hopped);
+            }
         }
     }
     shares
@@ -33,11 +45,16 @@ impl Shares {
 
     pub fn text(&self) -> String {
         let rows: String = self.refusals.iter().map(|row| format!("refusal {} streams {}\n", row.0, row.1)).collect();
-        rows + &format!("too long streams {}\n", self.too_long)
+        rows + &format!("too long streams {}\nstart visible streams {}\nhop streams {}\n", self.too_long, self.shown, self.hopped)
     }
 
     /// Whether each refusal from 3 to 12 came.
     pub fn all_came(&self) -> bool {
         self.refusals.iter().all(|row| row.0 == 0 || row.1 > 0)
+    }
+
+    /// Whether both starts of a line came in a third of the streams.
+    pub fn starts_often(&self) -> bool {
+        3 * self.shown >= self.count && 3 * self.hopped >= self.count
     }
 }

@@ -41,9 +41,9 @@ farFace = 0x10064 ∷ 0x20014 ∷ 0x30000 ∷ 0x50000 ∷ 0x40004 ∷ 0x30002 �
 abbrev pub nearLine : List ℕ
 nearLine = 0x1012C ∷ 0x20005 ∷ 0x30000 ∷ 0x80002 ∷ 0xE000C ∷ 0xD0000 ∷ 0x40003 ∷ []
 
--- a line of one pixel, I 400 and Z 15: (256, 0)
+-- a line of one pixel, I 400 and Z 15: (256, 0); it sends no LSTATUS, and starts visible
 abbrev pub point : List ℕ
-point = 0x10190 ∷ 0x2000F ∷ 0x80100 ∷ 0xE000C ∷ 0xD0000 ∷ 0x40100 ∷ []
+point = 0x10190 ∷ 0x2000F ∷ 0x80100 ∷ 0x40100 ∷ []
 
 -- a word that is refused with 4
 abbrev pub reserved : List ℕ

@@ -1,9 +1,10 @@
-// Document 01's examples that are run, and refusals that are easy to trip on. Each row is some words from reset, as hexadecimal command
-// and data, and the number that the last of them should be given. Its line tells the number that the chip gives as well: the stored
-// output is met only where the two agree in every row.
+// Document 01's examples that are run, refusals that are easy to trip on, and the sheet's 2-D example. Each row is some words from reset,
+// as hexadecimal command and data, and the number that the last of them should be given, or how many of its pixels should pass. Its line
+// tells the number that the chip gives as well: the stored output is met only where the two agree in every row.
 mod answer;
 mod row;
 
+use row::passed;
 use row::row;
 use row::unlike;
 
@@ -119,6 +120,61 @@ fn memories() {
     unlike(b"command 16, memories unlike", &[0x100000], 1);
 }
 
+// The sheet's example "2-D Line Drawing", as recordings/sheet-2d.txt has it: the second of its two lines starts at the second LX and sends no
+// LSTATUS. A line starts visible (document 02, [5]).
+const SHEET: [u32; 23] = [
+    0xF0000,
+    0xE0001,
+    0xD0000,
+    0xE0004,
+    0xD0006,
+    0x30000,
+    0x80000,
+    0xE000C,
+    0xD0000,
+    0x30000,
+    0xB0004,
+    0x30002,
+    0xB0004,
+    0xE000C,
+    0xD0010,
+    0x30002,
+    0xB0000,
+    0x30004,
+    0x80000,
+    0x30006,
+    0xB0002,
+    0x30004,
+    0xB0004,
+];
+
+// Both segments of the second line are drawn. With INV 1 after LX there is a hop; INV 1 before LX, and INIT's, hide nothing.
+fn starts() {
+    let sheet = SHEET;
+    passed(
+        b"pixels of the sheet's 2-D example, first line to point 4",
+        &sheet[0..17],
+        5,
+    );
+    passed(b"second line to point 2", &sheet[0..21], 3);
+    passed(b"second line to point 3", &sheet[0..23], 3);
+    passed(
+        b"pixels of a line's first segment, INV 1 after LX",
+        &[0xF0000, 0x80000, 0xE000C, 0xD0020, 0xB0004],
+        0,
+    );
+    passed(
+        b"INV 1 before LX",
+        &[0xF0000, 0xE000C, 0xD0020, 0x80000, 0xB0004],
+        5,
+    );
+    passed(
+        b"in mode 2, LSTATUS not sent",
+        &[0xF0000, 0xE0001, 0xD0002, 0x80000, 0x40004],
+        5,
+    );
+}
+
 fn main() {
     values();
     figures();
@@ -127,4 +183,5 @@ fn main() {
     idle();
     cold();
     memories();
+    starts();
 }

@@ -1,4 +1,4 @@
-// One row: words, the number that the last of them is given, and the number that it should be given.
+// One row: words, the number that the last of them gets, and the number that it should get.
 use crate::answer::last;
 use libc::STDOUT_FILENO;
 
@@ -35,7 +35,7 @@ pub(crate) fn row(name: &[u8], words: &[u32], should: u64) {
     let mut im = [0u16; 256];
     let mut zm = [0u16; 256];
     let got = last(words, &mut im, &mut zm);
-    print_row(name, got, should);
+    print_row(name, got.number, should);
 }
 
 // A row over memories of two lengths.
@@ -43,5 +43,13 @@ pub(crate) fn unlike(name: &[u8], words: &[u32], should: u64) {
     let mut im = [0u16; 256];
     let mut zm = [0u16; 255];
     let got = last(words, &mut im, &mut zm);
-    print_row(name, got, should);
+    print_row(name, got.number, should);
+}
+
+// A row that tells how many pixels pass at the last word, over eight rows of 256 places.
+pub(crate) fn passed(name: &[u8], words: &[u32], should: u64) {
+    let mut im = [0u16; 2048];
+    let mut zm = [0u16; 2048];
+    let got = last(words, &mut im, &mut zm);
+    print_row(name, got.passed, should);
 }

@@ -1,6 +1,6 @@
 -- What words leave in the record: what is no longer parked or open is cleared; INIT turns both write enables off, and HCONTROL alone turns
--- one on. And the vertices of what a word completes. Assumes nothing.
-use mathlib.Core.Path.{_≡_, refl, sym, ap, _∙_, subst}
+-- one on; LX starts a line visible. And the vertices of what a word completes. Assumes nothing.
+use mathlib.Core.Path.{_≡_, refl, sym, ap, ap₂, _∙_, subst}
 use mathlib.Core.Bool.{Bool, true, false, cond, true≢false}
 use mathlib.Core.List.{List}
 use Prim.Native.Nat.{ℕ, _+_, _≤_, _<_}
@@ -22,7 +22,7 @@ use Rattle.registers.specs.declared.shape.Completed.the-variants.{Nothin
 use Rattle.registers.specs.declared.Figure.{Figure}
 use Rattle.registers.specs.declared.Parked.{Parked}
 use Rattle.registers.specs.declared.Registers.{Registers}
-use Rattle.registers.specs.Record.{noVertex, opened, noFigure, endBit, isOn, awaiting, nothingAwaited, settings, resetOf, withParked}
+use Rattle.registers.specs.Record.{noVertex, opened, noFigure, invBit, endBit, isOn, awaiting, nothingAwaited, settings, resetOf, withParked}
 use Rattle.registers.specs.Subcommand.{subcommandOf, wants}
 use Rattle.registers.specs.Figure.{shapeOf, vertexOf, isPair, paired, grownOf, completes, figureAfter, vertexCompletes}
 use Rattle.registers.specs.Next.{value, awaited, joinedOf, counted, effectOf, parmOf, coordinateOf, coordinateCompletes, after, completedBy, penOf}
@@ -93,6 +93,22 @@ module _ (r : Registers) (n : ℕ) where
   pub line-opened : after r (At Lx n) .figure ≡ opened 3 (vertexOf r n)
   unfolding after coordinateOf
   line-opened = refl
+
+  -- and starts it visible, whatever LSTATUS came before
+  pub line-visible : isOn invBit (after r (At Lx n) .modes .lstatus) ≡ false
+  unfolding after coordinateOf
+  line-visible = refl
+
+  -- and not at its end
+  pub line-unended : isOn endBit (after r (At Lx n) .modes .lstatus) ≡ false
+  unfolding after coordinateOf
+  line-unended = refl
+
+  -- a point that finds the line and its status as LX left them completes a segment from LX's vertex
+  pub line-shown : (s : Registers) (m : ℕ) → s .figure ≡ after r (At Lx n) .figure → s .modes .lstatus ≡ after r (At Lx n) .modes .lstatus
+      → vertexCompletes s m ≡ Segment (vertexOf r n) (vertexOf s m)
+  unfolding after coordinateOf completes shapeOf
+  line-shown s m f l = ap₂ (λ (g : Figure) (k : ℕ). completes (shapeOf (g .shape)) (isOn invBit k) g (vertexOf s m)) f l
 
   -- with END 1 no figure is open after a segment
   pub end-closes : shapeOf (r .figure .shape) ≡ Line → isOn endBit (r .modes .lstatus) ≡ true → figureAfter r n ≡ noFigure

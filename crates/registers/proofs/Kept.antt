@@ -25,7 +25,7 @@ use Rattle.registers.specs.declared.Figure.{Figure}
 use Rattle.registers.specs.declared.Parked.{Parked}
 use Rattle.registers.specs.declared.Registers.{Registers}
 use Rattle.registers.specs.Lines.{chipsIn, unitIn, pageIn, codeIn, lineOf}
-use Rattle.registers.specs.Record.{noVertex, opened, invBit, frameOf, awaiting, nothingAwaited, window, settings, resetOf, initOf, withPmode, withLmode, withZcontrol, withHcontrol, withLstatus, withTransparency, withPlanes, withModes, withWindow, withDash, withLatch, withFigure, withParked}
+use Rattle.registers.specs.Record.{noVertex, opened, frameOf, awaiting, nothingAwaited, window, settings, resetOf, initOf, withPmode, withLmode, withZcontrol, withHcontrol, withLstatus, withTransparency, withPlanes, withModes, withWindow, withDash, withLatch, withFigure, withParked}
 use Rattle.registers.specs.Subcommand.{subcommands, subcommandOf, wants}
 use Rattle.registers.specs.Figure.{shapeOf, vertexOf, isPair, grownOf, figureAfter}
 use Rattle.registers.specs.Next.{value, awaited, joinedOf, counted, effectOf, parmOf, coordinateOf, after}
@@ -313,7 +313,7 @@ module _ (r : Registers) (s : Sound r) where
   coordinate-sound X n h = grown-sound n h
   coordinate-sound T1x n h = sound-figure s _ (open-fits 1 (vertexOf r n) refl (vertex-fits n h))
   coordinate-sound T2x n h = sound-figure s _ (open-fits 2 (vertexOf r n) refl (vertex-fits n h))
-  coordinate-sound Lx n h = sound-figure (sound-modes s _ (lstatus-fits (r .modes) (s .modes) invBit refl)) _ (open-fits 3 (vertexOf r n) refl (vertex-fits n h))
+  coordinate-sound Lx n h = sound-figure (sound-modes s _ (lstatus-fits (r .modes) (s .modes) 0 refl)) _ (open-fits 3 (vertexOf r n) refl (vertex-fits n h))
   coordinate-sound Px n h = grown-sound n h
 
 -- ---- reset and INIT

@@ -15,7 +15,7 @@ use Rattle.registers.specs.declared.Parked.{Parked}
 use Rattle.registers.specs.declared.Registers.{Registers}
 use Rattle.registers.specs.declared.shape.Completed.{Completed}
 use Rattle.registers.specs.declared.shape.Completed.the-variants.{Nothing as None}
-use Rattle.registers.specs.Record.{isOn, depthBit, iBit, zBit, invBit, awaiting, nothingAwaited, opened, withPmode, withLmode, withZcontrol, withHcontrol, withLstatus, withTransparency, withPlanes, latch, window, dash, withModes, withWindow, withDash, withLatch, withFigure, withParked, initOf}
+use Rattle.registers.specs.Record.{isOn, depthBit, iBit, zBit, awaiting, nothingAwaited, opened, withPmode, withLmode, withZcontrol, withHcontrol, withLstatus, withTransparency, withPlanes, latch, window, dash, withModes, withWindow, withDash, withLatch, withFigure, withParked, initOf}
 use Rattle.registers.specs.Subcommand.{subcommandOf, wants}
 use Rattle.registers.specs.Figure.{vertexOf, figureAfter, vertexCompletes}
 
@@ -63,9 +63,9 @@ parmOf r v =
 abbrev pub openOf : Registers → ℕ → ℕ → Registers
 openOf r shape x = withFigure r (opened shape (vertexOf r x))
 
--- LX sets INV 1 and END 0
+-- LX sets INV 0 and END 0: a line starts visible (document 02, [5])
 abbrev pub lineOpenOf : Registers → ℕ → Registers
-lineOpenOf r x = openOf (withModes r (withLstatus (r .modes) invBit)) 3 x
+lineOpenOf r x = openOf (withModes r (withLstatus (r .modes) 0)) 3 x
 
 -- the record after a coordinate
 unfoldable pub coordinateOf : Registers → Coordinate → ℕ → Registers

@@ -218,11 +218,11 @@ impl Registers {
         self
     }
 
-    // LX: INV 1, END 0.
+    // LX: INV 0, END 0.
     fn line_opening(mut self, x: u16) -> Self
         ensures { λ r. ⌜ r ≡ lineOpenOf self x ⌝ }
     {
-        self.modes.lstatus = INV;
+        self.modes.lstatus = 0;
         self.opening(3, x)
     }
 

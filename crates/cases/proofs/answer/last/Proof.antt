@@ -8,10 +8,10 @@ use Rattle.cases.proofs.answer.last.Statement.{statement}
 use Rattle.cases.proofs.answer.last.Tie as tie
 
 abbrev Inv-loop : tie.InvT-loop
-Inv-loop words im₀ zm₀ r₀ number₀ k₀ k-end im zm r number k = (k-end ≤ length words) × (length im ≡ length im₀) × (length zm ≡ length zm₀)
+Inv-loop words im₀ zm₀ r₀ number₀ passed₀ k₀ k-end im zm r number passed k = (k-end ≤ length words) × (length im ≡ length im₀) × (length zm ≡ length zm₀)
 
 abbrev μ-loop : tie.MeasureT-loop
-μ-loop words im₀ zm₀ r₀ number₀ k₀ k-end im zm r number k = k-end - k
+μ-loop words im₀ zm₀ r₀ number₀ passed₀ k₀ k-end im zm r number passed k = k-end - k
 
 reset-requires : tie.Need-reset-requires Inv-loop μ-loop
 reset-requires c κs = search needs
