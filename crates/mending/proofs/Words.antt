@@ -4,20 +4,22 @@ use mathlib.Core.Path.{_≡_, refl, ap, ap₂, _∙_}
 use mathlib.Core.Logic.{_≢_}
 use mathlib.Core.Bool.{Bool, not, cond, _||_}
 use mathlib.Core.List.{List, [], _∷_}
-use Prim.Native.Nat.{ℕ, _+_}
+use Prim.Native.Nat.{ℕ, zero, suc, _+_, _<_}
 use native.Mathlib.Omega.{arith}
 use lib.Dec.{eqb}
-use lib.ListN.{length}
+use lib.ListN.{length, getD}
 use borrow.Author.Tests.{eq-eqb, ne-eqb}
+use Rattle.stream.specs.Format.{unpackOf}
 use Rattle.stream.proofs.Bits.{Fits, none, more}
 use Rattle.registers.specs.declared.Registers.{Registers}
 use Rattle.registers.specs.declared.word.Word.{Word}
+use Rattle.registers.specs.Record.{resetOf}
 use Rattle.registers.specs.Bounds.{inBounds}
 use Rattle.registers.specs.Word.{wordOf}
 use Rattle.registers.specs.Next.{after}
 use Rattle.registers.specs.Refusal.{table, lowest, refusalOf, next}
 use Rattle.machine.proofs.Runs.{zero-or-not}
-use Rattle.mending.specs.Mend.{numberIn, afterIn, keptIn, Dropped, dropped, droppedIn}
+use Rattle.mending.specs.Mend.{numberIn, afterIn, keptIn, Dropped, dropped, droppedIn, droppedOf, indicesOf}
 
 -- ---- one word more
 
@@ -53,6 +55,26 @@ all-sorted n [] k r = refl
 all-sorted n (w ∷ ws) k r =
     let rest = all-sorted n ws (k + 1) (afterIn n r w) in
     zero-or-not (numberIn n r w) (λ e. rw (eq-eqb _ _ e) (omega (arith, rest))) (λ e. rw (ne-eqb _ _ e) (omega (arith, rest)))
+
+-- a list with one word more in front has indices below a bound where both have
+below-next : (x : Dropped) (xs : List Dropped) (bound : ℕ) → x .index < bound → ((i : ℕ) → i < length xs → getD (indicesOf xs) i 0 < bound)
+    → (j : ℕ) → j < length (x ∷ xs) → getD (indicesOf (x ∷ xs)) j 0 < bound
+below-next x xs bound first rest zero h = first
+below-next x xs bound first rest (suc j) h = rest j (omega arith)
+
+-- an index that is listed is that of a word
+index-low : (n : ℕ) (ws : List ℕ) (k : ℕ) (r : Registers) (j : ℕ) → j < length (droppedIn n k r ws) → getD (indicesOf (droppedIn n k r ws)) j 0 < k + length ws
+unfolding droppedIn
+index-low n [] k r j h = absurd (omega arith)
+index-low n (w ∷ ws) k r j h =
+    let rest = droppedIn n (k + 1) (afterIn n r w) ws in
+    let low : (i : ℕ) → i < length rest → getD (indicesOf rest) i 0 < k + length (w ∷ ws) = λ i below. omega (arith, index-low n ws (k + 1) (afterIn n r w) i below) in
+    zero-or-not (numberIn n r w)
+    (λ e. let list = dropped-accepted n r w ws e k in rw list (low j (rw list at h)))
+    (λ e. let list = dropped-refused n r w ws e k in rw list (below-next (dropped k (numberIn n r w)) rest (k + length (w ∷ ws)) (omega arith) low j (rw list at h)))
+
+pub indices-low : (bytes : List ℕ) (n j : ℕ) → j < length (droppedOf bytes n) → getD (indicesOf (droppedOf bytes n)) j 0 < length (unpackOf bytes)
+indices-low bytes n j h = omega (arith, index-low n (unpackOf bytes) 0 resetOf j h)
 
 -- the words that are kept have as few bits as the words
 pub kept-fits : (b n : ℕ) (ws : List ℕ) (r : Registers) → Fits b ws → Fits b (keptIn n r ws)

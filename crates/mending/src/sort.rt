@@ -39,11 +39,11 @@ pub(crate) fn kept(bytes: &[u8]) -> usize
     let mut j: usize = 0;
     let mut k: usize = 0;
     while k < count {
-        let a = tried(r, word(bytes, k));
-        let next = a.registers;
+        let answer = tried(r, word(bytes, k));
+        let next = answer.registers;
         r = next;
         k += 1;
-        if a.refusal == 0 {
+        if answer.refusal == 0 {
             j += 1;
         }
     }
