@@ -3,6 +3,7 @@
 // the rows in use, no more places than it says, and leaves a record that a further INIT accepts; no guard ever changes. Streams of such
 // words, some of them damaged, end alike in one call and word by word. Stops at the first fault with status 1.
 // usage: storm
+#include "chance.h"
 #include "feed.h"
 #include <stdio.h>
 #include <stdlib.h>
@@ -16,19 +17,6 @@ enum {
     GUARD = 64,
     PER_STREAM = 60,
 };
-
-// ---- chance, the same in each run
-
-static uint64_t state = 8512;
-
-static uint64_t chance(void) {
-    state ^= state << 13;
-    state ^= state >> 7;
-    state ^= state << 17;
-    return state * UINT64_C(0x2545F4914F6CDD1D) >> 16;
-}
-
-static unsigned below(unsigned n) { return (unsigned)(chance() % n); }
 
 // ---- what is lent: places and a record, each between guards
 

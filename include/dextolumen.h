@@ -5,7 +5,7 @@
  *
  *   - A pointer and the length after it are one lent array: so many elements, aligned as C aligns their type. No pointer is null, also
  *     where the length is 0; nothing is read or written through it then.
- *   - The I memory, the Z memory, the record and the stream do not overlap, and nothing else writes to them during a call.
+ *   - The I memory, the Z memory, the record, the stream and every lent output do not overlap, and nothing else writes to them during a call.
  *   - A record comes from dextolumen_reset and the calls after it, so that nobody fills one in by hand. Any 74 bytes are a record
  *     all the same: one that breaks a bound is refused with DEXTOLUMEN_BAD_RECORD and left as it is. docs/REGISTERS.md has the bounds.
  */
@@ -32,6 +32,7 @@ enum {
     DEXTOLUMEN_BAD_LENGTH = 11,   /* the stream's length mod 5 is 1, 2 or 4 */
     DEXTOLUMEN_BAD_TAIL = 12,     /* the last half byte of an odd stream is not 0 */
     DEXTOLUMEN_PAST_LAST = 13,    /* the place asked for is past the last word */
+    DEXTOLUMEN_NO_ROOM = 13,      /* what is lent is too short */
 };
 
 /* dextolumen_word_count and dextolumen_word_at answer this plus the number where they refuse. */
@@ -106,6 +107,12 @@ struct dextolumen_ended {
     struct dextolumen_registers registers;
 };
 
+/* What became of a damaged recording: the number that refused it; the length of the new stream; how many words were dropped; how many bits were
+   cut from the end; and whether a closing half byte that was not 0 was cleared, 1 or 0. Refused, it tells its number and else 0. */
+struct dextolumen_mended {
+    uint64_t refusal, size, dropped, cut, cleared;
+};
+
 /* ---- packed streams */
 
 /* How many words a packed stream holds; or refused: BAD_LENGTH, BAD_TAIL. */
@@ -127,6 +134,16 @@ struct dextolumen_told dextolumen_step(struct dextolumen_registers *registers, u
    (BAD_LENGTH, BAD_TAIL, BAD_RECORD, in that order) ends with index and sum 0, the record after reset and both memories untouched. */
 struct dextolumen_ended dextolumen_run(const uint8_t *bytes, size_t length, uint16_t *i_memory, size_t i_length, uint16_t *z_memory,
                                        size_t z_length);
+
+/* ---- damaged recordings */
+
+/* Mends a recording: its whole words run in order from reset over the two memories, and those that are refused are dropped. The others, as a good
+   stream, are written to the front of `out`, and of each dropped word its index in the recording and the number that refuses it to the fronts
+   of `indices` and `numbers`. Refused (BAD_RECORD for memories of unlike length, then NO_ROOM for the stream or either list) it touches
+   nothing. The new stream is no longer than the recording, and the lists no longer than 2 * length / 5. */
+struct dextolumen_mended dextolumen_mend(const uint8_t *bytes, size_t length, uint8_t *out, size_t out_length, uint64_t *indices,
+                                         size_t indices_length, uint8_t *numbers, size_t numbers_length, uint16_t *i_memory, size_t i_length,
+                                         uint16_t *z_memory, size_t z_length);
 
 /* ---- the layout, as the proved code has it */
 
@@ -174,6 +191,12 @@ DEXTOLUMEN_AT(dextolumen_ended, refusal, 0);
 DEXTOLUMEN_AT(dextolumen_ended, index, 8);
 DEXTOLUMEN_AT(dextolumen_ended, sum, 16);
 DEXTOLUMEN_AT(dextolumen_ended, registers, 24);
+DEXTOLUMEN_SIZE(dextolumen_mended, 40, 8);
+DEXTOLUMEN_AT(dextolumen_mended, refusal, 0);
+DEXTOLUMEN_AT(dextolumen_mended, size, 8);
+DEXTOLUMEN_AT(dextolumen_mended, dropped, 16);
+DEXTOLUMEN_AT(dextolumen_mended, cut, 24);
+DEXTOLUMEN_AT(dextolumen_mended, cleared, 32);
 
 #undef DEXTOLUMEN_SIZE
 #undef DEXTOLUMEN_AT

@@ -1,3 +1,4 @@
 // What the programs of host/ need of <stddef.h>.
 typedef __SIZE_TYPE__ size_t;
+#define NULL ((void *)0)
 #define offsetof(type, field) __builtin_offsetof(type, field)

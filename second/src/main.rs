@@ -3,12 +3,14 @@
 //! is tried against every figure.
 
 mod commands;
+mod damages;
 mod edges;
 #[cfg(test)]
 mod examples;
 mod figures;
 mod generator;
 mod hexwords;
+mod mend;
 mod picture;
 mod printing;
 mod program;
@@ -24,7 +26,7 @@ mod vectors;
 use std::io::{self, Read, Write};
 use std::process::ExitCode;
 
-const USAGE: &str = "usage: second draw | pack | unpack | generate SEED | seeds FIRST COUNT DIR | vectors DIR | shares FIRST COUNT";
+const USAGE: &str = "usage: second draw | pack | unpack | generate SEED | seeds FIRST COUNT DIR | vectors DIR | shares FIRST COUNT | mend | damages FIRST COUNT DIR";
 
 fn main() -> ExitCode {
     let arguments: Vec<String> = std::env::args().skip(1).collect();
@@ -47,6 +49,8 @@ fn dispatch(arguments: &[&str]) -> Result<(), String> {
         ["seeds", first, count, directory] => seeds::write(number(first)?, number(count)?, directory),
         ["vectors", directory] => vectors::write(directory),
         ["shares", first, count] => print_shares(number(first)?, number(count)?),
+        ["mend"] => mend(),
+        ["damages", first, count, directory] => damages::write(number(first)?, number(count)?, directory),
         _ => Err(USAGE.to_string()),
     }
 }
@@ -75,6 +79,19 @@ fn write_out(bytes: &[u8]) -> Result<(), String> {
 fn draw() -> Result<(), String> {
     let bytes = read_at_most(printing::LONGEST_STREAM as u64 + 1)?;
     write_out(printing::drawing(&bytes).as_bytes())
+}
+
+/// The new stream goes to standard output, what is said of it to standard
+/// error.
+fn mend() -> Result<(), String> {
+    let bytes = read_at_most(mend::LONGEST_RECORDING as u64 + 1)?;
+    if bytes.len() > mend::LONGEST_RECORDING {
+        return Err("too long".to_string());
+    }
+    let mended = mend::mend(&bytes);
+    write_out(&mended.stream())?;
+    eprint!("{}", mended.said());
+    Ok(())
 }
 
 fn print_shares(first: u64, count: u64) -> Result<(), String> {

@@ -12,8 +12,13 @@ pub const PLACES: usize = 8192;
 pub fn drawing(bytes: &[u8]) -> String {
     match drawing_outcome(bytes) {
         None => "too long\n".to_string(),
-        Some((outcome, picture)) => first_line(&outcome) + &lit_places(&outcome, &picture),
+        Some((outcome, picture)) => picture_text(&outcome, &picture),
     }
+}
+
+/// What is printed of a run and the picture that it left.
+pub fn picture_text(outcome: &Outcome, picture: &Picture) -> String {
+    first_line(outcome) + &lit_places(outcome, picture)
 }
 
 /// What running the bytes gives, or nothing if they are too many.

@@ -1,5 +1,8 @@
 // Entries for the host program in C: the record after reset, one word on the record where it stands, and a whole packed stream. Their
-// results are those of the chip's own calls, by the same definitions. include/dextolumen.h has the C side.
+// results are those of the chip's own calls, by the same definitions. mend.rt has the entry for damaged recordings, include/dextolumen.h the
+// C side.
+pub mod mend;
+
 ghost use mathlib.Core.Path.{_≡_};
 ghost use Rattle.registers.specs.Record.{resetOf};
 ghost use Rattle.registers.specs.Word.{decode};
