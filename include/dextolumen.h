@@ -31,10 +31,10 @@ enum {
     DEXTOLUMEN_NO_FIGURE = 10,    /* X or PX that fits no open figure */
     DEXTOLUMEN_BAD_LENGTH = 11,   /* the stream's length mod 5 is 1, 2 or 4 */
     DEXTOLUMEN_BAD_TAIL = 12,     /* the last half byte of an odd stream is not 0 */
-    DEXTOLUMEN_PAST_LAST = 13,    /* the place asked for is past the last word */
+    DEXTOLUMEN_PAST_LAST = 13,    /* the place asked for is past the last word, or the list is longer than its room */
 };
 
-/* dextolumen_word_count and dextolumen_word_at answer this plus the number where they refuse. */
+/* dextolumen_word_count, dextolumen_word_at and dextolumen_squares answer this plus the number where they refuse. */
 #define DEXTOLUMEN_REFUSED (UINT64_C(1) << 63)
 
 /* ---- the register record */
@@ -127,6 +127,14 @@ struct dextolumen_told dextolumen_step(struct dextolumen_registers *registers, u
    (BAD_LENGTH, BAD_TAIL, BAD_RECORD, in that order) ends with index and sum 0, the record after reset and both memories untouched. */
 struct dextolumen_ended dextolumen_run(const uint8_t *bytes, size_t length, uint16_t *i_memory, size_t i_length, uint16_t *z_memory,
                                        size_t z_length);
+
+/* ---- what changed, for remote viewers */
+
+/* Lists the squares of 8 by 8 pixels in which two pictures of a width and rows up to 256 differ, each by its lower left corner: x is bits 15 to 0,
+   y bits 31 to 16. Answers how many there are, at most 1024; or refused: BAD_RECORD where the lengths differ, BAD_VALUE where the size is not
+   allowed, PAST_LAST where they do not all fit; then nothing is written. */
+uint64_t dextolumen_squares(const uint16_t *before, size_t before_length, const uint16_t *after, size_t after_length, size_t width,
+                            size_t rows, uint32_t *squares, size_t room);
 
 /* ---- the layout, as the proved code has it */
 

@@ -1,0 +1,9 @@
+pub mod Any
+pub mod Clip
+pub mod Split
+pub mod Few
+pub mod Calls
+pub mod Once
+pub mod Copies
+pub mod Viewer
+pub mod Settled
