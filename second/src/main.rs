@@ -10,6 +10,7 @@ mod figures;
 mod generator;
 mod hexwords;
 mod picture;
+mod pictures;
 mod printing;
 mod program;
 mod random;
@@ -17,13 +18,14 @@ mod registers;
 mod run;
 mod seeds;
 mod shares;
+mod squares;
 mod stream;
 mod vectors;
 
 use std::io::{self, Read, Write};
 use std::process::ExitCode;
 
-const USAGE: &str = "usage: second draw | pack | unpack | generate SEED | seeds FIRST COUNT DIR | vectors DIR | shares FIRST COUNT";
+const USAGE: &str = "usage: second draw | pack | unpack | generate SEED | seeds FIRST COUNT DIR | vectors DIR | shares FIRST COUNT | squares FIRST COUNT DIR";
 
 fn main() -> ExitCode {
     let arguments: Vec<String> = std::env::args().skip(1).collect();
@@ -46,6 +48,7 @@ fn dispatch(arguments: &[&str]) -> Result<(), String> {
         ["seeds", first, count, directory] => seeds::write(number(first)?, number(count)?, directory),
         ["vectors", directory] => vectors::write(directory),
         ["shares", first, count] => print_shares(number(first)?, number(count)?),
+        ["squares", first, count, directory] => pictures::write(number(first)?, number(count)?, directory),
         _ => Err(USAGE.to_string()),
     }
 }

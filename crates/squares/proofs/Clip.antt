@@ -17,6 +17,11 @@ use Rattle.squares.proofs.Any.{any-here, any-found, fails, in-here, in-
 pub row-ends : (width rows y : ℕ) → y < rows → y * width + width ≤ width * rows
 row-ends width rows y h = omega (arith, mul-comm width rows, suc-mul y width, mul-le-mul-right {m = suc y} {n = rows} width h)
 
+-- the columns and rows of a square of side 8 that are inside the picture
+pub record Ends (width rows x y columns height : ℕ) : Type 0 where
+  pub column : columns ≡ min 8 (width - x)
+  pub row : height ≡ min 8 (rows - y)
+
 -- ---- a run of places
 
 module _ (old new : List ℕ) (at : ℕ) where

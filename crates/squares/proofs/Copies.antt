@@ -1,38 +1,19 @@
 -- Copying listed squares: a place whose pixel lies in one of them takes the new number, every other place keeps its own. Where two pictures differ
 -- only inside listed squares, the old one becomes the new one. Assumes nothing.
-use mathlib.Core.Path.{_≡_, refl, sym, ap, _∙_}
+use mathlib.Core.Path.{_≡_, refl, sym, _∙_}
 use mathlib.Core.Bool.{Bool, true, false, cond}
 use mathlib.Core.List.{List, [], _∷_}
-use Prim.Native.Nat.{ℕ, zero, suc, _+_, _/_, _%_, _<_}
-use native.Mathlib.Nat.{add-zero, zero-add, add-suc, suc-add}
+use Prim.Native.Nat.{ℕ, _+_, _/_, _%_, _<_}
 use native.Mathlib.Omega.{arith}
 use lib.ListN.{length, getD}
 use lib.Seq.{ext-getD}
 use lib.Dec.{eqb}
 use borrow.Author.Tests.{eqb-true, eqb-false}
 use Rattle.squares.specs.Squares.{Corner}
-use Rattle.squares.specs.Copy.{holds, holders, overlay, copySquare, copySquares}
+use Rattle.squares.specs.Copy.{holds, holders, copySquare, copySquares}
+use Rattle.squares.proofs.Overlay.{same, length-overlay, overlay-at}
 
 -- ---- one square
-
-length-overlay : (test : ℕ → Bool) (new : List ℕ) (at : ℕ) (old : List ℕ) → length (overlay test new at old) ≡ length old
-unfolding overlay
-length-overlay test new at [] = refl
-length-overlay test [] at (a ∷ old) = refl
-length-overlay test (b ∷ new) at (a ∷ old) = ap suc (length-overlay test new (suc at) old)
-
-same : (b : Bool) (v : ℕ) → cond b v v ≡ v
-same true v = refl
-same false v = refl
-
-overlay-at : (test : ℕ → Bool) (new : List ℕ) (at : ℕ) (old : List ℕ) (i : ℕ) → length new ≡ length old
-    → getD (overlay test new at old) i 0 ≡ cond (test (at + i)) (getD new i 0) (getD old i 0)
-unfolding overlay
-overlay-at test [] at [] i e = sym (same (test (at + i)) 0)
-overlay-at test (b ∷ new) at [] i e = absurd (omega arith)
-overlay-at test [] at (a ∷ old) i e = absurd (omega arith)
-overlay-at test (b ∷ new) at (a ∷ old) zero e = rw (add-zero at)
-overlay-at test (b ∷ new) at (a ∷ old) (suc i) e = rw (add-suc at i, ← suc-add at i) (overlay-at test new (suc at) old i (omega arith))
 
 module _ (width : ℕ) (new : List ℕ) where
   length-copy : (old : List ℕ) (c : Corner) → length (copySquare width new old c) ≡ length old
@@ -42,7 +23,7 @@ module _ (width : ℕ) (new : List ℕ) where
   copy-at : (old : List ℕ) (c : Corner) (i : ℕ) → length new ≡ length old
       → getD (copySquare width new old c) i 0 ≡ cond (holds (i % width) (i / width) c) (getD new i 0) (getD old i 0)
   unfolding copySquare
-  copy-at old c i e = overlay-at (λ p. holds (p % width) (p / width) c) new 0 old i e ∙ rw (zero-add i)
+  copy-at old c i e = overlay-at new old e (λ p. holds (p % width) (p / width) c) i
 
   -- ---- listed squares
 

@@ -4,34 +4,18 @@ use mathlib.Core.Path.{_≡_, refl, sym, subst, _∙_}
 use mathlib.Core.Logic.{⊎-elim}
 use mathlib.Core.Bool.{Bool, true, false, cond, _&&_, true≢false}
 use mathlib.Core.List.{List, [], _∷_, _++_, List·Memᴰ, List·Memᴰ·append-cases, List·Memᴰ·eq-of-singleton, List·Memᴰ·not-nil}
-use Prim.Native.Nat.{ℕ, zero, suc, _+_, _*_, _-_, _≤_, _<_}
+use Prim.Native.Nat.{ℕ, zero, suc, _+_, _*_, _-_, _%_, _≤_, _<_}
 use native.Mathlib.Nat.{add-zero, add-mul, mul-add, one-mul, zero-mul}
 use native.Mathlib.Omega.{arith}
-use borrow.Author.Tests.{lt-ltb, le-ltb, le-leb, lt-leb, ltb-true, ltb-false, leb-true}
-use lib.Dec.{ltb, leb}
+use borrow.Author.Tests.{ltb-true, ltb-false}
+use lib.Dec.{ltb}
 use Rattle.picture.proofs.Places.{both}
 use Rattle.squares.specs.Squares.{anyIn, Corner, corner, sideOf, kept, squares}
 use Rattle.squares.specs.Copy.{within, covers, holds, holders}
 use Rattle.squares.proofs.Any.{fails, in-here, in-found}
+use Rattle.squares.proofs.Within.{within-in, within-low, within-high, within-parts}
 
--- ---- where a number lies
-
-module _ (n a v : ℕ) where
-  within-in : a ≤ v → v < a + n → within n a v ≡ true
-  unfolding within
-  within-in h k = rw (le-leb a v h, lt-ltb v (a + n) k)
-
-  within-low : v < a → within n a v ≡ false
-  unfolding within
-  within-low h = rw (lt-leb a v h)
-
-  within-high : a + n ≤ v → within n a v ≡ false
-  unfolding within
-  within-high h = rw (le-leb a v (omega arith), le-ltb v (a + n) h)
-
-  within-parts : within n a v ≡ true → (a ≤ v) × (v < a + n)
-  unfolding within
-  within-parts e = let p = both (leb a v) (ltb v (a + n)) e in (leb-true a v (p .0), ltb-true v (a + n) (p .1))
+-- ---- where a pixel lies
 
 -- how often: once where a test holds
 abbrev once : Bool → ℕ
@@ -137,13 +121,21 @@ module _ (marked : ℕ → ℕ → Bool) (x y : ℕ) (is-marked : marked x y ≡
 
 -- ---- each square that remains
 
--- it holds a marked pixel, and lies in the square that it remains of
+-- a side is a number of eights
+eights : (n : ℕ) → sideOf n % 8 ≡ 0
+unfolding sideOf
+eights zero = refl
+eights (suc n) = omega (arith, eights n)
+
+-- it holds a marked pixel, and lies in the square that it remains of, a number of eights from its corner
 pub record Remains (marked : ℕ → ℕ → Bool) (side a b : ℕ) (c : Corner) : Type 0 where
   pub some : anyIn marked 8 (c .x) (c .y) ≡ true
   pub left : a ≤ c .x
   pub right : c .x + 8 ≤ a + side
   pub bottom : b ≤ c .y
   pub top : c .y + 8 ≤ b + side
+  pub column : c .x % 8 ≡ a % 8
+  pub row : c .y % 8 ≡ b % 8
 
 module _ (marked : ℕ → ℕ → Bool) (c : Corner) where
   kept-member : (side a b : ℕ) (l : List Corner) → List·Memᴰ c (kept marked side a b l) → (anyIn marked side a b ≡ true) × List·Memᴰ c l
@@ -163,13 +155,16 @@ module _ (marked : ℕ → ℕ → Bool) (c : Corner) where
       (List·Memᴰ·append-cases (k ++ l ++ r) m)
 
   -- what remains of a quarter remains of the square
-  of-quarter : (side a b d e : ℕ) → d ≤ side → e ≤ side → Remains marked side (a + d) (b + e) c → Remains marked (2 * side) a b c
-  of-quarter side a b d e h k m = record {
+  of-quarter : (side a b d e : ℕ) → d ≤ side → e ≤ side → d % 8 ≡ 0 → e % 8 ≡ 0
+      → Remains marked side (a + d) (b + e) c → Remains marked (2 * side) a b c
+  of-quarter side a b d e h k p q m = record {
     some = m .some;
     left = omega (arith, m .left);
     right = omega (arith, m .right);
     bottom = omega (arith, m .bottom);
     top = omega (arith, m .top);
+    column = omega (arith, m .column);
+    row = omega (arith, m .row);
   }
 
   pub remains : (n a b : ℕ) → List·Memᴰ c (squares marked n a b) → Remains marked (sideOf n) a b c
@@ -177,18 +172,19 @@ module _ (marked : ℕ → ℕ → Bool) (c : Corner) where
   remains zero a b m =
       let k = kept-member 8 a b (corner a b ∷ []) m in
       let e : c ≡ corner a b = List·Memᴰ·eq-of-singleton (k .1) in
-      subst (Remains marked 8 a b) (sym e) (record { some = k .0; left = omega arith; right = omega arith; bottom = omega arith; top = omega arith })
+      subst (Remains marked 8 a b) (sym e) (record { some = k .0; left = omega arith; right = omega arith; bottom = omega arith; top = omega arith; column = refl; row = refl })
   remains (suc n) a b m =
       let s = sideOf n in
+      let f = eights n in
       four-cases
       (squares marked n a b)
       (squares marked n (a + s) b)
       (squares marked n a (b + s))
       (squares marked n (a + s) (b + s))
-      (λ u. of-quarter s a b 0 0 (omega arith) (omega arith) (rw (add-zero a, add-zero b) (remains n a b u)))
-      (λ u. of-quarter s a b s 0 (omega arith) (omega arith) (rw (add-zero b) (remains n (a + s) b u)))
-      (λ u. of-quarter s a b 0 s (omega arith) (omega arith) (rw (add-zero a) (remains n a (b + s) u)))
-      (λ u. of-quarter s a b s s (omega arith) (omega arith) (remains n (a + s) (b + s) u))
+      (λ u. of-quarter s a b 0 0 (omega arith) (omega arith) refl refl (rw (add-zero a, add-zero b) (remains n a b u)))
+      (λ u. of-quarter s a b s 0 (omega arith) (omega arith) f refl (rw (add-zero b) (remains n (a + s) b u)))
+      (λ u. of-quarter s a b 0 s (omega arith) (omega arith) refl f (rw (add-zero a) (remains n a (b + s) u)))
+      (λ u. of-quarter s a b s s (omega arith) (omega arith) f f (remains n (a + s) (b + s) u))
       (kept-member (2 * s) a b _ m .1)
 
   -- the marked pixel that it holds
@@ -200,7 +196,3 @@ module _ (marked : ℕ → ℕ → Bool) (c : Corner) where
 pub covers-all : (x y : ℕ) → x < 256 → y < 256 → covers (sideOf 5) 0 0 x y ≡ true
 unfolding covers sideOf
 covers-all x y h k = rw (within-in 256 0 x (omega arith) (omega arith), within-in 256 0 y (omega arith) (omega arith))
-
-pub low-corner : (marked : ℕ → ℕ → Bool) (c : Corner) → Remains marked (sideOf 5) 0 0 c → (c .x ≤ 248) × (c .y ≤ 248)
-unfolding sideOf
-low-corner marked c r = (omega (arith, r .right), omega (arith, r .top))

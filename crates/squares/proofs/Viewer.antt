@@ -3,10 +3,10 @@
 use mathlib.Core.Path.{_≡_, refl, sym, ap, ap₂, _∙_}
 use mathlib.Core.Bool.{true}
 use mathlib.Core.List.{List, [], _∷_, map, List·Memᴰ, List·Memᴰ·head, List·Memᴰ·tail}
-use Prim.Native.Nat.{ℕ, _/_, _%_, _^_, _<_}
+use Prim.Native.Nat.{ℕ, _+_, _/_, _%_, _^_, _<_}
 use native.Mathlib.Nat.{mul-comm, mod-lt, div-add-mod', div-lt-iff-lt-mul}
 use native.Mathlib.Omega.{arith}
-use borrow.Author.Tests.{ne-eqb}
+use borrow.Author.Tests.{lt-ltb, eq-eqb, ne-eqb}
 use lib.Arith.{digits-div, digits-mod}
 use lib.ListN.{length, take, drop, getD}
 use lib.Seq.{take-append-seam}
@@ -14,11 +14,22 @@ use Rattle.stream.specs.Calls.{over}
 use Rattle.squares.specs.Squares.{Corner, corner, cornerOf, numbers}
 use Rattle.squares.specs.Change.{unlike, differs, changed}
 use Rattle.squares.specs.Copy.{holds, holders, copySquares}
-use Rattle.squares.specs.Calls.{answer, answerOf, listing, Answer}
+use Rattle.squares.specs.Calls.{isSquare, areSquares, Answer, answer, listing, copying}
+use Rattle.squares.proofs.Any.{in-found}
 use Rattle.squares.proofs.Clip.{differs-parts, differs-of}
-use Rattle.squares.proofs.Calls.{Sized, unrefused}
-use Rattle.squares.proofs.Once.{covers-all, once-in, remains, some-in, low-corner}
-use Rattle.squares.proofs.Copies.{becomes}
+use Rattle.squares.proofs.Calls.{Sized, sized-told, listed-whole, copy-done, copied-or-not}
+use Rattle.squares.proofs.Once.{covers-all, once-in, remains, some-in}
+use Rattle.squares.proofs.Copies.{untouched, becomes}
+
+-- squares each of which copying takes
+squares-each : (width rows : ℕ) (cs : List Corner)
+    → ((c : Corner) → List·Memᴰ c cs → (c .x % 8 ≡ 0) × (c .y % 8 ≡ 0) × (c .x < width) × (c .y < rows)) → areSquares width rows cs ≡ true
+unfolding areSquares isSquare
+squares-each width rows [] h = refl
+squares-each width rows (c ∷ cs) h =
+    let g = h c (List·Memᴰ·head refl) in
+    rw (eq-eqb (c .x % 8) 0 (g .0), eq-eqb (c .y % 8) 0 (g .1), lt-ltb (c .x) width (g .2), lt-ltb (c .y) rows (g .3))
+    (squares-each width rows cs (λ d m. h d (List·Memᴰ·tail m)))
 
 -- ---- the list
 
@@ -26,6 +37,18 @@ module _ (old new : List ℕ) (width rows : ℕ) where
   -- each listed square has a difference inside the picture
   pub each-differs : (c : Corner) → List·Memᴰ c (changed old new width rows) → (x : ℕ) × (y : ℕ) × (holds x y c ≡ true) × (differs old new width rows x y ≡ true)
   each-differs c m = let p = differs old new width rows in some-in p c (remains p c 5 0 0 m)
+
+  -- it is one such as copying takes
+  listed-inside : (c : Corner) → List·Memᴰ c (changed old new width rows) → (c .x % 8 ≡ 0) × (c .y % 8 ≡ 0) × (c .x < width) × (c .y < rows)
+  listed-inside c m =
+      let p = differs old new width rows in
+      let r = remains p c 5 0 0 m in
+      let s = in-found p 8 (c .x) (c .y) (r .some) in
+      let d = differs-parts old new width rows (c .x + s .0) (c .y + s .1) (s .4) in
+      (r .column, r .row, omega (arith, d .0), omega (arith, d .1))
+
+  pub all-squares : areSquares width rows (changed old new width rows) ≡ true
+  all-squares = squares-each width rows (changed old new width rows) listed-inside
 
   module _ (z : Sized (length old) (length new) width rows) where
     -- each differing pixel lies in exactly one listed square
@@ -58,17 +81,40 @@ told-back (c ∷ cs) h =
     (ap₂ corner (digits-mod (c .y) l) (digits-div (c .y) l))
     (told-back cs (λ d m. h d (List·Memᴰ·tail m)))
 
--- what the call tells and leaves, where it does not refuse: the number of squares, and they; copied, they make the new picture
-pub viewer : (old new out left : List ℕ) (width rows r : ℕ) → answer r left ≡ answerOf (listing old new width rows out) → r < 2 ^ 63
-    → (map cornerOf (take r left) ≡ changed old new width rows) × (copySquares width new old (map cornerOf (take r left)) ≡ new)
+-- what listing tells and leaves, where it does not refuse: the number of squares, and they
+pub told-squares : (old new out left : List ℕ) (width rows r : ℕ) → answer r left ≡ listing old new width rows out → r < 2 ^ 63
+    → Sized (length old) (length new) width rows × (map cornerOf (take r left) ≡ changed old new width rows) × (r ≡ length (take r left))
 unfolding over
-viewer old new out left width rows r e h =
+told-squares old new out left width rows r e h =
     let list = changed old new width rows in
-    let u = unrefused old new width rows out (rw (sym (ap (λ (a : Answer). a .told) e)) h) in
-    let p = differs old new width rows in
+    let u = listed-whole old new width rows out (rw (sym (ap (λ (a : Answer). a .told) e)) h) in
     let q = e ∙ u .1 in
     let t : take r left ≡ numbers list =
     ap (λ (a : Answer). take (a .told) (a .left)) q ∙ take-append-seam (numbers list) (drop (length (numbers list)) out) in
     let back : map cornerOf (take r left) ≡ list =
-    ap (map cornerOf) t ∙ told-back list (λ c m. omega (arith, low-corner p c (remains p c 5 0 0 m) .0)) in
-    (back, ap (copySquares width new old) back ∙ copied old new width rows (u .0))
+    ap (map cornerOf) t ∙ told-back list (λ c m. omega (arith, u .0 .narrow, listed-inside old new width rows c m .2)) in
+    (u .0, back, ap (λ (a : Answer). a .told) q ∙ sym (ap length t))
+
+-- listed and copied: a view of the old picture becomes the new one, whatever the two calls are allowed to answer and leave, and no square is refused
+pub viewer : (old new out left view : List ℕ) (width rows r s : ℕ)
+    → answer r left ≡ listing old new width rows out → r < 2 ^ 63
+    → answer s view ≡ copying (take r left) new width rows old
+    → (s ≡ r) × (view ≡ new)
+viewer old new out left view width rows r s p h q =
+    let t = told-squares old new out left width rows r p h in
+    let z = t .0 in
+    let list = take r left in
+    let good : areSquares width rows (map cornerOf list) ≡ true = rw (t .1) (all-squares old new width rows) in
+    let c = copy-done list new width rows old (sized-told (length old) (length new) width rows z) good refl in
+    let e = q ∙ sym c in (
+      ap (λ (a : Answer). a .told) e ∙ sym (t .2),
+      ap (λ (a : Answer). a .left) e ∙ ap (copySquares width new old) (t .1) ∙ copied old new width rows z,
+    )
+
+-- copying leaves each place outside the listed squares as it was, whatever the squares and the two pictures
+pub copy-elsewhere : (list new view left : List ℕ) (width rows s i : ℕ) → answer s left ≡ copying list new width rows view
+    → holders (i % width) (i / width) (map cornerOf list) ≡ 0 → getD left i 0 ≡ getD view i 0
+copy-elsewhere list new view left width rows s i e h =
+    rw (ap (λ (a : Answer). a .left) e)
+    (copied-or-not list new width rows view (λ l. getD l i 0 ≡ getD view i 0)
+    (λ l. untouched width new i view (map cornerOf list) l h) refl)

@@ -5,7 +5,7 @@ use native.Mathlib.Omega.{arith}
 use lib.ListN.{length}
 use Rattle.squares.specs.Change.{differs}
 use Rattle.squares.proofs.Few.{few}
-use Rattle.squares.proofs.Calls.{sized, flaw-small, five, call-flawed, call-short, call-done}
+use Rattle.squares.proofs.Calls.{sized, flaw-small, five, list-flawed, list-short, list-done}
 use borrow.Author.Needs.{needs}
 use Rattle.squares.proofs.dextolumen_squares.Statement.{statement}
 use Rattle.squares.proofs.dextolumen_squares.Tie as tie
@@ -23,7 +23,7 @@ returns : tie.Need-returns
 returns c =
     let f = c .before in
     let a = f .before .before .before .before .args in
-    call-flawed (a .old .now) (a .new .now) (a .width) (a .rows) (a .out .now) (f .flaw .ensures) (c .if1 .taken)
+    list-flawed (a .old .now) (a .new .now) (a .width) (a .rows) (a .out .now) (f .flaw .ensures) (c .if1 .taken)
 
 slice-aggregate-quarter : tie.Need-slice-aggregate-quarter
 slice-aggregate-quarter c = search needs
@@ -44,7 +44,7 @@ returns-2 c =
     let e = q .before .before in
     let f = e .before in
     let a = f .before .before .before .before .args in
-    call-short (a .old .now) (a .new .now) (a .width) (a .rows) (a .out .now) (sym (f .flaw .ensures) ∙ e .if1 .left)
+    list-short (a .old .now) (a .new .now) (a .width) (a .rows) (a .out .now) (sym (f .flaw .ensures) ∙ e .if1 .left)
     (omega (arith, c .if2 .taken, q .quarter .ensures 5 five .ends))
 
 slice-aggregate-write : tie.Need-slice-aggregate-write
@@ -69,7 +69,7 @@ returns-3 c =
     let f = e .before in
     let a = f .before .before .before .before .args in
     let n = few (differs (a .old .now) (a .new .now) (a .width) (a .rows)) 5 0 0 five in
-    call-done (a .old .now) (a .new .now) (a .width) (a .rows) (a .out .now) (sym (f .flaw .ensures) ∙ e .if1 .left)
+    list-done (a .old .now) (a .new .now) (a .width) (a .rows) (a .out .now) (sym (f .flaw .ensures) ∙ e .if1 .left)
     n (q .quarter .ensures 5 five) (omega (arith, d .if2 .left)) (w .write .ensures)
 
 pub dextolumen-squares-spec : {M : Type 1} → statement M
