@@ -1,6 +1,6 @@
-// The driver: draws the same pseudo-random figures, packs and unpacks the same stream, and lists the squares of the same pictures, with the proved
-// code and with two implementations in C, by turns. Every run starts from the same memories and must leave the same ones and tell the same counts, else the
-// program says so and exits with 1. One line a row: the best rate of each, and ours over the better C.
+// The driver: draws the same pseudo-random figures, packs and unpacks the same stream, and lists the squares of the same pictures, with the
+// proved code and with two implementations in C, by turns. Every run starts from the same memories and must leave the same ones and tell the
+// same counts, else the program says so and exits with 1. One line a row: the best rate of each, and ours over the better C.
 // usage: bench RUNS
 #include "rivals.h"
 

@@ -6,7 +6,6 @@
  *   - A pointer and the length after it are one lent array: so many elements, aligned as C aligns their type. No pointer is null, also
  *     where the length is 0; nothing is read or written through it then.
  *   - The I memory, the Z memory, the record, the stream, pictures and lists do not overlap, and nothing else writes to them during a call.
- *     (The two pictures that dextolumen_squares reads may.)
  *   - A record comes from dextolumen_reset and the calls after it, so that nobody fills one in by hand. Any 74 bytes are a record
  *     all the same: one that breaks a bound is refused with DEXTOLUMEN_BAD_RECORD and left as it is. docs/REGISTERS.md has the bounds.
  */

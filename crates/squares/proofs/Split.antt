@@ -77,7 +77,7 @@ module _ (marked : ℕ → ℕ → Bool) (n x y : ℕ) where
       rw (a, b, c, d)
 
   -- so what remains of a square is what remains of its quarters, whether it holds one or not
-  split : squares marked (suc n) x y ≡ quarters marked n (sideOf n) x y
+  pub split : squares marked (suc n) x y ≡ quarters marked n (sideOf n) x y
   unfolding squares kept sideOf
   split = go (anyIn marked (2 * sideOf n) x y) refl
     where
