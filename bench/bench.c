@@ -1,6 +1,6 @@
-// The driver: draws the same pseudo-random figures, and packs and unpacks the same stream, with the proved code and with two
-// implementations in C, by turns. Every run starts from the same memories and must leave the same ones and tell the same counts, else the
-// program says so and exits with 1. One line a row: the best rate of each, and ours over the better C.
+// The driver: draws the same pseudo-random figures, packs and unpacks the same stream, and lists the squares of the same pictures, with the
+// proved code and with two implementations in C, by turns. Every run starts from the same memories and must leave the same ones and tell the
+// same counts, else the program says so and exits with 1. One line a row: the best rate of each, and ours over the better C.
 // usage: bench RUNS
 #include "rivals.h"
 
@@ -26,20 +26,22 @@ typedef struct {
     SegmentCall *segment;
     PackCall *pack;
     UnpackCall *unpack;
+    SquaresCall *squares;
 } Side;
 
 static const Side sides[SIDES] = {
-    {"ours", dextolumen_bench_triangle, dextolumen_bench_segment, dextolumen_bench_pack, dextolumen_bench_unpack},
-    {"plain", plain_triangle, plain_segment, plain_pack, plain_unpack},
-    {"span", span_triangle, span_segment, span_pack, span_unpack},
+    {"ours", dextolumen_bench_triangle, dextolumen_bench_segment, dextolumen_bench_pack, dextolumen_bench_unpack, dextolumen_squares},
+    {"plain", plain_triangle, plain_segment, plain_pack, plain_unpack, plain_squares},
+    {"span", span_triangle, span_segment, span_pack, span_unpack, span_squares},
 };
 
 // ---- the rows
 
-typedef enum { TRIANGLES, SEGMENTS, PACK, UNPACK } Kind;
+typedef enum { TRIANGLES, SEGMENTS, PACK, UNPACK, SQUARES } Kind;
 
 // `size` is a triangle's pixels or a segment's steps, 0 for odd figures: tiny ones, many across the picture's far borders, some
-// without an inside. `mode` is 1 for constant triangles, and a segment's line mode.
+// without an inside. `mode` is 1 for constant triangles, and a segment's line mode. For squares, `size` is the pictures' width and rows (0 for
+// odd ones, which the squares overhang), and one place in 2 to the power of `mode` differs.
 typedef struct {
     const char *name;
     Kind kind;
@@ -51,12 +53,13 @@ static const Row timed[] = {
     {"gouraud 30", TRIANGLES, 30, 0},      {"gouraud 100", TRIANGLES, 100, 0},    {"gouraud 1000", TRIANGLES, 1000, 0},
     {"gouraud 10000", TRIANGLES, 10000, 0}, {"constant 1000", TRIANGLES, 1000, 1}, {"mode 2 lines 100", SEGMENTS, 100, 2},
     {"mode 0 lines 100", SEGMENTS, 100, 0}, {"pack 1 MiB", PACK, 0, 0},            {"unpack 1 MiB", UNPACK, 0, 0},
+    {"squares few", SQUARES, 256, 12},      {"squares many", SQUARES, 256, 6},
 };
 
 // Odd figures take no time worth telling, but the three sides must agree on them too.
 static const Row odd[] = {
     {"odd gouraud", TRIANGLES, 0, 0},    {"odd constant", TRIANGLES, 0, 1},   {"odd mode 0 lines", SEGMENTS, 0, 0},
-    {"odd mode 1 lines", SEGMENTS, 0, 1}, {"odd mode 2 lines", SEGMENTS, 0, 2},
+    {"odd mode 1 lines", SEGMENTS, 0, 1}, {"odd mode 2 lines", SEGMENTS, 0, 2}, {"odd squares", SQUARES, 0, 8},
 };
 
 // ---- what is drawn
@@ -82,6 +85,10 @@ static struct {
 static size_t drawn;
 static uint32_t words[WORDS];
 static uint8_t bytes[BYTES];
+
+// Pictures of 256 by 256 places, before and after. A row of squares lists each of them so often.
+enum { SIDE = 256, PICTURES = PLACES / (SIDE * SIDE), TIMES = 16 };
+static uint16_t before[PICTURES][SIDE * SIDE], after[PICTURES][SIDE * SIDE];
 
 static const uint32_t PATTERN = 0xF0CCAA1D;
 static const uint16_t FOREGROUND = 0xBEEF, BACKGROUND = 0x1234;
@@ -136,11 +143,23 @@ static void draw_up_stream(void) {
     plain_pack(words, WORDS, bytes, BYTES);
 }
 
+static void draw_up_pictures(unsigned power) {
+    for (size_t k = 0; k < PICTURES; k++)
+        for (size_t at = 0; at < SIDE * SIDE; at++) {
+            before[k][at] = (uint16_t)any(65536);
+            after[k][at] = before[k][at] ^ (any(1u << power) == 0);
+        }
+}
+
 // Makes a row's figures, the same on every machine.
 static void draw_up(const Row *row) {
     seed = 8512;
     if (row->kind == PACK || row->kind == UNPACK) {
         draw_up_stream();
+        return;
+    }
+    if (row->kind == SQUARES) {
+        draw_up_pictures(row->mode);
         return;
     }
     drawn = row->size == 0 ? ODD : PIXELS / (size_t)row->size;
@@ -188,22 +207,34 @@ static uint64_t segments(SegmentCall *call, uint8_t mode) {
     return count;
 }
 
-// One side does a row once. Answers the passed pixels, or the length written.
+// Each list has a room of its own. Odd pictures are cut off a little more from one to the next.
+static uint64_t squares(SquaresCall *call, int odd) {
+    uint64_t count = 0;
+    for (size_t k = 0; k < TIMES * PICTURES; k++) {
+        size_t one = k % PICTURES, side = odd ? SIDE - 1 - one : SIDE, places = side * (odd ? side / 2 : side);
+        count += call(before[one], places, after[one], places, side, places / side, memory.unpacked + 1024 * one, 1024);
+    }
+    return count;
+}
+
+// One side does a row once. Answers the passed pixels, the length written, or the squares listed.
 static uint64_t once(const Row *row, const Side *side) {
     switch (row->kind) {
     case TRIANGLES: return triangles(side->triangle, row->mode);
     case SEGMENTS: return segments(side->segment, row->mode);
     case PACK: return side->pack(words, WORDS, memory.packed, sizeof memory.packed);
     case UNPACK: return side->unpack(bytes, BYTES, memory.unpacked, PLACES);
+    case SQUARES: return squares(side->squares, row->size == 0);
     }
     return 0;
 }
 
-// What one pass over a row is worth: its offered pixels, or the bytes of the packed stream.
+// What one pass over a row is worth: its offered pixels, the pixels of its pictures, or the bytes of the packed stream.
 static uint64_t worth(const Row *row) {
     switch (row->kind) {
     case TRIANGLES: return triangles(plain_offered, 0);
     case SEGMENTS: return drawn * ((uint64_t)row->size + 1);
+    case SQUARES: return (uint64_t)TIMES * PLACES;
     default: return BYTES;
     }
 }

@@ -103,3 +103,22 @@ uint64_t plain_unpack(const uint8_t *bytes, size_t n, uint32_t *out, size_t m) {
     }
     return count;
 }
+
+// ---- squares
+
+static int differs(const uint16_t *before, const uint16_t *after, size_t width, size_t rows, size_t x, size_t y) {
+    for (size_t j = y; j < y + 8 && j < rows; j++)
+        for (size_t i = x; i < x + 8 && i < width; i++)
+            if (before[j * width + i] != after[j * width + i]) return 1;
+    return 0;
+}
+
+uint64_t plain_squares(const uint16_t *before, size_t n, const uint16_t *after, size_t m, size_t width, size_t rows, uint32_t *out,
+                       size_t room) {
+    uint64_t count = 0;
+    if (n != width * rows || m != n) return 0;
+    for (size_t k = 0; k < 1024; k++)
+        if (differs(before, after, width, rows, square_x(k), square_y(k)) && count < room)
+            out[count++] = (uint32_t)(square_y(k) << 16 | square_x(k));
+    return count;
+}

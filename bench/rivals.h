@@ -27,10 +27,16 @@ typedef uint64_t SegmentCall(uint16_t line, uint8_t mode, uint32_t pattern, uint
 typedef uint64_t PackCall(const uint32_t *words, size_t n, uint8_t *out, size_t m);
 typedef uint64_t UnpackCall(const uint8_t *bytes, size_t n, uint32_t *out, size_t m);
 
+// The squares of side 8 in which two pictures differ, in the order of request [14]: how many there are. Both pictures have width times rows places,
+// and there is room for the list.
+typedef uint64_t SquaresCall(const uint16_t *before, size_t n, const uint16_t *after, size_t m, size_t width, size_t rows, uint32_t *out,
+                             size_t room);
+
 TriangleCall dextolumen_bench_triangle, plain_triangle, span_triangle;
 SegmentCall dextolumen_bench_segment, plain_segment, span_segment;
 PackCall dextolumen_bench_pack, plain_pack, span_pack;
 UnpackCall dextolumen_bench_unpack, plain_unpack, span_unpack;
+SquaresCall dextolumen_squares, plain_squares, span_squares;
 
 // The pixels that a triangle offers; passed or not, they are what the benchmark counts.
 TriangleCall plain_offered;
@@ -118,6 +124,13 @@ static inline Segment segment(Vertex a, Vertex b) {
     }
     return s;
 }
+
+// ---- squares
+
+// Square number k of the square of side 256: its lower left corner, the bits of y and x by turns.
+static inline size_t every_other(size_t k) { return (k & 1) | (k >> 1 & 2) | (k >> 2 & 4) | (k >> 3 & 8) | (k >> 4 & 16); }
+static inline size_t square_x(size_t k) { return 8 * every_other(k); }
+static inline size_t square_y(size_t k) { return 8 * every_other(k >> 1); }
 
 // ---- streams
 

@@ -1,6 +1,6 @@
 // What a good C programmer ends with. Triangles: a row's span by one division an edge, I and Z carried along it as quotient and remainder,
 // edges and sums carried from row to row. Lines: the side step, I and Z carried the same way, and no bounds asked inside the picture.
-// Streams: two words as one 40-bit number in one wide load or store.
+// Streams: two words as one 40-bit number in one wide load or store. Squares: a row of a square in one comparison.
 #include "rivals.h"
 
 // ---- numbers carried as quotient and remainder
@@ -193,5 +193,27 @@ uint64_t span_unpack(const uint8_t *bytes, size_t n, uint32_t *out, size_t m) {
         out[k + 1] = (uint32_t)(pair >> 24) & 0xFFFFF;
     }
     plain_unpack(bytes + k / 2 * 5, n - k / 2 * 5, out + k, m - k);
+    return count;
+}
+
+// ---- squares: a row of a square is one span
+
+int memcmp(const void *, const void *, size_t);
+
+static int differs(const uint16_t *before, const uint16_t *after, size_t width, size_t high, size_t wide) {
+    for (size_t j = 0; j < high; j++, before += width, after += width)
+        if (wide == 8 ? memcmp(before, after, 16) != 0 : memcmp(before, after, 2 * wide) != 0) return 1;
+    return 0;
+}
+
+uint64_t span_squares(const uint16_t *before, size_t n, const uint16_t *after, size_t m, size_t width, size_t rows, uint32_t *out, size_t room) {
+    uint64_t count = 0;
+    if (n != width * rows || m != n) return 0;
+    for (size_t k = 0; k < 1024; k++) {
+        size_t x = square_x(k), y = square_y(k), at = y * width + x;
+        if (x >= width || y >= rows) continue;
+        size_t wide = width - x < 8 ? width - x : 8, high = rows - y < 8 ? rows - y : 8;
+        if (differs(before + at, after + at, width, high, wide) && count < room) out[count++] = (uint32_t)(y << 16 | x);
+    }
     return count;
 }

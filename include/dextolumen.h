@@ -5,7 +5,8 @@
  *
  *   - A pointer and the length after it are one lent array: so many elements, aligned as C aligns their type. No pointer is null, also
  *     where the length is 0; nothing is read or written through it then.
- *   - The I memory, the Z memory, the record, the stream and every lent output do not overlap, and nothing else writes to them during a call.
+ *   - The I memory, the Z memory, the record, the stream, pictures, lists and every other lent output do not overlap, and nothing else writes to them
+ *     during a call.
  *   - A record comes from dextolumen_reset and the calls after it, so that nobody fills one in by hand. Any 74 bytes are a record
  *     all the same: one that breaks a bound is refused with DEXTOLUMEN_BAD_RECORD and left as it is. docs/REGISTERS.md has the bounds.
  */
@@ -20,7 +21,7 @@
 enum {
     DEXTOLUMEN_ACCEPTED = 0,      /* not refused */
     DEXTOLUMEN_BAD_COMMAND = 1,   /* the command is above 15 */
-    DEXTOLUMEN_BAD_RECORD = 2,    /* the two memories differ in length, or the record breaks a bound */
+    DEXTOLUMEN_BAD_RECORD = 2,    /* the two memories or pictures differ in length, or the record breaks a bound */
     DEXTOLUMEN_NO_INIT = 3,       /* any word but INIT before the first accepted INIT */
     DEXTOLUMEN_RESERVED = 4,      /* command 7 or C hex */
     DEXTOLUMEN_UNMODELLED = 5,    /* command 0, 9 or A hex; AUX 2, 7 or 11 */
@@ -35,7 +36,7 @@ enum {
     DEXTOLUMEN_NO_ROOM = 13,      /* what is lent is too short */
 };
 
-/* dextolumen_word_count and dextolumen_word_at answer this plus the number where they refuse. */
+/* Calls that answer one number answer this plus the number where they refuse. */
 #define DEXTOLUMEN_REFUSED (UINT64_C(1) << 63)
 
 /* ---- the register record */
@@ -144,6 +145,24 @@ struct dextolumen_ended dextolumen_run(const uint8_t *bytes, size_t length, uint
 struct dextolumen_mended dextolumen_mend(const uint8_t *bytes, size_t length, uint8_t *out, size_t out_length, uint64_t *indices,
                                          size_t indices_length, uint8_t *numbers, size_t numbers_length, uint16_t *i_memory, size_t i_length,
                                          uint16_t *z_memory, size_t z_length);
+
+/* ---- what changed, for remote viewers */
+
+/* A picture is the I memory, or its first rows, of a width from 1 to 256 and rows up to 256: width times rows places. A square has 8 by 8 pixels and is
+   told by its lower left corner, as one number: x is bits 15 to 0, y bits 31 to 16. Where squares are sent to another machine, that number is. */
+
+/* Lists the squares in which two pictures differ, and answers how many there are, at most 1024. Each pixel that differs lies in exactly one of them.
+   Or refused, and nothing is written: BAD_RECORD where the two lengths differ, BAD_VALUE where the size is not allowed or the lengths are not
+   width times rows, NO_ROOM where the squares do not all fit. */
+uint64_t dextolumen_squares(const uint16_t *before, size_t before_length, const uint16_t *after, size_t after_length, size_t width,
+                            size_t rows, uint32_t *squares, size_t room);
+
+/* Copies squares from a picture into a viewer's picture of the same size, as far as they are inside, and answers how many there are. A viewer that has
+   the picture before, given the squares that are listed for it, then has the picture after; no place outside them changes. Or refused, and nothing
+   changes: BAD_RECORD and BAD_VALUE as above; BAD_VALUE too where a number tells no square of the picture (a corner outside, or one of whose numbers
+   8 does not divide). */
+uint64_t dextolumen_copy_squares(const uint32_t *squares, size_t count, const uint16_t *after, size_t after_length, size_t width, size_t rows,
+                                 uint16_t *view, size_t view_length);
 
 /* ---- the layout, as the proved code has it */
 

@@ -12,6 +12,7 @@ mod generator;
 mod hexwords;
 mod mend;
 mod picture;
+mod pictures;
 mod printing;
 mod program;
 mod random;
@@ -19,6 +20,7 @@ mod registers;
 mod run;
 mod seeds;
 mod shares;
+mod squares;
 mod starts;
 mod stream;
 mod vectors;
@@ -26,7 +28,8 @@ mod vectors;
 use std::io::{self, Read, Write};
 use std::process::ExitCode;
 
-const USAGE: &str = "usage: second draw | pack | unpack | generate SEED | seeds FIRST COUNT DIR | vectors DIR | shares FIRST COUNT | mend | damages FIRST COUNT DIR";
+const USAGE: &str = "usage: second draw | pack | unpack | generate SEED | seeds FIRST COUNT DIR | vectors DIR | shares FIRST COUNT | \
+    mend | damages FIRST COUNT DIR | squares FIRST COUNT DIR";
 
 fn main() -> ExitCode {
     let arguments: Vec<String> = std::env::args().skip(1).collect();
@@ -51,6 +54,7 @@ fn dispatch(arguments: &[&str]) -> Result<(), String> {
         ["shares", first, count] => print_shares(number(first)?, number(count)?),
         ["mend"] => mend(),
         ["damages", first, count, directory] => damages::write(number(first)?, number(count)?, directory),
+        ["squares", first, count, directory] => pictures::write(number(first)?, number(count)?, directory),
         _ => Err(USAGE.to_string()),
     }
 }

@@ -22,6 +22,12 @@ pub struct Flow {
     pub loops: Vec<Loop>,
 }
 
+/// Whether the call that ends at a place is of the function itself: the compiler then writes the distance, and there is no relocation.
+fn goes_to_start(code: &[u8], end: usize) -> bool {
+    let distance = end.checked_sub(4).and_then(|at| code.get(at..end)?.try_into().ok()).map(i32::from_le_bytes);
+    distance.is_some_and(|far| end.checked_add_signed(far as isize) == Some(0))
+}
+
 /// The steps of a function, with no way on yet, and the number of the step at each place.
 fn steps(f: &Function) -> Result<(Vec<Step>, HashMap<usize, usize>), String> {
     let (mut steps, mut numbers, mut at) = (Vec::new(), HashMap::new(), 0);
@@ -34,6 +40,7 @@ fn steps(f: &Function) -> Result<(Vec<Step>, HashMap<usize, usize>), String> {
             Sort::Calls | Sort::Jumps(_) | Sort::Branches(_) if one.length >= 5 => f.calls.get(&(end - 4)).cloned(),
             _ => None,
         };
+        let calls = if one.sort == Sort::Calls && calls.is_none() && goes_to_start(&f.code, end) { Some(f.name.clone()) } else { calls };
         if one.sort == Sort::CallsAnywhere || (one.sort == Sort::Calls && calls.is_none()) {
             return Err(format!("{}: a call of an unknown function at {at:#x}", f.name));
         }

@@ -6,7 +6,8 @@
 //! A loop draws if it stores numbers of 16 bits, elsewhere than at the stack pointer, and no loop inside it does. It divides each time round
 //! if it draws or has no loop inside, and a division stands in it. What it calls counts as standing in it.
 //!
-//! It fails where it cannot follow the code: an instruction or a jump that it does not know, or a call out of the file.
+//! It fails where it cannot follow the code: an instruction or a jump that it does not know, or a call out of the file, but for the C library's
+//! `memcpy` and `memset`, which an array that is copied or cleared comes to.
 
 mod decode;
 mod flow;
@@ -15,6 +16,9 @@ mod object;
 use decode::Sort;
 use flow::{flow, Flow, Loop};
 use std::collections::{BTreeSet, HashMap};
+
+/// What may be called out of the file: it moves bytes and divides nothing.
+const MOVES_BYTES: [&str; 2] = ["memcpy", "memset"];
 
 /// A function by its object file and its name.
 type Name = (usize, String);
@@ -37,7 +41,7 @@ impl Code {
         }
         for name in &code.order {
             for step in code.flows[name].steps.iter() {
-                if let Some(called) = &step.calls {
+                if let Some(called) = step.calls.as_ref().filter(|c| !MOVES_BYTES.contains(&c.as_str())) {
                     code.find(name.0, called).ok_or_else(|| format!("{} calls {called}, which is not in the file", name.1))?;
                 }
             }

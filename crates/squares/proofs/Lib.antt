@@ -1,0 +1,13 @@
+pub mod Any
+pub mod Within
+pub mod Overlay
+pub mod Clip
+pub mod Split
+pub mod Few
+pub mod Calls
+pub mod Once
+pub mod Copies
+pub mod Rows
+pub mod Lists
+pub mod Viewer
+pub mod Settled

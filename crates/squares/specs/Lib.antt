@@ -1,0 +1,5 @@
+pub mod Squares
+pub mod Change
+pub mod Copy
+pub mod Calls
+pub mod Room
