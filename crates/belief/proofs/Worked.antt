@@ -23,7 +23,7 @@ use Rattle.registers.specs.Bounds.{frameFits, modesFit, windowFits, vertexFits,
 use Rattle.registers.specs.Refusal.{refusalOf}
 use Rattle.machine.specs.Touched.{cellIn}
 use Rattle.machine.specs.Offers.{nextIn, offersIn, offersAt, eachIn}
-use Rattle.chip.specs.Chip.{modeOf, figureOffers}
+use Rattle.chip.specs.Chip.{modeOf, wholeOffers, isCut, figureOffers}
 use Rattle.belief.specs.Belief.{offersOf, isAllOn, isSupposed, supposed, least, earliest, intensity}
 use Rattle.belief.specs.Worked.{scene, blank, Owned, Worked}
 use Rattle.belief.proofs.Demand3.{demand-3}
@@ -34,7 +34,7 @@ computed : (supposed 512 512 (map wordOf scene) ≡ true)
     × (offersOf 512 512 (map wordOf scene) 1 ≡ offer Gouraud 1 0 200 10 ∷ offer Gouraud 1 0 100 20 ∷ [])
     × (offersOf 512 512 (map wordOf scene) 2 ≡ offer Gouraud 2 0 200 10 ∷ offer Gouraud 2 0 100 20 ∷ offer Line2 2 0 300 5 ∷ [])
     × (offersOf 512 512 (map wordOf scene) 256 ≡ offer Gouraud 0 1 100 20 ∷ offer Line2 256 0 400 15 ∷ [])
-unfolding scene isAllOn isSupposed eachIn nextIn refusalOf inBounds frameFits modesFit windowFits vertexFits figureFits valuesFit parkedFits initAllowed effectOf parmOf coordinateOf coordinateCompletes after completedBy shapeOf grownOf completes decode wordOf subcommandOf settings lineOf offersIn offersAt modeOf figureOffers placeOf rowsOf inMemory inWindow offered keep spans there plusOf minusOf closed inside covers mixed shade pixelAt pixelOffers triangleOffers larger smaller xLeads sideAt xAt yAt numberAt shadeOffers segmentOffers
+unfolding scene isAllOn isSupposed eachIn nextIn refusalOf inBounds frameFits modesFit windowFits vertexFits figureFits valuesFit parkedFits initAllowed effectOf parmOf coordinateOf coordinateCompletes after completedBy shapeOf grownOf completes decode wordOf subcommandOf settings lineOf offersIn offersAt modeOf wholeOffers isCut figureOffers placeOf rowsOf inMemory inWindow offered keep spans there plusOf minusOf closed inside covers mixed shade pixelAt pixelOffers triangleOffers larger smaller xLeads sideAt xAt yAt numberAt shadeOffers segmentOffers
 computed = (refl, refl, refl, refl, refl)
 
 -- by demand 3 a place ends with what its offers come to
