@@ -17,6 +17,7 @@ mod registers;
 mod run;
 mod seeds;
 mod shares;
+mod situations;
 mod stream;
 mod vectors;
 
@@ -82,6 +83,6 @@ fn print_shares(first: u64, count: u64) -> Result<(), String> {
     if shares.all_came() {
         Ok(())
     } else {
-        Err("a refusal from 3 to 12 never came".to_string())
+        Err("a refusal from 3 to 12, or a situation, never came".to_string())
     }
 }

@@ -1,7 +1,9 @@
-//! How often each refusal comes over many seeds.
+//! How often each refusal, and each situation of a figure, comes over many
+//! seeds.
 
 use crate::generator::generate;
 use crate::printing::drawing_outcome;
+use crate::situations::Situations;
 
 /// The refusals that the drawing program can print.
 const REFUSALS: [i64; 11] = [0, 3, 4, 5, 6, 7, 8, 9, 10, 11, 12];
@@ -9,14 +11,20 @@ const REFUSALS: [i64; 11] = [0, 3, 4, 5, 6, 7, 8, 9, 10, 11, 12];
 pub struct Shares {
     pub refusals: Vec<(i64, u64)>,
     pub too_long: u64,
+    pub situations: Situations,
 }
 
 pub fn shares(first: u64, count: u64) -> Shares {
-    let mut shares = Shares { refusals: REFUSALS.iter().map(|number| (*number, 0)).collect(), too_long: 0 };
+    let refusals = REFUSALS.iter().map(|number| (*number, 0)).collect();
+    let mut shares = Shares { refusals, too_long: 0, situations: Situations::none() };
     for seed in first..first + count {
-        match drawing_outcome(&generate(seed)) {
+        let bytes = generate(seed);
+        match drawing_outcome(&bytes) {
             None => shares.too_long += 1,
-            Some((outcome, _)) => shares.add(outcome.refusal),
+            Some((outcome, _)) => {
+                shares.add(outcome.refusal);
+                shares.situations.add(&bytes);
+            }
         }
     }
     shares
@@ -33,11 +41,11 @@ impl Shares {
 
     pub fn text(&self) -> String {
         let rows: String = self.refusals.iter().map(|row| format!("refusal {} streams {}\n", row.0, row.1)).collect();
-        rows + &format!("too long streams {}\n", self.too_long)
+        rows + &format!("too long streams {}\n", self.too_long) + &self.situations.text()
     }
 
-    /// Whether each refusal from 3 to 12 came.
+    /// Whether each refusal from 3 to 12 came, and each situation.
     pub fn all_came(&self) -> bool {
-        self.refusals.iter().all(|row| row.0 == 0 || row.1 > 0)
+        self.refusals.iter().all(|row| row.0 == 0 || row.1 > 0) && self.situations.all_came()
     }
 }
