@@ -181,6 +181,12 @@ static size_t any_length(void) {
     }
 }
 
+// Throws words that turn sectioning on, with some section depth, and make triangles constant.
+static void section(void) {
+    const struct word words[] = {{15, 0}, {14, 0}, {13, 1}, {14, 3}, {13, (uint16_t)(below(2) ? 0x60 : 0x20)}, {14, 7}, {13, (uint16_t)chance()}};
+    for (unsigned k = 0; k < sizeof words / sizeof *words; k++) throw(words[k].command, words[k].data);
+}
+
 // Some words at one pair of memories: from reset and mostly fair, or each at a record of its own that may be anything.
 static void scene(int wild) {
     struct dextolumen_registers start = wild ? held.record : dextolumen_reset();
@@ -192,6 +198,7 @@ static void scene(int wild) {
     fill(&im, length);
     fill(&zm, below(16) == 0 ? any_length() : length);
     held.record = start;
+    if (!wild && below(2)) section();
     for (unsigned k = 0; k < SCENE && thrown < WORDS; k++) {
         struct word w = wild && below(2) ? any_word() : fair_word(&held.record);
         if (wild) {
