@@ -1,7 +1,8 @@
 // Throws bits at the card: random words on records and memories of every kind, with guard places around each memory and around the record.
 // Whatever comes, a refused word leaves record and memories as they were and counts nothing; an accepted word changes no place outside
-// the rows in use, no more places than it says, and leaves a record that a further INIT accepts; no guard ever changes. Streams of such
-// words, some of them damaged, end alike in one call and word by word. Stops at the first fault with status 1.
+// the rows in use, no more places than it says, and leaves a record that a further INIT accepts; a triangle that the section cuts passes
+// no pixel; no guard ever changes. Streams of such words, some of them damaged, end alike in one call and word by word. Stops at the first
+// fault with status 1.
 // usage: storm
 #include "chance.h"
 #include "feed.h"
@@ -60,7 +61,7 @@ static uint64_t changed(const struct memory *a, const struct memory *b) {
 
 // ---- one word
 
-static uint64_t thrown, told_by[14];
+static uint64_t thrown, told_by[14], cut, uncut;
 
 _Noreturn static void fault(const char *what, uint8_t command, uint16_t data) {
     printf("storm: word %lu (command %u, data %u): %s\n", (unsigned long)thrown, command, data, what);
@@ -71,6 +72,11 @@ _Noreturn static void fault(const char *what, uint8_t command, uint16_t data) {
 // Nothing outside the rows in use has changed, the guards included.
 static int kept_outside(const struct memory *m, const struct memory *was, size_t inside) {
     return alike(m, was, 0, GUARD) && alike(m, was, GUARD + inside, guarded(m));
+}
+
+// Whether a word that is accepted completes a constant triangle while sectioning is on.
+static int is_sectioned(const struct dextolumen_registers *r, uint8_t command) {
+    return command == 4 && r->figure.shape != 3 && r->figure.pair == 1 && r->modes.pmode == 1 && (r->modes.zcontrol & 0x20) != 0;
 }
 
 static void throw(uint8_t command, uint16_t data) {
@@ -95,6 +101,14 @@ static void throw(uint8_t command, uint16_t data) {
     if (!kept_outside(&im, &im_was, rows * line) || !kept_outside(&zm, &zm_was, rows * line))
         fault("a place outside the rows in use changed", command, data);
     if (changed(&im, &im_was) > told.passed || changed(&zm, &zm_was) > told.passed) fault("more places changed than passed", command, data);
+    if (is_sectioned(&held_was.record, command)) {
+        if (held_was.record.latch.z <= held_was.record.modes.section) {
+            uncut += told.passed != 0;
+        } else {
+            cut++;
+            if (told.passed != 0) fault("pixels of a cut triangle passed", command, data);
+        }
+    }
     struct dextolumen_registers next = held.record;
     struct dextolumen_told again = dextolumen_step(&next, 15, 0, lent(&im), im.length, lent(&zm), zm.length);
     if (again.refusal != DEXTOLUMEN_ACCEPTED || again.passed != 0) fault("accepted, and INIT is not accepted after it", command, data);
@@ -114,7 +128,7 @@ static uint16_t parameter(const struct dextolumen_parked *p) {
     switch (p->subcommand) {
     case 0: return (uint16_t)below(2);
     case 1: return (uint16_t)below(3);
-    case 3: return (uint16_t)(below(2) * 0x40);
+    case 3: return (uint16_t)(below(4) << 5);
     case 4: return (uint16_t)((chance() & 0x0D8E) | (below(4) ? 6 : 0));
     case 6: return (uint16_t)(p->came == 4 ? 0 : (p->came == 0 || p->came == 3) && below(4) ? below(64) : below(8193));
     case 12: return (uint16_t)(below(4) << 4);
@@ -125,7 +139,7 @@ static uint16_t parameter(const struct dextolumen_parked *p) {
 // A word that is likely to be accepted with this record.
 static struct word fair_word(const struct dextolumen_registers *r) {
     static const uint8_t draws[] = {1, 2, 3, 3, 4, 4, 4, 4, 5, 6, 8, 11, 11};
-    static const uint8_t takes[] = {0, 1, 3, 4, 4, 4, 5, 6, 8, 9, 10, 12, 12};
+    static const uint8_t takes[] = {0, 1, 3, 4, 4, 4, 5, 6, 7, 8, 9, 10, 12, 12};
     if (below(12) == 0) return any_word();
     if (r->started != 1 || below(40) == 0) return (struct word){15, (uint16_t)(below(8) << 8)};
     if (r->parked.subcommand != 13) return (struct word){13, parameter(&r->parked)};
@@ -155,6 +169,12 @@ static size_t any_length(void) {
     }
 }
 
+// Throws words that turn sectioning on, with some section depth, and make triangles constant.
+static void section(void) {
+    const struct word words[] = {{15, 0}, {14, 0}, {13, 1}, {14, 3}, {13, (uint16_t)(below(2) ? 0x60 : 0x20)}, {14, 7}, {13, (uint16_t)chance()}};
+    for (unsigned k = 0; k < sizeof words / sizeof *words; k++) throw(words[k].command, words[k].data);
+}
+
 // Some words at one pair of memories: from reset and mostly fair, or each at a record of its own that may be anything.
 static void scene(int wild) {
     struct dextolumen_registers start = wild ? held.record : dextolumen_reset();
@@ -166,6 +186,7 @@ static void scene(int wild) {
     fill(&im, length);
     fill(&zm, below(16) == 0 ? any_length() : length);
     held.record = start;
+    if (!wild && below(2)) section();
     for (unsigned k = 0; k < SCENE && thrown < WORDS; k++) {
         struct word w = wild && below(2) ? any_word() : fair_word(&held.record);
         if (wild) {
@@ -231,6 +252,8 @@ int main(void) {
             printf("storm: no word got %u\n", number);
             return 1;
         }
+    printf("storm: %lu triangles cut, %lu drawn before the section\n", (unsigned long)cut, (unsigned long)uncut);
+    if (cut == 0 || uncut == 0) return 1;
     uint64_t stopped = 0;
     for (unsigned k = 0; k < STREAMS; k++)
         if (!stream_alike(&stopped)) {

@@ -7,7 +7,7 @@
  *     where the length is 0; nothing is read or written through it then.
  *   - The I memory, the Z memory, the record, the stream, pictures, lists and every other lent output do not overlap, and nothing else writes to them
  *     during a call.
- *   - A record comes from dextolumen_reset and the calls after it, so that nobody fills one in by hand. Any 74 bytes are a record
+ *   - A record comes from dextolumen_reset and the calls after it, so that nobody fills one in by hand. Any 76 bytes are a record
  *     all the same: one that breaks a bound is refused with DEXTOLUMEN_BAD_RECORD and left as it is. docs/REGISTERS.md has the bounds.
  */
 #ifndef DEXTOLUMEN_H
@@ -24,7 +24,7 @@ enum {
     DEXTOLUMEN_BAD_RECORD = 2,    /* the two memories or pictures differ in length, or the record breaks a bound */
     DEXTOLUMEN_NO_INIT = 3,       /* any word but INIT before the first accepted INIT */
     DEXTOLUMEN_RESERVED = 4,      /* command 7 or C hex */
-    DEXTOLUMEN_UNMODELLED = 5,    /* command 0, 9 or A hex; AUX 2, 7 or 11 */
+    DEXTOLUMEN_UNMODELLED = 5,    /* command 0, 9 or A hex; AUX 2 or 11 */
     DEXTOLUMEN_AWAITS_PARM = 6,   /* a parameter is awaited, and the word is neither PARM nor INIT */
     DEXTOLUMEN_NO_PARM = 7,       /* PARM with none awaited */
     DEXTOLUMEN_BAD_AUX = 8,       /* AUX above 12 */
@@ -51,9 +51,9 @@ struct dextolumen_frame {
     uint16_t line;
 };
 
-/* The words of PMODE, LMODE, ZCONTROL, HCONTROL, LSTATUS, TPATTERN and MASK. LX sets lstatus to 0: a line starts visible. */
+/* The words of PMODE, LMODE, ZCONTROL, HCONTROL, LSTATUS, TPATTERN, MASK and SECTION. LX sets lstatus to 0: a line starts visible. */
 struct dextolumen_modes {
-    uint16_t pmode, lmode, zcontrol, hcontrol, lstatus, transparency, planes;
+    uint16_t pmode, lmode, zcontrol, hcontrol, lstatus, transparency, planes, section;
 };
 
 /* The window; its borders belong to it. */
@@ -169,7 +169,7 @@ uint64_t dextolumen_copy_squares(const uint32_t *squares, size_t count, const ui
 #define DEXTOLUMEN_SIZE(type, size, align) _Static_assert(sizeof(struct type) == (size) && _Alignof(struct type) == (align), #type)
 #define DEXTOLUMEN_AT(type, field, offset) _Static_assert(offsetof(struct type, field) == (offset), #type "." #field)
 
-DEXTOLUMEN_SIZE(dextolumen_registers, 74, 2);
+DEXTOLUMEN_SIZE(dextolumen_registers, 76, 2);
 DEXTOLUMEN_AT(dextolumen_registers, started, 0);
 DEXTOLUMEN_AT(dextolumen_registers, frame.line, 2);
 DEXTOLUMEN_AT(dextolumen_registers, modes.pmode, 4);
@@ -179,24 +179,25 @@ DEXTOLUMEN_AT(dextolumen_registers, modes.hcontrol, 10);
 DEXTOLUMEN_AT(dextolumen_registers, modes.lstatus, 12);
 DEXTOLUMEN_AT(dextolumen_registers, modes.transparency, 14);
 DEXTOLUMEN_AT(dextolumen_registers, modes.planes, 16);
-DEXTOLUMEN_AT(dextolumen_registers, window.left, 18);
-DEXTOLUMEN_AT(dextolumen_registers, window.top, 20);
-DEXTOLUMEN_AT(dextolumen_registers, window.right, 22);
-DEXTOLUMEN_AT(dextolumen_registers, window.bottom, 24);
-DEXTOLUMEN_AT(dextolumen_registers, dash.foreground, 26);
-DEXTOLUMEN_AT(dextolumen_registers, dash.background, 28);
-DEXTOLUMEN_AT(dextolumen_registers, dash.high, 30);
-DEXTOLUMEN_AT(dextolumen_registers, dash.low, 32);
-DEXTOLUMEN_AT(dextolumen_registers, latch.i, 34);
-DEXTOLUMEN_AT(dextolumen_registers, latch.z, 36);
-DEXTOLUMEN_AT(dextolumen_registers, latch.y, 38);
-DEXTOLUMEN_AT(dextolumen_registers, figure.shape, 40);
-DEXTOLUMEN_AT(dextolumen_registers, figure.pair, 42);
-DEXTOLUMEN_AT(dextolumen_registers, figure.first, 44);
-DEXTOLUMEN_AT(dextolumen_registers, figure.second, 52);
-DEXTOLUMEN_AT(dextolumen_registers, parked.subcommand, 60);
-DEXTOLUMEN_AT(dextolumen_registers, parked.came, 62);
-DEXTOLUMEN_AT(dextolumen_registers, parked.values, 64);
+DEXTOLUMEN_AT(dextolumen_registers, modes.section, 18);
+DEXTOLUMEN_AT(dextolumen_registers, window.left, 20);
+DEXTOLUMEN_AT(dextolumen_registers, window.top, 22);
+DEXTOLUMEN_AT(dextolumen_registers, window.right, 24);
+DEXTOLUMEN_AT(dextolumen_registers, window.bottom, 26);
+DEXTOLUMEN_AT(dextolumen_registers, dash.foreground, 28);
+DEXTOLUMEN_AT(dextolumen_registers, dash.background, 30);
+DEXTOLUMEN_AT(dextolumen_registers, dash.high, 32);
+DEXTOLUMEN_AT(dextolumen_registers, dash.low, 34);
+DEXTOLUMEN_AT(dextolumen_registers, latch.i, 36);
+DEXTOLUMEN_AT(dextolumen_registers, latch.z, 38);
+DEXTOLUMEN_AT(dextolumen_registers, latch.y, 40);
+DEXTOLUMEN_AT(dextolumen_registers, figure.shape, 42);
+DEXTOLUMEN_AT(dextolumen_registers, figure.pair, 44);
+DEXTOLUMEN_AT(dextolumen_registers, figure.first, 46);
+DEXTOLUMEN_AT(dextolumen_registers, figure.second, 54);
+DEXTOLUMEN_AT(dextolumen_registers, parked.subcommand, 62);
+DEXTOLUMEN_AT(dextolumen_registers, parked.came, 64);
+DEXTOLUMEN_AT(dextolumen_registers, parked.values, 66);
 DEXTOLUMEN_SIZE(dextolumen_vertex, 8, 2);
 DEXTOLUMEN_AT(dextolumen_vertex, x, 0);
 DEXTOLUMEN_AT(dextolumen_vertex, y, 2);

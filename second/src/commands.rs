@@ -22,6 +22,7 @@ pub const ZCONTROL: i64 = 3;
 pub const HCONTROL: i64 = 4;
 pub const TPATTERN: i64 = 5;
 pub const WINDOW: i64 = 6;
+pub const SECTION: i64 = 7;
 pub const COLOR: i64 = 8;
 pub const LPATTERN: i64 = 9;
 pub const MASK: i64 = 10;
@@ -29,10 +30,14 @@ pub const LSTATUS: i64 = 12;
 
 /// The bits that HCONTROL, ZCONTROL and LSTATUS allow.
 pub const HARDWARE_BITS: i64 = 0x0D8E;
-pub const DEPTH_BITS: i64 = 0x0040;
+pub const DEPTH_BITS: i64 = 0x0060;
 pub const STATUS_BITS: i64 = 0x0030;
 /// LSTATUS with INV 1, END 0.
 pub const INVISIBLE: i64 = 0x0020;
+
+/// ZCONTROL: bit 6 is the depth test, bit 5 cuts constant triangles.
+pub const DEPTH_TEST: i64 = 0x0040;
+pub const SECTIONING: i64 = 0x0020;
 
 /// The largest coordinate and the largest window border.
 pub const LARGEST_COORDINATE: i64 = 8191;
@@ -68,7 +73,7 @@ fn applies(number: i64, registers: &Registers, word: Word) -> bool {
     match number {
         3 => command != INIT && !registers.initialised,
         4 => [0x7, 0xC].contains(&command),
-        5 => [0x0, 0x9, 0xA].contains(&command) || command == AUX && [2, 7, 11].contains(&data),
+        5 => [0x0, 0x9, 0xA].contains(&command) || command == AUX && [2, 11].contains(&data),
         6 => awaited && ![PARM, INIT].contains(&command),
         7 => command == PARM && !awaited,
         // The AUX number is all 16 bits (READINGS.md, "Refusals").
@@ -177,12 +182,16 @@ fn take_effect(registers: &mut Registers, subcommand: i64, given: &[i64]) {
     match subcommand {
         PMODE => registers.shading = given[0],
         LMODE => registers.line_mode = given[0],
-        ZCONTROL => registers.depth_test = bit(given[0], 6),
+        ZCONTROL => {
+            registers.depth_test = bit(given[0], 6);
+            registers.sectioning = bit(given[0], 5);
+        }
         HCONTROL => registers.hardware = given[0],
         TPATTERN => registers.transparency = given[0],
         WINDOW => {
             registers.window = Window { left: given[0], top: given[1], right: given[2], bottom: given[3] };
         }
+        SECTION => registers.section = given[0],
         COLOR => {
             registers.foreground = given[0];
             registers.background = given[1];

@@ -13,6 +13,9 @@ const BEGIN: &str = "F0000 E0004 D0006 ";
 /// The depth test on.
 const TEST: &str = "E0003 D0040 ";
 
+/// Constant triangles, sectioning on without the depth test, section depth 9.
+const SECTION: &str = "E0000 D0001 E0003 D0020 E0007 D0009 ";
+
 /// Words between blanks, packed.
 pub fn packed(words: &str) -> Vec<u8> {
     let lines = words.split_whitespace().collect::<Vec<_>>().join("\n");
@@ -32,6 +35,7 @@ pub fn edges() -> Vec<Edge> {
     edges.extend(by_text(&TRIANGLES, BEGIN));
     edges.extend(by_text(&LINES, BEGIN));
     edges.extend(by_text(&DEPTHS, &format!("{}{}", BEGIN, TEST)));
+    edges.extend(by_text(&SECTIONS, &format!("{}{}", BEGIN, SECTION)));
     edges.extend(by_text(&ORDERS, BEGIN));
     edges.extend(by_text(&WHOLE, ""));
     edges
@@ -318,6 +322,26 @@ const ORDERS: [(&str, &str); 22] = [
 pub const SHEET_LINES: &str = "F0000 E0001 D0000 E0004 D0006 \
     30000 80000 E000C D0000 30000 B0004 30002 B0004 E000C D0010 30002 B0000 \
     30004 80000 30006 B0002 30004 B0004";
+
+/// Sections, after BEGIN and SECTION.
+const SECTIONS: [(&str, &str); 16] = [
+    ("section-nearer-stays", "10001 20008 50000 40008 30008 40000"),
+    ("section-equal-stays", "10001 20009 50000 40008 30008 40000"),
+    ("section-deeper-is-cut", "10001 2000A 50000 40008 30008 40000"),
+    ("section-deepest-is-cut", "10001 2FFFF 50000 40008 30008 40000"),
+    ("section-only-completing-vertex-nearer", "10001 2000A 50000 40008 20009 30008 40000"),
+    ("section-only-completing-vertex-deeper", "10001 20009 50000 40008 2000A 30008 40000"),
+    ("section-gouraud-stays", "E0000 D0000 10001 2000A 50000 40008 30008 40000"),
+    ("section-gouraud-since-opening-stays", "10001 2000A 50000 40008 E0000 D0000 30008 40000"),
+    ("section-lines-stay", "2000A 80000 E000C D0000 B0008 E0001 D0000 30004 B0000 E0001 D0002 10005 30008 40008"),
+    ("section-with-depth-test", "E0003 D0060 10001 2000A 50000 40008 30008 40000 10002 20009 30000 50000 40004 30004 40000"),
+    ("section-off", "E0003 D0040 10001 2000A 50000 40008 30008 40000"),
+    ("section-0-keeps-depth-0-alone", "E0007 D0000 10001 20000 50000 40008 30008 40000 10002 20001 40008"),
+    ("section-65535-cuts-nothing", "E0007 DFFFF 10001 2FFFF 50000 40008 30008 40000"),
+    ("section-strip-goes-on", "10001 2000A 30000 50000 40008 30008 40000 10002 20001 40008 2000A 30010 40000"),
+    ("section-fan-goes-on", "10001 2000A 30000 60000 40008 30008 40008 10002 20001 40000"),
+    ("section-after-init", "10001 2000A 30000 50000 40008 30008 40000 F0000 E0004 D0006 E0000 D0001 10001 2000A 50000 40008 30008 40000"),
+];
 
 /// Whole programs.
 const WHOLE: [(&str, &str); 20] = [

@@ -196,7 +196,7 @@ fn limits() {
 fn refusal_order() {
     assert_eq!(last_refusal("F0000 42328"), 9);
     assert_eq!(last_refusal("F0000 E0006 E000D"), 6);
-    assert_eq!(last_refusal("F0000 E0006 E0007"), 5);
+    assert_eq!(last_refusal("F0000 E0006 E0007"), 6);
     assert_eq!(last_refusal("F0000 E0006 C0000"), 4);
     assert_eq!(last_refusal("F0000 E0006 42328"), 6);
     assert_eq!(last_refusal("F0000 E0102"), 8);
@@ -277,6 +277,28 @@ fn constant_triangles_take_the_completing_vertex() {
     };
     let numbers = figure.at(&Registers::initial(256), 1, 1).unwrap();
     assert_eq!((numbers.i, numbers.z), (5, Some(6)));
+}
+
+/// Document 02, [7]: only constant triangles deeper than the section depth
+/// are cut, with the depth test on or off.
+#[test]
+fn sections() {
+    let passed = |words: &str| run_words(words).0.passed;
+    let constant = "F0000 E0000 D0001 E0003 D0020 E0007 D0005 ";
+    let triangle = "50000 40002 30002 40000";
+    assert_eq!(passed(&format!("{}20005 {}", constant, triangle)), 3);
+    assert_eq!(passed(&format!("{}20006 {}", constant, triangle)), 0);
+    // the completing vertex's depth counts
+    assert_eq!(passed(&format!("{}20006 50000 40002 30002 20005 40000", constant)), 3);
+    assert_eq!(passed(&format!("{}50000 40002 30002 20006 40000", constant)), 0);
+    // sectioning off, Gouraud triangles, lines
+    assert_eq!(passed(&format!("{}E0003 D0000 20006 {}", constant, triangle)), 3);
+    assert_eq!(passed(&format!("{}E0000 D0000 20006 {}", constant, triangle)), 3);
+    assert_eq!(passed(&format!("{}20006 80000 E000C D0000 B0004", constant)), 5);
+    // INIT sets the section depth to FFFF and switches sectioning off
+    assert_eq!(passed(&format!("F0000 E0000 D0001 E0003 D0020 2FFFF {}", triangle)), 3);
+    assert_eq!(passed(&format!("{}F0000 E0000 D0001 20006 {}", constant, triangle)), 3);
+    assert_eq!(last_refusal("F0000 E0003 D0010"), 9);
 }
 
 /// A refused parameter stays awaited, and those before it stay parked.

@@ -38,6 +38,12 @@ impl Figure {
         }
     }
 
+    /// Whether the section applies: to constant triangles only (document 02,
+    /// [7]).
+    pub fn is_sectioned(&self) -> bool {
+        matches!(self, Figure::Triangle { shading: CONSTANT, .. })
+    }
+
     /// The numbers at a pixel, if the pixel belongs to the figure and the
     /// figure has something to write there. Colours and line pattern come
     /// from the registers.

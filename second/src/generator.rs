@@ -67,7 +67,7 @@ fn perhaps_await(program: &mut Program) {
 
 /// A subcommand with not all of its parameters.
 fn await_parameter(program: &mut Program) {
-    let subcommand = program.random.pick(&[0, 1, 3, 4, 5, 6, 6, 6, 8, 8, 9, 9, 10, 12]);
+    let subcommand = program.random.pick(&[0, 1, 3, 4, 5, 6, 6, 6, 7, 8, 8, 9, 9, 10, 12]);
     let given = program.random.below(parameter_count(subcommand) as i64);
     let parameters: Vec<i64> = (0..given).map(|_| program.random.below(8193)).collect();
     program.subcommand(subcommand, &parameters);
@@ -82,12 +82,11 @@ fn reserved_command(program: &mut Program) {
 fn command_not_modelled(program: &mut Program) {
     perhaps_await(program);
     let any = program.random.below(65536);
-    match program.random.below(6) {
+    match program.random.below(5) {
         0 => program.push(0x0, any),
         1 => program.push(0x9, any),
         2 => program.push(0xA, any),
         3 => program.push(AUX, 2),
-        4 => program.push(AUX, 7),
         _ => program.push(AUX, 11),
     }
 }
@@ -97,7 +96,7 @@ fn word_for_a_parameter(program: &mut Program) {
     await_parameter(program);
     let command = program.random.pick(&[I, Z, Y, X, T1X, T2X, LX, PX, AUX, AUX]);
     let data = if command == AUX {
-        program.random.pick(&[0, 1, 3, 4, 5, 6, 8, 9, 10, 12, 13, 0x0102, 65535])
+        program.random.pick(&[0, 1, 3, 4, 5, 6, 7, 8, 9, 10, 12, 13, 0x0102, 65535])
     } else {
         program.random.pick(&[0, 5, 200, 8191, 8192, 9000, 65535])
     };
@@ -248,7 +247,11 @@ fn limit_setting(program: &mut Program) {
         2 => program.subcommand(WINDOW, &[0, 8191, 8191, 0, 0]),
         3 => program.subcommand(HCONTROL, &[HARDWARE_BITS]),
         4 => program.subcommand(COLOR, &[65535, 65535]),
-        5 => program.subcommand(ZCONTROL, &[DEPTH_BITS]),
+        5 => {
+            let section = program.random.pick(&[0, 1, 65533, 65534, 65535]);
+            program.subcommand(SECTION, &[section]);
+            program.subcommand(ZCONTROL, &[DEPTH_BITS]);
+        }
         _ => {
             let (mode, shading) = (program.random.below(3), program.random.below(2));
             program.subcommand(LMODE, &[mode]);

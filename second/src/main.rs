@@ -20,6 +20,7 @@ mod registers;
 mod run;
 mod seeds;
 mod shares;
+mod situations;
 mod squares;
 mod starts;
 mod stream;
@@ -102,7 +103,7 @@ fn print_shares(first: u64, count: u64) -> Result<(), String> {
     let shares = shares::shares(first, count);
     write_out(shares.text().as_bytes())?;
     if !shares.all_came() {
-        return Err("a refusal from 3 to 12 never came".to_string());
+        return Err("a refusal from 3 to 12, or a situation, never came".to_string());
     }
     if !shares.starts_often() {
         return Err("visible starts or hops are rare".to_string());

@@ -62,15 +62,21 @@ impl Picture {
     }
 }
 
-/// The numbers that a figure offers at a pixel of the memory, if the window
-/// and the transparency pattern let it.
+/// The numbers that a figure offers at a pixel of the memory, if the window,
+/// the transparency pattern and the section let it.
 fn offered(figure: &Figure, registers: &Registers, x: i64, y: i64) -> Option<Numbers> {
     let shown = inside_window(&registers.window, x, y) && unmasked(figure, registers.transparency, x, y);
     if shown {
-        figure.at(registers, x, y)
+        figure.at(registers, x, y).filter(|numbers| !is_cut(figure, *numbers, registers))
     } else {
         None
     }
+}
+
+/// With sectioning on, a constant triangle's pixel is cut where its depth is
+/// greater than the section depth, depth test or not (document 02, [7]).
+fn is_cut(figure: &Figure, numbers: Numbers, registers: &Registers) -> bool {
+    registers.sectioning && figure.is_sectioned() && numbers.z > Some(registers.section)
 }
 
 /// Borders counted. Left above right or bottom above top holds no pixel.

@@ -90,7 +90,8 @@ impl Program {
         self.push(INIT, unused + code * 256 + page);
     }
 
-    /// INIT and, mostly, both enables and the depth test.
+    /// INIT and, mostly, both enables; every other time the depth test, and
+    /// every third a section.
     pub fn opening(&mut self) {
         let code = self.random.below(self.codes.len() as i64) as usize;
         self.init(self.codes[code]);
@@ -100,7 +101,10 @@ impl Program {
             _ => self.subcommand(HCONTROL, &[6]),
         }
         if self.random.once_in(2) {
-            self.subcommand(ZCONTROL, &[DEPTH_BITS]);
+            self.subcommand(ZCONTROL, &[DEPTH_TEST]);
+        }
+        if self.random.once_in(3) {
+            self.section_setting();
         }
     }
 
@@ -114,11 +118,11 @@ impl Program {
 
     /// One setting, each kind now and then.
     pub fn setting(&mut self) {
-        match self.random.below(16) {
+        match self.random.below(17) {
             0 | 1 => self.shading_setting(),
             2..=4 => self.line_mode_setting(),
             5 => {
-                let data = self.random.pick(&[0, DEPTH_BITS, DEPTH_BITS]);
+                let data = self.random.pick(&[0, DEPTH_TEST, DEPTH_TEST, SECTIONING, DEPTH_BITS]);
                 self.subcommand(ZCONTROL, &[data]);
             }
             6 => self.enables(),
@@ -130,6 +134,7 @@ impl Program {
             }
             12 | 13 => self.line_pattern_setting(),
             14 => self.planes_setting(),
+            15 => self.section_setting(),
             _ => self.status_setting(),
         }
     }
@@ -137,6 +142,16 @@ impl Program {
     fn shading_setting(&mut self) {
         let mode = self.random.below(2);
         self.subcommand(PMODE, &[mode]);
+    }
+
+    /// A section through the depths in use, with sectioning and constant
+    /// triangles on, so that some of what follows is cut.
+    fn section_setting(&mut self) {
+        let section = self.depth();
+        let control = self.random.pick(&[SECTIONING, DEPTH_BITS]);
+        self.subcommand(SECTION, &[section]);
+        self.subcommand(ZCONTROL, &[control]);
+        self.subcommand(PMODE, &[1]);
     }
 
     pub fn line_mode_setting(&mut self) {

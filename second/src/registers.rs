@@ -47,6 +47,9 @@ pub struct Registers {
     pub shading: i64,
     pub line_mode: i64,
     pub depth_test: bool,
+    /// Constant triangles deeper than the section depth are cut.
+    pub sectioning: bool,
+    pub section: i64,
     /// The hardware bits, as HCONTROL gave them.
     pub hardware: i64,
     pub transparency: i64,
@@ -76,6 +79,8 @@ impl Registers {
             shading: GOURAUD,
             line_mode: 1,
             depth_test: false,
+            sectioning: false,
+            section: 0xFFFF,
             hardware: 0,
             transparency: 0xFFFF,
             // 0 to 8192 both ways; y rises upward, so top is 8192

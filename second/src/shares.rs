@@ -1,7 +1,9 @@
-//! How often each refusal, and each start of a line, comes over many seeds.
+//! How often each refusal, each start of a line, and each situation of a
+//! figure comes over many seeds.
 
 use crate::generator::generate;
 use crate::printing::drawing_outcome;
+use crate::situations::Situations;
 use crate::starts::starts;
 
 /// The refusals that the drawing program can print.
@@ -15,11 +17,12 @@ pub struct Shares {
     /// Streams with a line that starts with a hop.
     pub hopped: u64,
     count: u64,
+    pub situations: Situations,
 }
 
 pub fn shares(first: u64, count: u64) -> Shares {
     let refusals = REFUSALS.iter().map(|number| (*number, 0)).collect();
-    let mut shares = Shares { refusals, too_long: 0, shown: 0, hopped: 0, count };
+    let mut shares = Shares { refusals, too_long: 0, shown: 0, hopped: 0, count, situations: Situations::none() };
     for seed in first..first + count {
         let bytes = generate(seed);
         match drawing_outcome(&bytes) {
@@ -28,6 +31,7 @@ pub fn shares(first: u64, count: u64) -> Shares {
                 shares.add(outcome.refusal);
                 shares.shown += u64::from(starts(&bytes).shown);
                 shares.hopped += u64::from(starts(&bytes).hopped);
+                shares.situations.add(&bytes);
             }
         }
     }
@@ -45,12 +49,13 @@ impl Shares {
 
     pub fn text(&self) -> String {
         let rows: String = self.refusals.iter().map(|row| format!("refusal {} streams {}\n", row.0, row.1)).collect();
-        rows + &format!("too long streams {}\nstart visible streams {}\nhop streams {}\n", self.too_long, self.shown, self.hopped)
+        let starts = format!("start visible streams {}\nhop streams {}\n", self.shown, self.hopped);
+        rows + &format!("too long streams {}\n", self.too_long) + &starts + &self.situations.text()
     }
 
-    /// Whether each refusal from 3 to 12 came.
+    /// Whether each refusal from 3 to 12 came, and each situation.
     pub fn all_came(&self) -> bool {
-        self.refusals.iter().all(|row| row.0 == 0 || row.1 > 0)
+        self.refusals.iter().all(|row| row.0 == 0 || row.1 > 0) && self.situations.all_came()
     }
 
     /// Whether both starts of a line came in a third of the streams.

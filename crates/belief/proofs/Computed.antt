@@ -22,7 +22,7 @@ use Rattle.registers.specs.Allowed.{initAllowed}
 use Rattle.registers.specs.Bounds.{frameFits, modesFit, windowFits, vertexFits, figureFits, valuesFit, parkedFits, inBounds}
 use Rattle.registers.specs.Refusal.{refusalOf}
 use Rattle.machine.specs.Offers.{nextIn, offersIn, offersAt, eachIn}
-use Rattle.chip.specs.Chip.{modeOf, figureOffers}
+use Rattle.chip.specs.Chip.{modeOf, wholeOffers, isCut, figureOffers}
 use Rattle.belief.specs.Belief.{offersOf, isAllOn, isSupposed, supposed}
 use Rattle.belief.specs.Worked.{scene}
 use Rattle.belief.specs.WorkedOrder.{farFirst, wideFaces, tiedLast, tiedFirst}
@@ -53,7 +53,7 @@ pub record Computed : Type 0 where
   pub tied-first-1 : Offers tiedFirst 512 1 (offer Gouraud 1 0 200 20 ∷ offer Gouraud 1 0 100 20 ∷ [])
 
 pub computed : Computed
-unfolding scene farFirst wideFaces tiedLast tiedFirst isAllOn isSupposed eachIn nextIn refusalOf inBounds frameFits modesFit windowFits vertexFits figureFits valuesFit parkedFits initAllowed effectOf parmOf coordinateOf coordinateCompletes after completedBy shapeOf grownOf completes decode wordOf subcommandOf settings lineOf offersIn offersAt modeOf figureOffers placeOf rowsOf inMemory inWindow offered keep spans there plusOf minusOf closed inside covers mixed shade pixelAt pixelOffers triangleOffers larger smaller xLeads sideAt xAt yAt numberAt shadeOffers segmentOffers
+unfolding scene farFirst wideFaces tiedLast tiedFirst isAllOn isSupposed eachIn nextIn refusalOf inBounds frameFits modesFit windowFits vertexFits figureFits valuesFit parkedFits initAllowed effectOf parmOf coordinateOf coordinateCompletes after completedBy shapeOf grownOf completes decode wordOf subcommandOf settings lineOf offersIn offersAt modeOf wholeOffers isCut figureOffers placeOf rowsOf inMemory inWindow offered keep spans there plusOf minusOf closed inside covers mixed shade pixelAt pixelOffers triangleOffers larger smaller xLeads sideAt xAt yAt numberAt shadeOffers segmentOffers
 computed =
     record {
       scene-meets = refl;

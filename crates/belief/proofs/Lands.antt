@@ -25,7 +25,8 @@ use Rattle.registers.specs.declared.shape.Completed.{Completed}
 use Rattle.registers.specs.declared.shape.Completed.the-variants.{Nothing, Triangle, Segment}
 use Rattle.registers.specs.Next.{penOf}
 use Rattle.registers.proofs.Forms.{AllVertices}
-use Rattle.chip.specs.Chip.{modeOf, isConstant, styleOf, figureOffers}
+use Rattle.chip.specs.Chip.{modeOf, isConstant, styleOf, wholeOffers, figureOffers}
+use Rattle.chip.proofs.Figures.{offers-held}
 use Rattle.belief.specs.Belief.{isAllOn, isSupposed}
 use Rattle.belief.proofs.Ends.{lands}
 
@@ -61,14 +62,14 @@ segment-shaded : (pen : Pen) (rows : ℕ) (r : Registers) (a b : Vertex) → r .
 unfolding segmentOffers modeOf
 segment-shaded pen rows r a b e = rw e
 
-figure-deep : (rows : ℕ) (r : Registers) (f : Completed) → AllVertices (Numbers 65535) f → isSupposed r f ≡ true → (o : Offer) → List·Memᴰ o (figureOffers rows r f)
+whole-deep : (rows : ℕ) (r : Registers) (f : Completed) → AllVertices (Numbers 65535) f → isSupposed r f ≡ true → (o : Offer) → List·Memᴰ o (wholeOffers rows r f)
     → (isAllOn (penOf r) ≡ true) × Deep o
-unfolding figureOffers isSupposed
-figure-deep rows r Nothing small on o u = absurd (List·Memᴰ·not-nil u)
-figure-deep rows r (Triangle a b c) small on o u =
+unfolding wholeOffers isSupposed
+whole-deep rows r Nothing small on o u = absurd (List·Memᴰ·not-nil u)
+whole-deep rows r (Triangle a b c) small on o u =
     let m = triangle-member (penOf r) rows (isConstant r) a b c 65535 (small .0) (small .1) (small .2) o u in
     (on, record { kind = ap isDeep (m .of-kind) ∙ triangle-deep (isConstant r); low = m .i })
-figure-deep rows r (Segment a b) small on o u =
+whole-deep rows r (Segment a b) small on o u =
     let k = both (eqb (r .modes .lmode) 2) (isAllOn (penOf r)) on in
     let m = segment-member (penOf r) rows shaded a b 65535 (small .0) (small .1) zero-le zero-le o (rw (segment-shaded (penOf r) rows r a b (eqb-true _ _ (k .0))) at u) in
     (k .1, record { kind = ap isDeep (m .of-kind); low = m .i })
@@ -76,4 +77,4 @@ figure-deep rows r (Segment a b) small on o u =
 -- each offer of a word of which so much is supposed lands
 pub supposed-lands : (rows : ℕ) (r : Registers) (f : Completed) → AllVertices (Numbers 65535) f → isSupposed r f ≡ true → (o : Offer) → List·Memᴰ o (figureOffers rows r f)
     → (c : Cell) → after (penOf r) c o ≡ lands c o
-supposed-lands rows r f small on o u = let k = figure-deep rows r f small on o u in all-on-lands (penOf r) o (k .0) (k .1)
+supposed-lands rows r f small on o u = let k = whole-deep rows r f small on o (offers-held rows r f o u) in all-on-lands (penOf r) o (k .0) (k .1)

@@ -18,7 +18,7 @@ use Rattle.registers.specs.declared.word.Word.the-variants.{Init, Aux, Parm, At
 use Rattle.registers.specs.declared.word.Coordinate.{Coordinate}
 use Rattle.registers.specs.declared.word.Coordinate.the-variants.{I, Z, Y, X, T1x, T2x, Lx, Px}
 use Rattle.registers.specs.declared.subcommand.Subcommand.{Subcommand}
-use Rattle.registers.specs.declared.subcommand.Subcommand.the-variants.{Nothing, Pmode, Lmode, Zcontrol, Hcontrol, Tpattern, Window, Color, Lpattern, Mask, Lstatus}
+use Rattle.registers.specs.declared.subcommand.Subcommand.the-variants.{Nothing, Pmode, Lmode, Zcontrol, Hcontrol, Tpattern, Window, Section, Color, Lpattern, Mask, Lstatus}
 use Rattle.registers.specs.declared.shape.Shape.{Shape}
 use Rattle.registers.specs.declared.shape.Shape.the-variants.{Closed, Strip, Fan, Line}
 use Rattle.registers.specs.Lines.{codeIn, lineOf}
@@ -91,6 +91,7 @@ effect-latch r Zcontrol l = refl
 effect-latch r Hcontrol l = refl
 effect-latch r Tpattern l = refl
 effect-latch r Window l = refl
+effect-latch r Section l = refl
 effect-latch r Color l = refl
 effect-latch r Lpattern l = refl
 effect-latch r Mask l = refl

@@ -48,14 +48,16 @@ fn figures() {
     row(b"PX on a fan", &[0xF0000, 0x60000, 0xB0000], 10);
 }
 
-// AUX 13 while a parameter is awaited is 6, AUX 7 there 5: the lowest number that applies. INIT may come at any time.
+// While a parameter is awaited AUX 13 is 6, and so is AUX 7 since document 02 (document 01 says 5); AUX 11, which is not modelled, is 5 there:
+// the lowest number that applies. INIT may come at any time.
 fn awaited() {
     row(
         b"AUX 13 while a parameter is awaited",
         &[0xF0000, 0xE0001, 0xE000D],
         6,
     );
-    row(b"AUX 7 there", &[0xF0000, 0xE0001, 0xE0007], 5);
+    row(b"AUX 7 there", &[0xF0000, 0xE0001, 0xE0007], 6);
+    row(b"AUX 11 there", &[0xF0000, 0xE0001, 0xE000B], 5);
     row(b"command 7 there", &[0xF0000, 0xE0001, 0x70000], 4);
     row(b"command C there", &[0xF0000, 0xE0001, 0xC0000], 4);
     row(b"command 0 there", &[0xF0000, 0xE0001, 0x00000], 5);
@@ -66,6 +68,16 @@ fn awaited() {
         &[0xF0000, 0xE0001, 0xF0000, 0xD0002],
         7,
     );
+}
+
+// SECTION, AUX 7, takes one parameter, which may be any; of sectioning's two bits of ZCONTROL, 5 is allowed and 4, the variable kind, is not.
+fn sections() {
+    row(b"AUX 7", &[0xF0000, 0xE0007], 0);
+    row(b"SECTION 65535", &[0xF0000, 0xE0007, 0xDFFFF], 0);
+    row(b"PARM after it", &[0xF0000, 0xE0007, 0xDFFFF, 0xD0000], 7);
+    row(b"ZCONTROL bit 5", &[0xF0000, 0xE0003, 0xD0020], 0);
+    row(b"ZCONTROL bit 4", &[0xF0000, 0xE0003, 0xD0010], 9);
+    row(b"ZCONTROL bits 5 and 4", &[0xF0000, 0xE0003, 0xD0030], 9);
 }
 
 // A refused parameter stays awaited, and a refused INIT leaves one awaited.
@@ -179,6 +191,7 @@ fn main() {
     values();
     figures();
     awaited();
+    sections();
     refused();
     idle();
     cold();

@@ -2,7 +2,7 @@
 -- enables are off; and that no triangle divides for its pixels. Assumes nothing.
 use mathlib.Core.Path.{_≡_, refl, sym, ap, _∙_, subst}
 use mathlib.Core.Bool.{true, false, _&&_}
-use mathlib.Core.List.{List, List·Memᴰ, List·Memᴰ·not-nil}
+use mathlib.Core.List.{List, [], List·Memᴰ, List·Memᴰ·not-nil}
 use Prim.Native.Nat.{ℕ, zero, suc, _+_, _*_, _%_, _^_, _≤_, _<_}
 use native.Mathlib.Nat.{mul-le-mul}
 use native.Mathlib.Omega.{arith}
@@ -48,7 +48,8 @@ use Rattle.machine.proofs.Steps.{step-either}
 use Rattle.machine.specs.Touched.{cellIn}
 use Rattle.machine.proofs.Touched.{step-above, run-above}
 use Rattle.machine.proofs.Kept.{step-shallow, run-off, run-invariant}
-use Rattle.chip.specs.Chip.{modeOf, isConstant, styleOf, figureOffers, chip}
+use Rattle.chip.specs.Chip.{modeOf, isConstant, styleOf, wholeOffers, isCut, figureOffers, chip}
+use Rattle.chip.proofs.Figures.{offers-held}
 
 -- ---- bounds
 
@@ -63,25 +64,28 @@ run-kept ws m = run-invariant chip ws _ (λ r. inBounds r ≡ true) (λ r w k e 
 -- ---- where pixels lie
 
 -- each offer of a triangle, and of a segment; its numbers are no greater than all of theirs together
-triangle-offer : (rows : ℕ) (r : Registers) (a b c : Vertex) (o : Offer) → List·Memᴰ o (figureOffers rows r (Triangle a b c))
+triangle-offer : (rows : ℕ) (r : Registers) (a b c : Vertex) (o : Offer) → List·Memᴰ o (wholeOffers rows r (Triangle a b c))
     → Member (penOf r) rows (triangleKind (isConstant r)) (a .i + a .z + (b .i + b .z) + (c .i + c .z)) o
-unfolding figureOffers
+unfolding wholeOffers
 triangle-offer rows r a b c =
     triangle-member (penOf r) rows (isConstant r) a b c _ (record { i = omega arith; z = omega arith }) (record { i = omega arith; z = omega arith })
     (record { i = omega arith; z = omega arith })
 
-segment-offer : (rows : ℕ) (r : Registers) (a b : Vertex) (o : Offer) → List·Memᴰ o (figureOffers rows r (Segment a b))
+segment-offer : (rows : ℕ) (r : Registers) (a b : Vertex) (o : Offer) → List·Memᴰ o (wholeOffers rows r (Segment a b))
     → Member (penOf r) rows (kindOf (modeOf (r .modes .lmode))) (a .i + a .z + (b .i + b .z) + (r .dash .foreground + r .dash .background)) o
-unfolding figureOffers
+unfolding wholeOffers
 segment-offer rows r a b =
     segment-member (penOf r) rows (styleOf r) a b _ (record { i = omega arith; z = omega arith }) (record { i = omega arith; z = omega arith }) (omega arith) (omega arith)
 
 -- each offer of a completed figure is offered, in document 01's sense
+whole-offered : (rows : ℕ) (r : Registers) (f : Completed) (o : Offer) → List·Memᴰ o (wholeOffers rows r f) → offered (penOf r) rows o ≡ true
+unfolding wholeOffers
+whole-offered rows r Nothing o u = absurd (List·Memᴰ·not-nil u)
+whole-offered rows r (Triangle a b c) o u = triangle-offer rows r a b c o u .is-offered
+whole-offered rows r (Segment a b) o u = segment-offer rows r a b o u .is-offered
+
 pub figure-offered : (rows : ℕ) (r : Registers) (f : Completed) (o : Offer) → List·Memᴰ o (figureOffers rows r f) → offered (penOf r) rows o ≡ true
-unfolding figureOffers
-figure-offered rows r Nothing o u = absurd (List·Memᴰ·not-nil u)
-figure-offered rows r (Triangle a b c) o u = triangle-offer rows r a b c o u .is-offered
-figure-offered rows r (Segment a b) o u = segment-offer rows r a b o u .is-offered
+figure-offered rows r f o u = whole-offered rows r f o (offers-held rows r f o u)
 
 -- every pixel that the chip offers has x below the line length, and lies in a row in use
 pub inside : Inside chip
@@ -98,13 +102,8 @@ run-beyond ws a at = run-above chip ws a at inside
 
 -- ---- lines of the modes 0 and 1
 
--- while a line is open, a word completes a segment of it or nothing
-module _ (P : Completed → Type 0) (r : Registers) (line : shapeOf (r .figure .shape) ≡ Line) (none : P Nothing) (some : (a b : Vertex) → P (Segment a b)) where
-  vertex-completes : (n : ℕ) → P (vertexCompletes r n)
-  unfolding completes
-  vertex-completes n =
-      rw line (chosen P (isOn invBit (r .modes .lstatus)) Nothing (Segment (r .figure .first) (vertexOf r n)) (λ t. none) (λ t. some _ _))
-
+-- a word completes nothing, or what X and PX complete
+module _ (P : Completed → Type 0) (r : Registers) (none : P Nothing) (vertex-completes : (n : ℕ) → P (vertexCompletes r n)) where
   coordinate-completes : (c : Coordinate) (n : ℕ) → P (coordinateCompletes r c n)
   unfolding coordinateCompletes
   coordinate-completes I n = none
@@ -116,15 +115,23 @@ module _ (P : Completed → Type 0) (r : Registers) (line : shapeOf (r .figure .
   coordinate-completes Lx n = none
   coordinate-completes Px n = vertex-completes n
 
-  line-completes : (w : Word) → P (completedBy r w)
+  pub word-completes : (w : Word) → P (completedBy r w)
   unfolding completedBy
-  line-completes (Init d) = none
-  line-completes (Aux n) = none
-  line-completes (Parm v) = none
-  line-completes (At c n) = coordinate-completes c n
-  line-completes Reserved = none
-  line-completes Unmodelled = none
-  line-completes Unknown = none
+  word-completes (Init d) = none
+  word-completes (Aux n) = none
+  word-completes (Parm v) = none
+  word-completes (At c n) = coordinate-completes c n
+  word-completes Reserved = none
+  word-completes Unmodelled = none
+  word-completes Unknown = none
+
+-- while a line is open, a word completes a segment of it or nothing
+pub line-completes : (P : Completed → Type 0) (r : Registers) → shapeOf (r .figure .shape) ≡ Line → P Nothing → ((a b : Vertex) → P (Segment a b)) → (w : Word)
+    → P (completedBy r w)
+unfolding completes
+line-completes P r line none some =
+    word-completes P r none
+    (λ n. rw line (chosen P (isOn invBit (r .modes .lstatus)) Nothing (Segment (r .figure .first) (vertexOf r n)) (λ t. none) (λ t. some _ _)))
 
 -- the modes 0 and 1 have no depth
 flat-mode : (n : ℕ) → n ≤ 1 → isDeep (kindOf (modeOf n)) ≡ false
@@ -134,12 +141,11 @@ flat-mode (suc zero) h = refl
 flat-mode (suc (suc n)) h = absurd (omega arith)
 
 flat-segment : (rows : ℕ) (r : Registers) → r .modes .lmode ≤ 1 → (a b : Vertex) (o : Offer) → List·Memᴰ o (figureOffers rows r (Segment a b)) → isDeep (o .kind) ≡ false
-unfolding figureOffers
-flat-segment rows r h a b o u = ap isDeep (segment-offer rows r a b o u .of-kind) ∙ flat-mode (r .modes .lmode) h
+flat-segment rows r h a b o u = ap isDeep (segment-offer rows r a b o (offers-held rows r (Segment a b) o u) .of-kind) ∙ flat-mode (r .modes .lmode) h
 
 -- with a line open in line mode 0 or 1 every word leaves the Z memory whole
 pub flat-lines : (r : Registers) (w : Word) (m : Memories) → shapeOf (r .figure .shape) ≡ Line → r .modes .lmode ≤ 1 → stepOf chip r w m .memories .z ≡ m .z
-unfolding figureOffers
+unfolding figureOffers wholeOffers isCut
 flat-lines r w m line flat =
     step-shallow chip r w m
     (line-completes (λ f. (o : Offer) → List·Memᴰ o (figureOffers (rowsIn chip r m) r f) → isDeep (o .kind) ≡ false) r line
@@ -194,13 +200,20 @@ line-low r h =
     leb-true _ _ (both (leb 256 (r .frame .line)) (leb (r .frame .line) 8768) (k .0) .1)
 
 -- no more than the rows in use have
+whole-counts : (rows : ℕ) (r : Registers) (f : Completed) (p : Picture) → AllVertices Near f → rows ≤ 8192 → r .frame .line ≤ 8768
+    → drawn (penOf r) (wholeOffers rows r f) p .passed ≤ p .passed + 71827456
+unfolding wholeOffers
+whole-counts rows r Nothing p near h k = rw (drawn-nil (penOf r) p) (omega arith)
+whole-counts rows r (Triangle a b c) p near h k =
+    omega (arith, triangle-counts (penOf r) rows (isConstant r) a b c p, mul-le-mul {n₁ = rows} {m₁ = r .frame .line} {n₂ = 8192} {m₂ = 8768} h k)
+whole-counts rows r (Segment a b) p near h k = omega (arith, segment-counts (penOf r) rows (styleOf r) a b p, larger-low a b (near .0) (near .1))
+
 figure-counts : (rows : ℕ) (r : Registers) (f : Completed) (p : Picture) → AllVertices Near f → rows ≤ 8192 → r .frame .line ≤ 8768
     → drawn (penOf r) (figureOffers rows r f) p .passed ≤ p .passed + 71827456
 unfolding figureOffers
-figure-counts rows r Nothing p near h k = rw (drawn-nil (penOf r) p) (omega arith)
-figure-counts rows r (Triangle a b c) p near h k =
-    omega (arith, triangle-counts (penOf r) rows (isConstant r) a b c p, mul-le-mul {n₁ = rows} {m₁ = r .frame .line} {n₂ = 8192} {m₂ = 8768} h k)
-figure-counts rows r (Segment a b) p near h k = omega (arith, segment-counts (penOf r) rows (styleOf r) a b p, larger-low a b (near .0) (near .1))
+figure-counts rows r f p near h k =
+    chosen (λ (os : List Offer). drawn (penOf r) os p .passed ≤ p .passed + 71827456) (isCut r f) [] (wholeOffers rows r f)
+    (λ t. rw (drawn-nil (penOf r) p) (omega arith)) (λ t. whole-counts rows r f p near h k)
 
 -- the count of one word is below 2 ^ 32
 pub count-low : (r : Registers) (w : Word) (m : Memories) → stepOf chip r w m .passed < 2 ^ 32

@@ -3,4 +3,5 @@ pub mod Words
 pub mod Streams
 pub mod Demands
 pub mod Laws
+pub mod Section
 pub mod Settled

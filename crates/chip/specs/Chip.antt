@@ -1,9 +1,9 @@
 -- The chip: a machine whose words, registers and refusals are those of `registers`, and which offers what triangles and segments offer.
 use Prim.Native.Nat.{ℕ, _+_, _*_}
-use mathlib.Core.Bool.{Bool}
+use mathlib.Core.Bool.{Bool, false, cond, _&&_}
 use mathlib.Core.List.{List, [], _∷_}
 use lib.ListN.{getD}
-use lib.Dec.{eqb}
+use lib.Dec.{ltb, eqb}
 use Rattle.picture.specs.Offer.{Offer}
 use Rattle.triangle.specs.Offers.{triangleOffers}
 use Rattle.line.specs.declared.Mode.{Mode}
@@ -14,7 +14,7 @@ use Rattle.registers.specs.declared.Registers.{Registers}
 use Rattle.registers.specs.declared.word.Word.{Word}
 use Rattle.registers.specs.declared.shape.Completed.{Completed}
 use Rattle.registers.specs.declared.shape.Completed.the-variants.{Nothing, Triangle, Segment}
-use Rattle.registers.specs.Record.{resetOf}
+use Rattle.registers.specs.Record.{isOn, sectionBit, resetOf}
 use Rattle.registers.specs.Next.{after, completedBy, penOf}
 use Rattle.registers.specs.Refusal.{refusalOf}
 use Rattle.machine.specs.Machine.{Machine}
@@ -37,11 +37,22 @@ styleOf r =
       background = r .dash .background;
     }
 
--- what a completed figure offers where so many rows are in use
+-- what a completed figure holds to be offered, where so many rows are in use
+unfoldable pub wholeOffers : ℕ → Registers → Completed → List Offer
+wholeOffers rows r Nothing = []
+wholeOffers rows r (Triangle a b c) = triangleOffers (penOf r) rows (isConstant r) a b c
+wholeOffers rows r (Segment a b) = segmentOffers (penOf r) rows (styleOf r) a b
+
+-- a completed figure is cut (document 02, [7]): with sectioning on, a constant triangle whose depth, the completing vertex's, is greater than
+-- the section depth
+unfoldable pub isCut : Registers → Completed → Bool
+isCut r Nothing = false
+isCut r (Triangle a b c) = isConstant r && isOn sectionBit (r .modes .zcontrol) && ltb (r .modes .section) (c .z)
+isCut r (Segment a b) = false
+
+-- what a completed figure offers: nothing, if it is cut
 unfoldable pub figureOffers : ℕ → Registers → Completed → List Offer
-figureOffers rows r Nothing = []
-figureOffers rows r (Triangle a b c) = triangleOffers (penOf r) rows (isConstant r) a b c
-figureOffers rows r (Segment a b) = segmentOffers (penOf r) rows (styleOf r) a b
+figureOffers rows r f = cond (isCut r f) [] (wholeOffers rows r f)
 
 abbrev pub chip : Machine
 chip =

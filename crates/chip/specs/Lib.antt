@@ -1,3 +1,4 @@
 pub mod Chip
+pub mod Section
 pub mod Stream
 pub mod Demands

@@ -5,11 +5,12 @@ ghost use lib.ListN.{length};
 ghost use Rattle.picture.specs.Place.{rowsOf};
 ghost use Rattle.picture.specs.Picture.{picture, drawn};
 ghost use Rattle.registers.specs.Next.{penOf};
-ghost use Rattle.chip.specs.Chip.{modeOf, styleOf, figureOffers};
+ghost use Rattle.chip.specs.Chip.{modeOf, styleOf, wholeOffers, isCut, figureOffers};
 use line::Mode;
 use line::Style;
 use line::segment;
 use registers::Registers;
+use registers::SECTIONING;
 use registers::shape::Completed;
 use triangle::draw::triangle;
 
@@ -45,9 +46,9 @@ fn style_of(r: Registers) -> Style
     }
 }
 
-// Draws what a word completed. Answers how many pixels passed.
-pub(crate) fn draw(r: Registers, figure: Completed, im: &mut [u16], zm: &mut [u16]) -> u64
-    ensures { λ n. ⌜ picture (now (im .exit)) (now (zm .exit)) n ≡ drawn (penOf r) (figureOffers (rowsOf (r .frame) (length (now (im .entry))) (length (now (zm .entry)))) r figure) (picture (now (im .entry)) (now (zm .entry)) 0) ⌝ }
+// Draws what a word completed, cut or not. Answers how many pixels passed.
+fn draw_whole(r: Registers, figure: Completed, im: &mut [u16], zm: &mut [u16]) -> u64
+    ensures { λ n. ⌜ picture (now (im .exit)) (now (zm .exit)) n ≡ drawn (penOf r) (wholeOffers (rowsOf (r .frame) (length (now (im .entry))) (length (now (zm .entry)))) r figure) (picture (now (im .entry)) (now (zm .entry)) 0) ⌝ }
 {
     let pen = r.pen();
     let constant = r.modes.pmode == 1;
@@ -57,4 +58,27 @@ pub(crate) fn draw(r: Registers, figure: Completed, im: &mut [u16], zm: &mut [u1
         Completed::Triangle(a, b, c) => triangle(pen, constant, a, b, c, im, zm),
         Completed::Segment(a, b) => segment(pen, style, a, b, im, zm),
     }
+}
+
+// Whether a completed figure is cut: with sectioning on, a constant triangle that is deeper than the section depth.
+fn is_cut(r: Registers, figure: Completed) -> bool
+    ensures { λ b. ⌜ b ≡ isCut r figure ⌝ }
+{
+    match figure {
+        Completed::Nothing => false,
+        Completed::Triangle(_, _, c) => (r.modes.pmode == 1)
+            & (r.modes.zcontrol & SECTIONING != 0)
+            & (r.modes.section < c.z),
+        Completed::Segment(_, _) => false,
+    }
+}
+
+// Draws what a word completed, unless it is cut. Answers how many pixels passed.
+pub(crate) fn draw(r: Registers, figure: Completed, im: &mut [u16], zm: &mut [u16]) -> u64
+    ensures { λ n. ⌜ picture (now (im .exit)) (now (zm .exit)) n ≡ drawn (penOf r) (figureOffers (rowsOf (r .frame) (length (now (im .entry))) (length (now (zm .entry)))) r figure) (picture (now (im .entry)) (now (zm .entry)) 0) ⌝ }
+{
+    if is_cut(r, figure) {
+        return 0;
+    }
+    draw_whole(r, figure, im, zm)
 }

@@ -34,7 +34,7 @@ module _ (d : ℕ) where
         reserved = eqb c 7 || eqb c 12;
         init = eqb c 15;
         parm = eqb c 13;
-        unmodelled = eqb c 0 || eqb c 9 || eqb c 10 || (eqb c 14 && (eqb d 2 || eqb d 7 || eqb d 11));
+        unmodelled = eqb c 0 || eqb c 9 || eqb c 10 || (eqb c 14 && (eqb d 2 || eqb d 11));
         above = eqb c 14 && ltb 12 d;
       }
 
@@ -67,8 +67,8 @@ module _ (c d : ℕ) where
   pub decode-parm : isParm (decode c d) ≡ eqb c 13
   decode-parm = ap (λ (a : Answers). a .parm) (told d c)
 
-  -- 0, 9 and A hex are not modelled, nor are AUX 2, 7 and 11
-  pub decode-unmodelled : isUnmodelled (decode c d) ≡ eqb c 0 || eqb c 9 || eqb c 10 || (eqb c 14 && (eqb d 2 || eqb d 7 || eqb d 11))
+  -- 0, 9 and A hex are not modelled, nor are AUX 2 and 11
+  pub decode-unmodelled : isUnmodelled (decode c d) ≡ eqb c 0 || eqb c 9 || eqb c 10 || (eqb c 14 && (eqb d 2 || eqb d 11))
   decode-unmodelled = ap (λ (a : Answers). a .unmodelled) (told d c)
 
   -- AUX with data above 12 is AUX above 12

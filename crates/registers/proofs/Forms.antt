@@ -14,7 +14,7 @@ use Rattle.registers.specs.declared.word.Word.the-variants.{Init, Aux, P
 use Rattle.registers.specs.declared.word.Coordinate.{Coordinate}
 use Rattle.registers.specs.declared.word.Coordinate.the-variants.{I, Z, Y, X, T1x, T2x, Lx, Px}
 use Rattle.registers.specs.declared.subcommand.Subcommand.{Subcommand}
-use Rattle.registers.specs.declared.subcommand.Subcommand.the-variants.{Nothing, Pmode, Lmode, Zcontrol, Hcontrol, Tpattern, Window as Win, Color, Lpattern, Mask, Lstatus}
+use Rattle.registers.specs.declared.subcommand.Subcommand.the-variants.{Nothing, Pmode, Lmode, Zcontrol, Hcontrol, Tpattern, Window as Win, Section, Color, Lpattern, Mask, Lstatus}
 use Rattle.registers.specs.declared.shape.Shape.{Shape}
 use Rattle.registers.specs.declared.shape.Shape.the-variants.{Closed, Strip, Fan, Line}
 use Rattle.registers.specs.declared.shape.Completed.{Completed}
@@ -183,6 +183,7 @@ effect-figure r Zcontrol l = refl
 effect-figure r Hcontrol l = refl
 effect-figure r Tpattern l = refl
 effect-figure r Win l = refl
+effect-figure r Section l = refl
 effect-figure r Color l = refl
 effect-figure r Lpattern l = refl
 effect-figure r Mask l = refl
@@ -239,6 +240,7 @@ effect-hcontrol r Zcontrol l h = refl
 effect-hcontrol r Hcontrol l h = absurd (h refl)
 effect-hcontrol r Tpattern l h = refl
 effect-hcontrol r Win l h = refl
+effect-hcontrol r Section l h = refl
 effect-hcontrol r Color l h = refl
 effect-hcontrol r Lpattern l h = refl
 effect-hcontrol r Mask l h = refl

@@ -14,7 +14,7 @@ use Rattle.registers.specs.declared.word.Word.the-variants.{Init, Aux, P
 use Rattle.registers.specs.declared.word.Coordinate.{Coordinate}
 use Rattle.registers.specs.declared.word.Coordinate.the-variants.{I, Z, Y, X, T1x, T2x, Lx, Px}
 use Rattle.registers.specs.declared.subcommand.Subcommand.{Subcommand}
-use Rattle.registers.specs.declared.subcommand.Subcommand.the-variants.{Nothing, Pmode, Lmode, Zcontrol, Hcontrol, Tpattern, Window as Win, Color, Lpattern, Mask, Lstatus}
+use Rattle.registers.specs.declared.subcommand.Subcommand.the-variants.{Nothing, Pmode, Lmode, Zcontrol, Hcontrol, Tpattern, Window as Win, Section, Color, Lpattern, Mask, Lstatus}
 use Rattle.registers.specs.declared.shape.Shape.{Shape}
 use Rattle.registers.specs.declared.shape.Shape.the-variants.{Closed, Strip, Fan, Line}
 use Rattle.registers.specs.declared.Modes.{Modes}
@@ -25,11 +25,11 @@ use Rattle.registers.specs.declared.Figure.{Figure}
 use Rattle.registers.specs.declared.Parked.{Parked}
 use Rattle.registers.specs.declared.Registers.{Registers}
 use Rattle.registers.specs.Lines.{chipsIn, unitIn, pageIn, codeIn, lineOf}
-use Rattle.registers.specs.Record.{noVertex, opened, frameOf, awaiting, nothingAwaited, window, settings, resetOf, initOf, withPmode, withLmode, withZcontrol, withHcontrol, withLstatus, withTransparency, withPlanes, withModes, withWindow, withDash, withLatch, withFigure, withParked}
+use Rattle.registers.specs.Record.{noVertex, opened, frameOf, awaiting, nothingAwaited, window, settings, resetOf, initOf, withPmode, withLmode, withZcontrol, withHcontrol, withLstatus, withTransparency, withPlanes, withSection, withModes, withWindow, withDash, withLatch, withFigure, withParked}
 use Rattle.registers.specs.Subcommand.{subcommands, subcommandOf, wants}
 use Rattle.registers.specs.Figure.{shapeOf, vertexOf, isPair, grownOf, figureAfter}
 use Rattle.registers.specs.Next.{value, awaited, joinedOf, counted, effectOf, parmOf, coordinateOf, after}
-use Rattle.registers.specs.Allowed.{isCoordinate, isBorder, onlyBits, initAllowed, parameterAllowed, coordinateAllowed, allowed}
+use Rattle.registers.specs.Allowed.{isCoordinate, isBorder, onlyBits, zcontrolBits, hcontrolBits, lstatusBits, initAllowed, parameterAllowed, coordinateAllowed, allowed}
 use Rattle.registers.specs.Bounds.{frameFits, modesFit, windowFits, vertexFits, figureFits, valuesFit, parkedFits, inBounds}
 use Rattle.registers.specs.Refusal.{isUnmodelled, isAbove, isUnfit, refusalOf, next}
 use Rattle.registers.proofs.Truth.{and-both, All, chain-all, all-chain, chosen}
@@ -95,7 +95,7 @@ module _ {r : Registers} (s : Sound r) where
 -- ---- the modes, one of them replaced
 
 abbrev rest : Modes → List Bool
-rest m = leb (m .lmode) 2 ∷ onlyBits 0x0040 (m .zcontrol) ∷ onlyBits 0x0D8E (m .hcontrol) ∷ onlyBits 0x0030 (m .lstatus) ∷ []
+rest m = leb (m .lmode) 2 ∷ onlyBits zcontrolBits (m .zcontrol) ∷ onlyBits hcontrolBits (m .hcontrol) ∷ onlyBits lstatusBits (m .lstatus) ∷ []
 
 modes-fit : (m : Modes) → All (leb (m .pmode) 1 ∷ rest m) → modesFit m ≡ true
 unfolding modesFit
@@ -112,21 +112,24 @@ module _ (m : Modes) (h : modesFit m ≡ true) where
   lmode-fits : (v : ℕ) → leb v 2 ≡ true → modesFit (withLmode m v) ≡ true
   lmode-fits v e = modes-fit (withLmode m v) (each .0, (e, each .1 .1))
 
-  zcontrol-fits : (v : ℕ) → onlyBits 0x0040 v ≡ true → modesFit (withZcontrol m v) ≡ true
+  zcontrol-fits : (v : ℕ) → onlyBits zcontrolBits v ≡ true → modesFit (withZcontrol m v) ≡ true
   zcontrol-fits v e = modes-fit (withZcontrol m v) (each .0, (each .1 .0, (e, each .1 .1 .1)))
 
-  hcontrol-fits : (v : ℕ) → onlyBits 0x0D8E v ≡ true → modesFit (withHcontrol m v) ≡ true
+  hcontrol-fits : (v : ℕ) → onlyBits hcontrolBits v ≡ true → modesFit (withHcontrol m v) ≡ true
   hcontrol-fits v e = modes-fit (withHcontrol m v) (each .0, (each .1 .0, (each .1 .1 .0, (e, each .1 .1 .1 .1))))
 
-  lstatus-fits : (v : ℕ) → onlyBits 0x0030 v ≡ true → modesFit (withLstatus m v) ≡ true
+  lstatus-fits : (v : ℕ) → onlyBits lstatusBits v ≡ true → modesFit (withLstatus m v) ≡ true
   lstatus-fits v e = modes-fit (withLstatus m v) (each .0, (each .1 .0, (each .1 .1 .0, (each .1 .1 .1 .0, (e, tt)))))
 
-  -- the two that any number may be
+  -- the three that any number may be
   transparency-fits : (v : ℕ) → modesFit (withTransparency m v) ≡ true
   transparency-fits v = modes-fit (withTransparency m v) each
 
   planes-fits : (v : ℕ) → modesFit (withPlanes m v) ≡ true
   planes-fits v = modes-fit (withPlanes m v) each
+
+  section-fits : (v : ℕ) → modesFit (withSection m v) ≡ true
+  section-fits v = modes-fit (withSection m v) each
 
 -- ---- parameters
 
@@ -140,6 +143,7 @@ unless-window P w f Zcontrol = f Zcontrol (λ l. refl)
 unless-window P w f Hcontrol = f Hcontrol (λ l. refl)
 unless-window P w f Tpattern = f Tpattern (λ l. refl)
 unless-window P w f Win = w
+unless-window P w f Section = f Section (λ l. refl)
 unless-window P w f Color = f Color (λ l. refl)
 unless-window P w f Lpattern = f Lpattern (λ l. refl)
 unless-window P w f Mask = f Mask (λ l. refl)
@@ -193,6 +197,7 @@ first-allowed Zcontrol l k v h f a = alone (parameterAllowed Zcontrol 0) l k v (
 first-allowed Hcontrol l k v h f a = alone (parameterAllowed Hcontrol 0) l k v (omega (arith, h)) refl a
 first-allowed Tpattern l k v h f a = refl
 first-allowed Win l k v h f a = chain-all (isBorder (value (set l k v) 0)) (borders (set l k v)) f .0
+first-allowed Section l k v h f a = refl
 first-allowed Color l k v h f a = refl
 first-allowed Lpattern l k v h f a = refl
 first-allowed Mask l k v h f a = refl
@@ -211,6 +216,7 @@ effect-sound r Zcontrol l h a f = sound-modes h _ (zcontrol-fits (r .modes) (h .
 effect-sound r Hcontrol l h a f = sound-modes h _ (hcontrol-fits (r .modes) (h .modes) (value l 0) a)
 effect-sound r Tpattern l h a f = sound-modes h _ (transparency-fits (r .modes) (h .modes) (value l 0))
 effect-sound r Win l h a f = sound-window h _ (borders-fit l f)
+effect-sound r Section l h a f = sound-modes h _ (section-fits (r .modes) (h .modes) (value l 0))
 effect-sound r Color l h a f = sound-dash h _
 effect-sound r Lpattern l h a f = sound-dash h _
 effect-sound r Mask l h a f = sound-modes h _ (planes-fits (r .modes) (h .modes) (value l 0))

@@ -117,7 +117,7 @@ module _ (ni nz : ℕ) (r : Registers) (w : Word) where
   pub given-4 : (refusalOf ni nz r w ≡ 4) ↔ ((isReserved w ≡ true) × Past 3)
   given-4 = given 3
 
-  -- 5 is given exactly when the command is 0, 9 or A hex or the word is AUX 2, 7 or 11, and none of 1 to 4 applies
+  -- 5 is given exactly when the command is 0, 9 or A hex or the word is AUX 2 or 11, and none of 1 to 4 applies
   pub given-5 : (refusalOf ni nz r w ≡ 5) ↔ ((isUnmodelled w ≡ true) × Past 4)
   given-5 = given 4
 

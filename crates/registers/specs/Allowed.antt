@@ -8,7 +8,7 @@ use Rattle.registers.specs.declared.word.Word.the-variants.{Init, Aux, P
 use Rattle.registers.specs.declared.word.Coordinate.{Coordinate}
 use Rattle.registers.specs.declared.word.Coordinate.the-variants.{I, Z, Y, X, T1x, T2x, Lx, Px}
 use Rattle.registers.specs.declared.subcommand.Subcommand.{Subcommand}
-use Rattle.registers.specs.declared.subcommand.Subcommand.the-variants.{Nothing, Pmode, Lmode, Zcontrol, Hcontrol, Tpattern, Window as Win, Color, Lpattern, Mask, Lstatus}
+use Rattle.registers.specs.declared.subcommand.Subcommand.the-variants.{Nothing, Pmode, Lmode, Zcontrol, Hcontrol, Tpattern, Window as Win, Section, Color, Lpattern, Mask, Lstatus}
 use Rattle.registers.specs.declared.shape.Shape.{Shape}
 use Rattle.registers.specs.declared.shape.Shape.the-variants.{Closed, Strip, Fan, Line}
 use Rattle.registers.specs.declared.Registers.{Registers}
@@ -29,7 +29,7 @@ onlyBits mask n = eqb (bitAnd n (65535 - mask)) 0
 
 -- the bits that ZCONTROL, HCONTROL and LSTATUS may have
 abbrev pub zcontrolBits : ℕ
-zcontrolBits = 0x0040
+zcontrolBits = 0x0060
 
 abbrev pub hcontrolBits : ℕ
 hcontrolBits = 0x0D8E
@@ -50,6 +50,7 @@ parameterAllowed Zcontrol k v = onlyBits zcontrolBits v
 parameterAllowed Hcontrol k v = onlyBits hcontrolBits v
 parameterAllowed Tpattern k v = true
 parameterAllowed Win k v = cond (ltb k 4) (isBorder v) (eqb v 0)
+parameterAllowed Section k v = true
 parameterAllowed Color k v = true
 parameterAllowed Lpattern k v = true
 parameterAllowed Mask k v = true

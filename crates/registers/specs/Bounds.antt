@@ -11,7 +11,7 @@ use Rattle.registers.specs.declared.Figure.{Figure}
 use Rattle.registers.specs.declared.Parked.{Parked}
 use Rattle.registers.specs.declared.Registers.{Registers}
 use Rattle.registers.specs.declared.subcommand.Subcommand.{Subcommand}
-use Rattle.registers.specs.declared.subcommand.Subcommand.the-variants.{Nothing, Pmode, Lmode, Zcontrol, Hcontrol, Tpattern, Window as Win, Color, Lpattern, Mask, Lstatus}
+use Rattle.registers.specs.declared.subcommand.Subcommand.the-variants.{Nothing, Pmode, Lmode, Zcontrol, Hcontrol, Tpattern, Window as Win, Section, Color, Lpattern, Mask, Lstatus}
 use Rattle.registers.specs.Subcommand.{subcommandOf, wants}
 use Rattle.registers.specs.Next.{value}
 use Rattle.registers.specs.Allowed.{isCoordinate, isBorder, onlyBits, zcontrolBits, hcontrolBits, lstatusBits}
@@ -42,6 +42,7 @@ valuesFit Zcontrol p = true
 valuesFit Hcontrol p = true
 valuesFit Tpattern p = true
 valuesFit Win p = isBorder (value p 0) && isBorder (value p 1) && isBorder (value p 2) && isBorder (value p 3)
+valuesFit Section p = true
 valuesFit Color p = true
 valuesFit Lpattern p = true
 valuesFit Mask p = true

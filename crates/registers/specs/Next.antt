@@ -10,12 +10,12 @@ use Rattle.registers.specs.declared.word.Word.the-variants.{Init, Aux, P
 use Rattle.registers.specs.declared.word.Coordinate.{Coordinate}
 use Rattle.registers.specs.declared.word.Coordinate.the-variants.{I, Z, Y, X, T1x, T2x, Lx, Px}
 use Rattle.registers.specs.declared.subcommand.Subcommand.{Subcommand}
-use Rattle.registers.specs.declared.subcommand.Subcommand.the-variants.{Nothing, Pmode, Lmode, Zcontrol, Hcontrol, Tpattern, Window as Win, Color, Lpattern, Mask, Lstatus}
+use Rattle.registers.specs.declared.subcommand.Subcommand.the-variants.{Nothing, Pmode, Lmode, Zcontrol, Hcontrol, Tpattern, Window as Win, Section, Color, Lpattern, Mask, Lstatus}
 use Rattle.registers.specs.declared.Parked.{Parked}
 use Rattle.registers.specs.declared.Registers.{Registers}
 use Rattle.registers.specs.declared.shape.Completed.{Completed}
 use Rattle.registers.specs.declared.shape.Completed.the-variants.{Nothing as None}
-use Rattle.registers.specs.Record.{isOn, depthBit, iBit, zBit, awaiting, nothingAwaited, opened, withPmode, withLmode, withZcontrol, withHcontrol, withLstatus, withTransparency, withPlanes, latch, window, dash, withModes, withWindow, withDash, withLatch, withFigure, withParked, initOf}
+use Rattle.registers.specs.Record.{isOn, depthBit, iBit, zBit, awaiting, nothingAwaited, opened, withPmode, withLmode, withZcontrol, withHcontrol, withLstatus, withTransparency, withPlanes, withSection, latch, window, dash, withModes, withWindow, withDash, withLatch, withFigure, withParked, initOf}
 use Rattle.registers.specs.Subcommand.{subcommandOf, wants}
 use Rattle.registers.specs.Figure.{vertexOf, figureAfter, vertexCompletes}
 
@@ -34,6 +34,7 @@ effectOf r Zcontrol p = withModes r (withZcontrol (r .modes) (value p 0))
 effectOf r Hcontrol p = withModes r (withHcontrol (r .modes) (value p 0))
 effectOf r Tpattern p = withModes r (withTransparency (r .modes) (value p 0))
 effectOf r Win p = withWindow r (window (value p 0) (value p 1) (value p 2) (value p 3))
+effectOf r Section p = withModes r (withSection (r .modes) (value p 0))
 effectOf r Color p = withDash r (dash (value p 0) (value p 1) (r .dash .high) (r .dash .low))
 effectOf r Lpattern p = withDash r (dash (r .dash .foreground) (r .dash .background) (value p 0) (value p 1))
 effectOf r Mask p = withModes r (withPlanes (r .modes) (value p 0))

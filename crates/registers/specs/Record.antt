@@ -21,9 +21,12 @@ use Rattle.registers.specs.Lines.{codeIn, lineOf}
 abbrev pub isOn : ℕ → ℕ → Bool
 isOn mask word = not (eqb (bitAnd word mask) 0)
 
--- ZCONTROL bit 6: depth test
+-- ZCONTROL bit 6: depth test; bit 5: sectioning, of the constant kind
 abbrev pub depthBit : ℕ
 depthBit = 64
+
+abbrev pub sectionBit : ℕ
+sectionBit = 32
 
 -- HCONTROL bit 2: I enable; bit 1: Z enable
 abbrev pub iBit : ℕ
@@ -66,25 +69,28 @@ frameOf line = record { line = line }
 -- ---- a part with one field replaced
 
 abbrev pub withPmode : Modes → ℕ → Modes
-withPmode m v = record { pmode = v; lmode = m .lmode; zcontrol = m .zcontrol; hcontrol = m .hcontrol; lstatus = m .lstatus; transparency = m .transparency; planes = m .planes }
+withPmode m v = record { pmode = v; lmode = m .lmode; zcontrol = m .zcontrol; hcontrol = m .hcontrol; lstatus = m .lstatus; transparency = m .transparency; planes = m .planes; section = m .section }
 
 abbrev pub withLmode : Modes → ℕ → Modes
-withLmode m v = record { pmode = m .pmode; lmode = v; zcontrol = m .zcontrol; hcontrol = m .hcontrol; lstatus = m .lstatus; transparency = m .transparency; planes = m .planes }
+withLmode m v = record { pmode = m .pmode; lmode = v; zcontrol = m .zcontrol; hcontrol = m .hcontrol; lstatus = m .lstatus; transparency = m .transparency; planes = m .planes; section = m .section }
 
 abbrev pub withZcontrol : Modes → ℕ → Modes
-withZcontrol m v = record { pmode = m .pmode; lmode = m .lmode; zcontrol = v; hcontrol = m .hcontrol; lstatus = m .lstatus; transparency = m .transparency; planes = m .planes }
+withZcontrol m v = record { pmode = m .pmode; lmode = m .lmode; zcontrol = v; hcontrol = m .hcontrol; lstatus = m .lstatus; transparency = m .transparency; planes = m .planes; section = m .section }
 
 abbrev pub withHcontrol : Modes → ℕ → Modes
-withHcontrol m v = record { pmode = m .pmode; lmode = m .lmode; zcontrol = m .zcontrol; hcontrol = v; lstatus = m .lstatus; transparency = m .transparency; planes = m .planes }
+withHcontrol m v = record { pmode = m .pmode; lmode = m .lmode; zcontrol = m .zcontrol; hcontrol = v; lstatus = m .lstatus; transparency = m .transparency; planes = m .planes; section = m .section }
 
 abbrev pub withLstatus : Modes → ℕ → Modes
-withLstatus m v = record { pmode = m .pmode; lmode = m .lmode; zcontrol = m .zcontrol; hcontrol = m .hcontrol; lstatus = v; transparency = m .transparency; planes = m .planes }
+withLstatus m v = record { pmode = m .pmode; lmode = m .lmode; zcontrol = m .zcontrol; hcontrol = m .hcontrol; lstatus = v; transparency = m .transparency; planes = m .planes; section = m .section }
 
 abbrev pub withTransparency : Modes → ℕ → Modes
-withTransparency m v = record { pmode = m .pmode; lmode = m .lmode; zcontrol = m .zcontrol; hcontrol = m .hcontrol; lstatus = m .lstatus; transparency = v; planes = m .planes }
+withTransparency m v = record { pmode = m .pmode; lmode = m .lmode; zcontrol = m .zcontrol; hcontrol = m .hcontrol; lstatus = m .lstatus; transparency = v; planes = m .planes; section = m .section }
 
 abbrev pub withPlanes : Modes → ℕ → Modes
-withPlanes m v = record { pmode = m .pmode; lmode = m .lmode; zcontrol = m .zcontrol; hcontrol = m .hcontrol; lstatus = m .lstatus; transparency = m .transparency; planes = v }
+withPlanes m v = record { pmode = m .pmode; lmode = m .lmode; zcontrol = m .zcontrol; hcontrol = m .hcontrol; lstatus = m .lstatus; transparency = m .transparency; planes = v; section = m .section }
+
+abbrev pub withSection : Modes → ℕ → Modes
+withSection m v = record { pmode = m .pmode; lmode = m .lmode; zcontrol = m .zcontrol; hcontrol = m .hcontrol; lstatus = m .lstatus; transparency = m .transparency; planes = m .planes; section = v }
 
 abbrev pub latch : ℕ → ℕ → ℕ → Latch
 latch i z y = record { i = i; z = z; y = y }
@@ -117,10 +123,10 @@ withParked r p = record { started = r .started; frame = r .frame; modes = r .mod
 
 -- ---- INIT and reset
 
--- INIT sets: Gouraud; line mode 1; depth test off; hardware bits 0, so both write enables are off; INV 1, END 0; transparency FFFF;
--- planes FFFF
+-- INIT sets: Gouraud; line mode 1; depth test and sectioning off; hardware bits 0, so both write enables are off; INV 1, END 0;
+-- transparency FFFF; planes FFFF; section depth FFFF
 abbrev pub firstModes : Modes
-firstModes = record { pmode = 0; lmode = 1; zcontrol = 0; hcontrol = 0; lstatus = invBit; transparency = 65535; planes = 65535 }
+firstModes = record { pmode = 0; lmode = 1; zcontrol = 0; hcontrol = 0; lstatus = invBit; transparency = 65535; planes = 65535; section = 65535 }
 
 -- window from 0 to 8192 both ways; foreground 1, background 0; line pattern all ones; I, Z, Y registers 0; no figure open, nothing awaited
 unfoldable pub settings : ℕ → Frame → Registers

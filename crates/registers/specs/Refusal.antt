@@ -52,10 +52,10 @@ isReserved Reserved = true
 isReserved Unmodelled = false
 isReserved Unknown = false
 
--- command 0, 9 or A hex; AUX 2, 7 or 11
+-- command 0, 9 or A hex; AUX 2 or 11
 abbrev pub isUnmodelled : Word → Bool
 isUnmodelled (Init d) = false
-isUnmodelled (Aux n) = eqb n 2 || eqb n 7 || eqb n 11
+isUnmodelled (Aux n) = eqb n 2 || eqb n 11
 isUnmodelled (Parm v) = false
 isUnmodelled (At c n) = false
 isUnmodelled Reserved = false
@@ -89,7 +89,7 @@ table unfit r w =
     ∷ unfit  -- 2: the memories differ in length, or the record breaks a bound
     ∷ (not (isInit w) && isCold r)  -- 3: any word but INIT before the first accepted INIT
     ∷ isReserved w  -- 4: command 7 or C hex
-    ∷ isUnmodelled w  -- 5: command 0, 9 or A hex; AUX 2, 7 or 11
+    ∷ isUnmodelled w  -- 5: command 0, 9 or A hex; AUX 2 or 11
     ∷ (not (isParm w || isInit w) && awaits r)  -- 6: a parameter is awaited and the word is neither PARM nor INIT
     ∷ (isParm w && not (awaits r))  -- 7: PARM with none awaited
     ∷ isAbove w  -- 8: AUX above 12

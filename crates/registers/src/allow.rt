@@ -7,7 +7,7 @@ use crate::subcommand::Subcommand;
 use crate::word::Coordinate;
 
 // The bits that ZCONTROL, HCONTROL and LSTATUS may have.
-pub(crate) const ZCONTROL_BITS: u16 = 0x0040;
+pub(crate) const ZCONTROL_BITS: u16 = 0x0060;
 
 pub(crate) const HCONTROL_BITS: u16 = 0x0D8E;
 
@@ -32,6 +32,7 @@ pub(crate) fn is_parameter_allowed(s: Subcommand, k: u16, v: u16) -> bool
         Subcommand::Hcontrol => v & !HCONTROL_BITS == 0,
         Subcommand::Tpattern => true,
         Subcommand::Window => if k < 4 { v <= 8192 } else { v == 0 },
+        Subcommand::Section => true,
         Subcommand::Color => true,
         Subcommand::Lpattern => true,
         Subcommand::Mask => true,

@@ -65,6 +65,7 @@ fn values_fit(s: Subcommand, p: [u16; 5]) -> bool
         Subcommand::Hcontrol => true,
         Subcommand::Tpattern => true,
         Subcommand::Window => (p[0] <= 8192) & (p[1] <= 8192) & (p[2] <= 8192) & (p[3] <= 8192),
+        Subcommand::Section => true,
         Subcommand::Color => true,
         Subcommand::Lpattern => true,
         Subcommand::Mask => true,

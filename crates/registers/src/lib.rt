@@ -12,8 +12,11 @@ pub mod word;
 use picture::Frame;
 use picture::Vertex;
 
-// Bits of the words that are kept as sent: ZCONTROL bit 6 depth test; HCONTROL bit 2 I enable, bit 1 Z enable; LSTATUS bit 5 INV, bit 4 END.
+// Bits of the words that are kept as sent: ZCONTROL bit 6 depth test, bit 5 sectioning; HCONTROL bit 2 I enable, bit 1 Z enable; LSTATUS bit
+// 5 INV, bit 4 END.
 pub(crate) const DEPTH: u16 = 64;
+
+pub const SECTIONING: u16 = 32;
 
 pub(crate) const I_ENABLE: u16 = 4;
 
@@ -26,7 +29,7 @@ pub(crate) const END: u16 = 16;
 // In place of an AUX number: nothing is awaited.
 pub(crate) const NOTHING: u16 = 13;
 
-// The words of PMODE, LMODE, ZCONTROL, HCONTROL, LSTATUS, TPATTERN and MASK, as they were sent. LX rewrites LSTATUS.
+// The words of PMODE, LMODE, ZCONTROL, HCONTROL, LSTATUS, TPATTERN, MASK and SECTION, as they were sent. LX rewrites LSTATUS.
 #[repr(C)]
 pub struct Modes {
     pub pmode: u16,
@@ -36,6 +39,7 @@ pub struct Modes {
     pub lstatus: u16,
     pub transparency: u16,
     pub planes: u16,
+    pub section: u16,
 }
 
 // The clipping window. Its borders belong to it.

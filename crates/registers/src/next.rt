@@ -70,6 +70,7 @@ impl Registers {
                 lstatus: INV,
                 transparency: 65535,
                 planes: 65535,
+                section: 65535,
             },
             window: Window {
                 left: 0,
@@ -151,6 +152,10 @@ impl Registers {
                     bottom: p[3],
                 };
                 self.window = w;
+                self
+            }
+            Subcommand::Section => {
+                self.modes.section = first;
                 self
             }
             Subcommand::Color => {

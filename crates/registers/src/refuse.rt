@@ -44,7 +44,7 @@ fn aux_number(cold: bool, waits: bool, number: u16) -> u64
     if cold {
         return 3;
     }
-    if (number == 2) | (number == 7) | (number == 11) {
+    if (number == 2) | (number == 11) {
         return 5;
     }
     if waits {

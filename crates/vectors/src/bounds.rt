@@ -88,7 +88,6 @@ fn figure() {
 // What is awaited: AUX numbers that take no parameters, and as many come as they take.
 fn parked() {
     awaited(b"bounds, AUX 2 awaited", 2, 0);
-    awaited(b"bounds, AUX 7 awaited", 7, 0);
     awaited(b"bounds, AUX 11 awaited", 11, 0);
     awaited(b"bounds, AUX 14 awaited", 14, 0);
     awaited(b"bounds, none awaited and 1 come", 13, 1);

@@ -12,8 +12,8 @@ pub(crate) fn ready() -> Registers {
     r
 }
 
-// The first 20 of a record's 37 numbers, in the order of docs/REGISTERS.md: what was set.
-fn settings(r: Registers) -> [u16; 20] {
+// The first 21 of a record's 38 numbers, in the order of docs/REGISTERS.md: what was set.
+fn settings(r: Registers) -> [u16; 21] {
     let modes = r.modes;
     let window = r.window;
     let dash = r.dash;
@@ -27,6 +27,7 @@ fn settings(r: Registers) -> [u16; 20] {
         modes.lstatus,
         modes.transparency,
         modes.planes,
+        modes.section,
         window.left,
         window.top,
         window.right,

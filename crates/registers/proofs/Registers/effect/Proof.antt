@@ -49,6 +49,9 @@ enum-told-10 c = search needs
 enum-told-11 : tie.Need-enum-told-11
 enum-told-11 c = search needs
 
+enum-told-12 : tie.Need-enum-told-12
+enum-told-12 c = search needs
+
 returns : tie.Need-returns
 unfolding effectOf
 returns c = rw (c .enum-told .given .1)
@@ -79,7 +82,7 @@ returns-7 c = rw (c .enum-told7 .given .1)
 
 returns-8 : tie.Need-returns-8
 unfolding effectOf
-returns-8 c = rw (c .before .before .enum-told8 .given .1)
+returns-8 c = rw (c .before .enum-told8 .given .1)
 
 returns-9 : tie.Need-returns-9
 unfolding effectOf
@@ -87,11 +90,15 @@ returns-9 c = rw (c .before .before .enum-told9 .given .1)
 
 returns-10 : tie.Need-returns-10
 unfolding effectOf
-returns-10 c = rw (c .before .enum-told10 .given .1)
+returns-10 c = rw (c .before .before .enum-told10 .given .1)
 
 returns-11 : tie.Need-returns-11
 unfolding effectOf
 returns-11 c = rw (c .before .enum-told11 .given .1)
+
+returns-12 : tie.Need-returns-12
+unfolding effectOf
+returns-12 c = rw (c .before .enum-told12 .given .1)
 
 pub effect-spec : {M : Type 1} → statement M
 effect-spec =
@@ -112,6 +119,7 @@ effect-spec =
     enum-told-9
     enum-told-10
     enum-told-11
+    enum-told-12
     returns
     returns-2
     returns-3
@@ -122,4 +130,5 @@ effect-spec =
     returns-8
     returns-9
     returns-10
-    returns-11)
+    returns-11
+    returns-12)

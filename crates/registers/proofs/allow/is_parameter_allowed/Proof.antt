@@ -37,6 +37,9 @@ enum-told-10 c = search needs
 enum-told-11 : tie.Need-enum-told-11
 enum-told-11 c = search needs
 
+enum-told-12 : tie.Need-enum-told-12
+enum-told-12 c = search needs
+
 returns : tie.Need-returns
 returns c = rw (c .enum-told .given .1)
 
@@ -73,6 +76,9 @@ returns-11 c = rw (c .enum-told10 .given .1)
 returns-12 : tie.Need-returns-12
 returns-12 c = rw (c .enum-told11 .given .1)
 
+returns-13 : tie.Need-returns-13
+returns-13 c = rw (c .enum-told12 .given .1)
+
 pub is-parameter-allowed-spec : {M : Type 1} → statement M
 is-parameter-allowed-spec =
     tie.close
@@ -88,6 +94,7 @@ is-parameter-allowed-spec =
     enum-told-9
     enum-told-10
     enum-told-11
+    enum-told-12
     returns
     returns-2
     returns-3
@@ -99,4 +106,5 @@ is-parameter-allowed-spec =
     returns-9
     returns-10
     returns-11
-    returns-12)
+    returns-12
+    returns-13)

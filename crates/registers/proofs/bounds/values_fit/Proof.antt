@@ -49,6 +49,9 @@ enum-told-10 c = search needs
 enum-told-11 : tie.Need-enum-told-11
 enum-told-11 c = search needs
 
+enum-told-12 : tie.Need-enum-told-12
+enum-told-12 c = search needs
+
 returns : tie.Need-returns
 unfolding valuesFit
 returns c = rw (c .enum-told .given .1)
@@ -93,6 +96,10 @@ returns-11 : tie.Need-returns-11
 unfolding valuesFit
 returns-11 c = rw (c .enum-told11 .given .1)
 
+returns-12 : tie.Need-returns-12
+unfolding valuesFit
+returns-12 c = rw (c .enum-told12 .given .1)
+
 pub values-fit-spec : {M : Type 1} → statement M
 values-fit-spec =
     tie.close
@@ -112,6 +119,7 @@ values-fit-spec =
     enum-told-9
     enum-told-10
     enum-told-11
+    enum-told-12
     returns
     returns-2
     returns-3
@@ -122,4 +130,5 @@ values-fit-spec =
     returns-8
     returns-9
     returns-10
-    returns-11)
+    returns-11
+    returns-12)
