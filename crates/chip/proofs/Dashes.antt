@@ -1,14 +1,14 @@
 -- Why the pattern runs on: the words of a line's points offer its segments, each in the style that the steps before it leave. Assumes nothing.
 use mathlib.Core.Path.{_≡_, refl, ap, ap₂, _∙_}
-use mathlib.Core.Bool.{Bool, true, false}
+use mathlib.Core.Bool.{true, false}
 use mathlib.Core.List.{List, [], _∷_, _++_}
-use Prim.Native.Nat.{ℕ, _+_, _%_}
+use Prim.Native.Nat.{ℕ, _+_}
 use lib.Dec.{leb}
 use Rattle.picture.specs.declared.Kind.the-variants.{Line0, Line1}
 use Rattle.picture.specs.Offer.{Offer}
 use Rattle.line.specs.declared.Style.{Style}
-use Rattle.line.specs.Segment.{larger, segmentOffers}
-use Rattle.line.specs.Polyline.{styled, segmentsOffers, lineOffers}
+use Rattle.line.specs.Segment.{segmentOffers}
+use Rattle.line.specs.Polyline.{styled, segmentsOffers}
 use Rattle.line.proofs.Polylines.{line-of-mode-0, line-of-mode-1}
 use Rattle.registers.specs.declared.Registers.{Registers}
 use Rattle.registers.specs.declared.Figure.{Figure}

@@ -1,7 +1,7 @@
 -- A line that is drawn segment by segment is drawn step by step: the pattern runs on through its bends, each of which is one step. By induction
 -- on the points: the steps of the first segment are the first steps of the line, and those after it are the steps of the rest but its first.
 -- Assumes nothing.
-use mathlib.Core.Path.{_≡_, refl, sym, ap, ap₂, _∙_}
+use mathlib.Core.Path.{_≡_, sym, ap, ap₂, _∙_}
 use mathlib.Core.Bool.{Bool, true, false}
 use mathlib.Core.List.{List, [], _∷_, _++_, append-nil}
 use Prim.Native.Nat.{ℕ, _+_, _-_, _%_, _≤_, _<_}

@@ -3,13 +3,12 @@
 use mathlib.Core.Path.{_≡_, refl, sym, _∙_}
 use mathlib.Core.Bool.{Bool, true, false, not, _||_, or-true, false≢true}
 use mathlib.Core.List.{List, [], _∷_}
-use Prim.Native.Nat.{ℕ, zero, suc, _+_, _-_, _%_, _≤_, _<_}
+use Prim.Native.Nat.{ℕ, zero, suc, _+_, _-_, _≤_, _<_}
 use native.Mathlib.Omega.{arith}
 use lib.Dec.{leb, ltb, eqb, leb·zero}
 use lib.ListN.{set}
 use borrow.Author.Tests.{lt-ltb, ltb-true, le-leb, leb-true, eq-eqb, ne-eqb, eqb-true, eqb-false, not-true}
 use Rattle.picture.specs.declared.Vertex.{Vertex}
-use Rattle.line.specs.Segment.{larger}
 use Rattle.registers.specs.declared.word.Word.{Word}
 use Rattle.registers.specs.declared.word.Word.the-variants.{Init, Aux, Parm, At, Reserved, Unmodelled, Unknown}
 use Rattle.registers.specs.declared.word.Coordinate.{Coordinate}
@@ -296,11 +295,11 @@ vertices f h =
     let q = chain-all (leb (f .shape) 3) (leb (f .pair) 1 ∷ vertexFits (f .first) ∷ vertexFits (f .second) ∷ leb (f .steps) 31 ∷ leb (f .dashed) 1 ∷ []) h in
     (q .1 .1 .0, q .1 .1 .1 .0)
 
--- a line after a segment
+-- a line after a segment: its steps are counted modulo 32
 advanced-fits : (dashed : Bool) (f : Figure) (v : Vertex) → vertexFits v ≡ true → figureFits (advanced dashed f v) ≡ true
 unfolding figureFits
 advanced-fits dashed f v h =
-    let low : (f .steps + larger (f .first) v) % 32 ≤ 31 = omega arith in
+    let low : advanced dashed f v .steps ≤ 31 = omega arith in
     and-both (and-both (and-both (and-both (and-both refl refl) h) no-vertex) (le-leb _ _ low)) (chosen (λ (n : ℕ). leb n 1 ≡ true) dashed 1 0 (λ t. refl) (λ t. refl))
 
 grown-fits : (shape : Shape) (end dashed : Bool) (f : Figure) (v : Vertex) → figureFits f ≡ true → vertexFits v ≡ true → figureFits (grownOf shape end dashed f v) ≡ true
