@@ -205,6 +205,16 @@ static void section(void) {
     for (unsigned k = 0; k < sizeof words / sizeof *words; k++) throw(words[k].command, words[k].data);
 }
 
+// Throws a line of some visible segments in the lowest rows.
+static void contour(void) {
+    const struct word words[] = {{15, 0}, {14, 4}, {13, 6}, {8, (uint16_t)below(256)}, {14, 12}, {13, 0}};
+    for (unsigned k = 0; k < sizeof words / sizeof *words; k++) throw(words[k].command, words[k].data);
+    for (unsigned k = below(8); k != 0; k--) {
+        throw(3, (uint16_t)below(8));
+        throw(11, (uint16_t)below(256));
+    }
+}
+
 // Some words at one pair of memories: from reset and mostly fair, or each at a record of its own that may be anything.
 static void scene(int wild) {
     struct dextolumen_registers start = wild ? held.record : dextolumen_reset();
@@ -216,7 +226,7 @@ static void scene(int wild) {
     fill(&im, length);
     fill(&zm, below(16) == 0 ? any_length() : length);
     held.record = start;
-    if (!wild && below(2)) section();
+    if (!wild) (below(2) ? section : contour)();
     for (unsigned k = 0; k < SCENE && thrown < WORDS; k++) {
         struct word w = wild && below(2) ? any_word() : fair_word(&held.record);
         if (wild) {
