@@ -1,8 +1,9 @@
 // Throws bits at the card: random words on records and memories of every kind, with guard places around each memory and around the record.
 // Whatever comes, a refused word leaves record and memories as they were and counts nothing; an accepted word changes no place outside
 // the rows in use, no more places than it says, and leaves a record that a further INIT accepts; a triangle that the section cuts passes
-// no pixel; no guard ever changes. Streams of such words, some of them damaged, end alike in one call and word by word. Stops at the first
-// fault with status 1.
+// no pixel; a segment advances the line by its steps and passes no more pixels than it has, its first point with them if it has that;
+// no guard ever changes. Streams of such words, some of them damaged, end alike in one call and word by word. Stops at the first fault with
+// status 1.
 // usage: storm
 #include "chance.h"
 #include "feed.h"
@@ -61,7 +62,7 @@ static uint64_t changed(const struct memory *a, const struct memory *b) {
 
 // ---- one word
 
-static uint64_t thrown, told_by[14], cut, uncut;
+static uint64_t thrown, told_by[14], cut, uncut, bends;
 
 _Noreturn static void fault(const char *what, uint8_t command, uint16_t data) {
     printf("storm: word %lu (command %u, data %u): %s\n", (unsigned long)thrown, command, data, what);
@@ -77,6 +78,19 @@ static int kept_outside(const struct memory *m, const struct memory *was, size_t
 // Whether a word that is accepted completes a constant triangle while sectioning is on.
 static int is_sectioned(const struct dextolumen_registers *r, uint8_t command) {
     return command == 4 && r->figure.shape != 3 && r->figure.pair == 1 && r->modes.pmode == 1 && (r->modes.zcontrol & 0x20) != 0;
+}
+
+static unsigned apart(unsigned a, unsigned b) { return a > b ? a - b : b - a; }
+
+// What is wrong with a segment to column x that passed so many pixels, or nothing: `was` is the record before it.
+static const char *segment_fault(const struct dextolumen_registers *was, uint16_t x, uint64_t passed) {
+    const struct dextolumen_figure *f = &was->figure;
+    unsigned dx = apart(x, f->first.x), dy = apart(was->latch.y, f->first.y), n = dx > dy ? dx : dy;
+    int invisible = (was->modes.lstatus & 0x20) != 0, ended = (was->modes.lstatus & 0x10) != 0, joined = f->dashed == 1 && was->modes.lmode != 2;
+    bends += joined && passed == n && n != 0; // all of it but the bend
+    if (passed > (invisible ? 0 : n + !joined)) return "a segment passed more pixels than it has";
+    if (held.record.figure.steps != (ended ? 0 : (f->steps + n) % 32)) return "a line went on by other steps than its segment's";
+    return 0;
 }
 
 static void throw(uint8_t command, uint16_t data) {
@@ -108,6 +122,10 @@ static void throw(uint8_t command, uint16_t data) {
             cut++;
             if (told.passed != 0) fault("pixels of a cut triangle passed", command, data);
         }
+    }
+    if ((command == 4 || command == 11) && held_was.record.figure.shape == 3) {
+        const char *what = segment_fault(&held_was.record, data, told.passed);
+        if (what) fault(what, command, data);
     }
     struct dextolumen_registers next = held.record;
     struct dextolumen_told again = dextolumen_step(&next, 15, 0, lent(&im), im.length, lent(&zm), zm.length);
@@ -175,6 +193,16 @@ static void section(void) {
     for (unsigned k = 0; k < sizeof words / sizeof *words; k++) throw(words[k].command, words[k].data);
 }
 
+// Throws a line of some visible segments in the lowest rows.
+static void contour(void) {
+    const struct word words[] = {{15, 0}, {14, 4}, {13, 6}, {8, (uint16_t)below(256)}, {14, 12}, {13, 0}};
+    for (unsigned k = 0; k < sizeof words / sizeof *words; k++) throw(words[k].command, words[k].data);
+    for (unsigned k = below(8); k != 0; k--) {
+        throw(3, (uint16_t)below(8));
+        throw(11, (uint16_t)below(256));
+    }
+}
+
 // Some words at one pair of memories: from reset and mostly fair, or each at a record of its own that may be anything.
 static void scene(int wild) {
     struct dextolumen_registers start = wild ? held.record : dextolumen_reset();
@@ -186,7 +214,7 @@ static void scene(int wild) {
     fill(&im, length);
     fill(&zm, below(16) == 0 ? any_length() : length);
     held.record = start;
-    if (!wild && below(2)) section();
+    if (!wild) (below(2) ? section : contour)();
     for (unsigned k = 0; k < SCENE && thrown < WORDS; k++) {
         struct word w = wild && below(2) ? any_word() : fair_word(&held.record);
         if (wild) {
@@ -252,8 +280,9 @@ int main(void) {
             printf("storm: no word got %u\n", number);
             return 1;
         }
-    printf("storm: %lu triangles cut, %lu drawn before the section\n", (unsigned long)cut, (unsigned long)uncut);
-    if (cut == 0 || uncut == 0) return 1;
+    printf("storm: %lu triangles cut, %lu drawn before the section; %lu segments whole but for the bend\n", (unsigned long)cut, (unsigned long)uncut,
+        (unsigned long)bends);
+    if (cut == 0 || uncut == 0 || bends == 0) return 1;
     uint64_t stopped = 0;
     for (unsigned k = 0; k < STREAMS; k++)
         if (!stream_alike(&stopped)) {

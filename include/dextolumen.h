@@ -7,7 +7,7 @@
  *     where the length is 0; nothing is read or written through it then.
  *   - The I memory, the Z memory, the record, the stream, pictures, lists and every other lent output do not overlap, and nothing else writes to them
  *     during a call.
- *   - A record comes from dextolumen_reset and the calls after it, so that nobody fills one in by hand. Any 76 bytes are a record
+ *   - A record comes from dextolumen_reset and the calls after it, so that nobody fills one in by hand. Any 80 bytes are a record
  *     all the same: one that breaks a bound is refused with DEXTOLUMEN_BAD_RECORD and left as it is. docs/REGISTERS.md has the bounds.
  */
 #ifndef DEXTOLUMEN_H
@@ -71,10 +71,12 @@ struct dextolumen_latch {
     uint16_t i, z, y;
 };
 
-/* The open figure: 0 none, 1 a strip, 2 a fan, 3 a line; whether two vertices are kept, and they. */
+/* The open figure: 0 none, 1 a strip, 2 a fan, 3 a line; whether two vertices are kept, and they; of a line, its steps since LX modulo 32, and
+   whether its last segment was visible and of mode 0 or 1. */
 struct dextolumen_figure {
     uint16_t shape, pair;
     struct dextolumen_vertex first, second;
+    uint16_t steps, dashed;
 };
 
 /* The AUX number whose parameters are awaited, 13 for none; how many have come, and those. */
@@ -169,7 +171,7 @@ uint64_t dextolumen_copy_squares(const uint32_t *squares, size_t count, const ui
 #define DEXTOLUMEN_SIZE(type, size, align) _Static_assert(sizeof(struct type) == (size) && _Alignof(struct type) == (align), #type)
 #define DEXTOLUMEN_AT(type, field, offset) _Static_assert(offsetof(struct type, field) == (offset), #type "." #field)
 
-DEXTOLUMEN_SIZE(dextolumen_registers, 76, 2);
+DEXTOLUMEN_SIZE(dextolumen_registers, 80, 2);
 DEXTOLUMEN_AT(dextolumen_registers, started, 0);
 DEXTOLUMEN_AT(dextolumen_registers, frame.line, 2);
 DEXTOLUMEN_AT(dextolumen_registers, modes.pmode, 4);
@@ -195,9 +197,11 @@ DEXTOLUMEN_AT(dextolumen_registers, figure.shape, 42);
 DEXTOLUMEN_AT(dextolumen_registers, figure.pair, 44);
 DEXTOLUMEN_AT(dextolumen_registers, figure.first, 46);
 DEXTOLUMEN_AT(dextolumen_registers, figure.second, 54);
-DEXTOLUMEN_AT(dextolumen_registers, parked.subcommand, 62);
-DEXTOLUMEN_AT(dextolumen_registers, parked.came, 64);
-DEXTOLUMEN_AT(dextolumen_registers, parked.values, 66);
+DEXTOLUMEN_AT(dextolumen_registers, figure.steps, 62);
+DEXTOLUMEN_AT(dextolumen_registers, figure.dashed, 64);
+DEXTOLUMEN_AT(dextolumen_registers, parked.subcommand, 66);
+DEXTOLUMEN_AT(dextolumen_registers, parked.came, 68);
+DEXTOLUMEN_AT(dextolumen_registers, parked.values, 70);
 DEXTOLUMEN_SIZE(dextolumen_vertex, 8, 2);
 DEXTOLUMEN_AT(dextolumen_vertex, x, 0);
 DEXTOLUMEN_AT(dextolumen_vertex, y, 2);

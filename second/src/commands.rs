@@ -1,7 +1,7 @@
 //! What each word does: the refusals, then the effect on the registers.
 
-use crate::figures::Figure;
-use crate::registers::{bit, init_line_length, Awaiting, Open, Registers, Vertex, Window};
+use crate::figures::{last_step, Figure};
+use crate::registers::{bit, init_line_length, Awaiting, Line, Made, Open, Registers, Vertex, Window};
 use crate::stream::Word;
 
 pub const I: i64 = 0x1;
@@ -162,7 +162,7 @@ fn accept(mut registers: Registers, word: Word) -> Accepted {
 
 /// LX opens a line and sets INV 0 (document 02, [5]), END 0.
 fn open_line(registers: &mut Registers, x: i64) {
-    registers.open = Open::Line(registers.vertex(x));
+    registers.open = Open::Line(Line { end: registers.vertex(x), made: Vec::new() });
     registers.invisible = false;
     registers.end = false;
 }
@@ -221,13 +221,18 @@ fn take_vertex(registers: &mut Registers, x: i64) -> Option<Figure> {
             vertices.push(vertex);
             fan_corners(vertices).map(|corners| Figure::Triangle { corners, shading })
         }
-        Open::Line(earlier) => {
-            let segment = Figure::Segment { from: *earlier, to: vertex, mode: registers.line_mode };
+        Open::Line(line) => {
+            let (from, mode, visible) = (line.end, registers.line_mode, !registers.invisible);
+            let segment = Figure::Segment { from, to: vertex, mode, before: line.made.clone() };
             // An invisible segment moves on and closes on END all the same;
             // INV and END stay as they are (READINGS.md, "Figures" and
             // "Registers").
-            registers.open = if registers.end { Open::Nothing } else { Open::Line(vertex) };
-            if registers.invisible { None } else { Some(segment) }
+            line.made.push(Made { steps: last_step(from, vertex), mode, visible });
+            line.end = vertex;
+            if registers.end {
+                registers.open = Open::Nothing;
+            }
+            if visible { Some(segment) } else { None }
         }
     }
 }

@@ -34,6 +34,7 @@ pub fn edges() -> Vec<Edge> {
     edges.extend(patterns());
     edges.extend(by_text(&TRIANGLES, BEGIN));
     edges.extend(by_text(&LINES, BEGIN));
+    edges.extend(by_text(&DASHES, BEGIN));
     edges.extend(by_text(&DEPTHS, &format!("{}{}", BEGIN, TEST)));
     edges.extend(by_text(&SECTIONS, &format!("{}{}", BEGIN, SECTION)));
     edges.extend(by_text(&ORDERS, BEGIN));
@@ -264,10 +265,10 @@ const LINES: [(&str, &str); 21] = [
     ("line-mode-1-point-clear", "E0009 D7FFF DFFFF 80002 E000C D0010 B0002"),
     ("line-pattern-mode-0", "E0001 D0000 E0008 D0003 D0004 E0009 D8001 D0001 80000 E000C D0010 30005 B0064"),
     ("line-pattern-mode-1", "E0008 D0003 D0004 E0009 D8001 D0001 80000 E000C D0010 30005 B0064"),
-    ("line-pattern-begins-again", "E0009 D8000 D0000 80000 E000C D0000 B0005 B000A B000F"),
+    ("line-pattern-runs-on", "E0009 D8000 D0000 80000 E000C D0000 B0005 B000A B000F"),
     ("line-pattern-past-32", "E0009 DF0F0 D0001 80000 E000C D0000 B0064"),
     ("line-background-0", "80000 E000C D0000 B0008 E0001 D0000 E0008 D0007 D0000 E0009 DAAAA DAAAA 80000 E000C D0000 B0008"),
-    ("line-joint-twice", "80000 E000C D0000 B0008 30008 B0008 30000 B0000"),
+    ("line-joint-once", "80000 E000C D0000 B0008 30008 B0008 30000 B0000"),
     ("line-modes-0-and-1-keep-depth", "E0003 D0040 20005 80000 E000C D0000 B0008 E0001 D0000 B0000"),
     ("line-mode-2-depth-without-test", "E0001 D0002 20005 10003 80000 E000C D0000 20009 40008 20001 40000"),
     ("line-across-all", "10005 E0001 D0002 80000 E000C D0000 31FFF 41FFF 30000 41FFF 31FFF 40000"),
@@ -275,6 +276,28 @@ const LINES: [(&str, &str); 21] = [
     ("line-px-vertex-keeps-numbers", "10003 20003 80000 E000C D0000 10007 20007 B0008 E0001 D0002 10003 20003 30009 40008"),
     ("line-mode-2-ignores-pattern", "E0001 D0002 E0009 D0000 D0000 E0005 D0000 10004 80000 E000C D0010 40008"),
     ("line-planes", "E000A D000C E0008 DFFFF D0003 E0001 D0000 E0009 DAAAA D5555 80000 E000C D0010 B0040"),
+];
+
+/// Lines of several segments, after BEGIN: how the pattern runs on.
+const DASHES: [(&str, &str); 18] = [
+    ("dashes-mode-1-through-bends", "E0009 DF0CC DAAAA 80000 E000C D0000 B0005 30003 B0007 30009 B0009 B0020"),
+    ("dashes-mode-0-through-bends", "E0001 D0000 E0008 D0003 D0004 E0009 DF0CC DAAAA 80000 E000C D0000 B0005 30003 B0007 30009 B0009 B0020"),
+    ("dashes-past-32-steps", "E0009 D8000 D0001 80000 E000C D0000 B0021 B0042 B0046 30020 B0046"),
+    ("dashes-modes-0-and-1-joined", "E0008 D0003 D0004 E0009 DAAAA DAAAA 80000 E000C D0000 B0004 E0001 D0000 B0008 E0001 D0001 B000C"),
+    ("dashes-invisible-advances", "E0009 DF000 D0000 80000 E000C D0020 B0002 E000C D0000 B0009"),
+    ("dashes-mode-2-advances", "E0009 DF000 D0000 80000 E000C D0000 E0001 D0002 40002 E0001 D0001 B0009"),
+    ("dashes-invisible-mode-2-advances", "E0009 DF000 D0000 80000 E000C D0020 E0001 D0002 40002 E0001 D0001 E000C D0000 B0009"),
+    ("dashes-after-invisible-have-first-point", "80000 E000C D0000 B0004 E000C D0020 30004 B0004 E000C D0000 30008 B0004"),
+    ("dashes-after-mode-2-have-first-point", "80000 E000C D0000 E0001 D0002 10007 40004 E0001 D0001 B0008"),
+    ("dashes-then-mode-2-has-first-point", "80000 E000C D0000 B0004 E0001 D0002 10007 40008"),
+    ("dashes-no-length-joined-offers-nothing", "E0001 D0000 E0008 D0003 D0004 80000 E000C D0000 B0004 E0008 D0005 D0006 B0004"),
+    ("dashes-no-length-still-joins", "80000 E000C D0000 B0004 B0004 B0008"),
+    ("dashes-no-length-first", "E0009 D8000 D0000 80004 E000C D0000 B0004 B0008"),
+    ("dashes-no-length-after-invisible", "E0009 D1000 D0000 80000 E000C D0020 B0003 E000C D0000 B0003"),
+    ("dashes-bend-not-offered-is-left-out", "E0009 D0000 D0000 80000 E000C D0000 B0004 E0009 DFFFF DFFFF B0008"),
+    ("dashes-other-pattern-inside", "E0009 DF000 D0000 80000 E000C D0000 B0002 E0009 D1FFF D0000 B0020"),
+    ("dashes-line-begins-again", "E0009 DF000 D0000 80000 E000C D0000 B0006 30002 80000 E000C D0000 B0009"),
+    ("dashes-end-then-line-begins-again", "E0009 DF000 D0000 80000 E000C D0010 B0006 30002 80000 E000C D0000 B0009"),
 ];
 
 /// Depth cases, after BEGIN and TEST.

@@ -217,13 +217,14 @@ fn whole_example() {
     assert_eq!(drawing(&bytes), expected);
 }
 
-/// Both lines of the sheet's example are drawn (document 02, [5]).
+/// Both lines of the sheet's example are drawn (document 02, [5]), each bend
+/// once ([2]).
 #[test]
 fn sheet_lines() {
     let points = [(0, 0), (1, 0), (2, 0), (3, 0), (4, 0), (4, 1), (0, 2), (1, 2), (2, 2), (3, 2), (4, 2)];
     let second = [(0, 4), (4, 4), (1, 5), (3, 5), (2, 6)];
     let places: String = points.iter().chain(&second).map(|(x, y)| format!("{} {} 1 65535\n", x, y)).collect();
-    assert_eq!(drawing(&packed(SHEET_LINES)), format!("words 23 refusal 0 passed 19\n{}", places));
+    assert_eq!(drawing(&packed(SHEET_LINES)), format!("words 23 refusal 0 passed 16\n{}", places));
 }
 
 /// A line starts visible; INIT's INV 1, or that of another line, is gone.
@@ -231,7 +232,7 @@ fn sheet_lines() {
 fn lines_start_visible() {
     let passed = |words: &str| run_words(words).0.passed;
     assert_eq!(passed("F0000 80000 B0004"), 5);
-    assert_eq!(passed("F0000 E000C D0030 80000 B0004 B0008"), 10);
+    assert_eq!(passed("F0000 E000C D0030 80000 B0004 B0008"), 9);
     assert_eq!(passed("F0000 E0001 D0002 80000 40004"), 5);
     assert_eq!(passed("F0000 80000 E000C D0020 B0004 E000C D0000 B0008"), 5);
 }
@@ -261,8 +262,33 @@ fn easy_to_get_wrong() {
     // The pattern moves on at pixels that are not stored.
     let (_, picture) = run_words("F0000 E0004 D0006 E0009 D0F00 D0000 E0006 D0005 D2000 D2000 D0000 D0000 80000 E000C D0000 B0008");
     assert_eq!(picture.i[..9], [0, 0, 0, 0, 0, 1, 1, 1, 0]);
-    // The joint of two segments is offered twice.
-    assert_eq!(passed("F0000 80000 E000C D0000 B0004 B0008"), 10);
+}
+
+/// Document 02, [2]: the pattern runs on through the bends of a line.
+#[test]
+fn dashes() {
+    let row = |words: &str| {
+        let (_, picture) = run_words(&format!("F0000 E0004 D0006 E0009 DF000 D0000 80000 E000C D0000 {}", words));
+        picture.i[..10].to_vec()
+    };
+    // bits 31 to 28 are set: steps 0 to 3 since LX
+    assert_eq!(row("B0002 B0009"), [1, 1, 1, 1, 0, 0, 0, 0, 0, 0]);
+    // an invisible segment advances, and so does one of mode 2
+    assert_eq!(row("E000C D0020 B0002 E000C D0000 B0009"), [0, 0, 1, 1, 0, 0, 0, 0, 0, 0]);
+    assert_eq!(row("E0001 D0002 40002 E0001 D0001 B0009"), [0, 0, 1, 1, 0, 0, 0, 0, 0, 0]);
+    // another pattern inside a line: the position goes on
+    assert_eq!(row("B0002 E0009 D1FFF DFFFF B0009"), [1; 10]);
+    // a bend is counted once
+    let passed = |words: &str| run_words(words).0.passed;
+    assert_eq!(passed("F0000 80000 E000C D0000 B0004 B0008"), 9);
+    // after a segment of no length too, which offers nothing itself
+    assert_eq!(passed("F0000 80000 E000C D0000 B0004 B0004 B0008"), 9);
+    // and after one that is visible but offers nothing
+    assert_eq!(passed("F0000 E0009 D0000 D0000 80000 E000C D0000 B0004 E0009 DFFFF DFFFF B0008"), 4);
+    // but not after an invisible segment or one of mode 2
+    assert_eq!(passed("F0000 80000 E000C D0020 B0004 E000C D0000 B0008"), 5);
+    assert_eq!(passed("F0000 E0001 D0002 80000 E000C D0000 40004 E0001 D0001 B0008"), 10);
+    assert_eq!(passed("F0000 80000 E000C D0000 B0004 E0001 D0002 40008"), 10);
 }
 
 #[test]

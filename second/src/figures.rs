@@ -1,14 +1,15 @@
 //! The figures, each as a question that is put to one pixel: does the
 //! figure hold it, and with which numbers?
 
-use crate::registers::{bit, Registers, Vertex, CONSTANT};
+use crate::registers::{bit, Made, Registers, Vertex, CONSTANT};
 
 /// A completed figure, with the mode of the moment it was completed.
 #[derive(Clone, Debug, PartialEq, Eq)]
 pub enum Figure {
     /// The corners in the order they came; the last is the completing one.
     Triangle { corners: [Vertex; 3], shading: i64 },
-    Segment { from: Vertex, to: Vertex, mode: i64 },
+    /// `before` has the segments that the line has made since LX.
+    Segment { from: Vertex, to: Vertex, mode: i64, before: Vec<Made> },
 }
 
 /// The numbers that a figure has at a pixel. Lines of modes 0 and 1 have no
@@ -50,8 +51,11 @@ impl Figure {
     pub fn at(&self, registers: &Registers, x: i64, y: i64) -> Option<Numbers> {
         match self {
             Figure::Triangle { corners, shading } => triangle_at(corners, *shading, x, y),
-            Figure::Segment { from, to, mode: 2 } => deep_segment_at(*from, *to, x, y),
-            Figure::Segment { from, to, mode } => flat_segment_at(*from, *to, *mode, registers, x, y),
+            Figure::Segment { from, to, mode: 2, .. } => deep_segment_at(*from, *to, x, y),
+            Figure::Segment { from, to, mode, before } => {
+                let k = step_at(*from, *to, x, y).filter(|k| *k > 0 || !follows_dashes(before))?;
+                dash_at(since_lx(before) + k, *mode, registers)
+            }
         }
     }
 }
@@ -107,7 +111,7 @@ fn shaded(numbers: [i64; 3], weights: [i64; 3], doubled: i64) -> i64 {
 }
 
 /// The larger of the two distances: the last step of a segment.
-fn last_step(from: Vertex, to: Vertex) -> i64 {
+pub fn last_step(from: Vertex, to: Vertex) -> i64 {
     (to.x - from.x).abs().max((to.y - from.y).abs())
 }
 
@@ -149,12 +153,23 @@ pub fn between(first: i64, second: i64, k: i64, n: i64) -> i64 {
     }
 }
 
-/// Modes 0 and 1: foreground where the pattern bit is set; where it is
-/// clear, background in mode 0 and nothing in mode 1.
-fn flat_segment_at(from: Vertex, to: Vertex, mode: i64, registers: &Registers, x: i64, y: i64) -> Option<Numbers> {
-    let k = step_at(from, to, x, y)?;
-    // n = 0 uses bit 31 as well (READINGS.md, "Figures").
-    let set = bit(registers.line_pattern, 31 - k % 32);
+/// The steps of all segments that a line has made, whatever their modes and
+/// visible or not (document 02, [2]).
+pub fn since_lx(made: &[Made]) -> i64 {
+    made.iter().map(|segment| segment.steps).sum()
+}
+
+/// Whether the last segment that a line has made was visible and of mode 0
+/// or 1: then one of mode 0 or 1 after it leaves out its first point
+/// (document 02, [2]), also if it was of no length (READINGS.md, [2]).
+pub fn follows_dashes(made: &[Made]) -> bool {
+    matches!(made.last(), Some(Made { mode: 0 | 1, visible: true, .. }))
+}
+
+/// Modes 0 and 1, so many steps after LX: foreground where the pattern bit
+/// is set; where it is clear, background in mode 0 and nothing in mode 1.
+fn dash_at(steps: i64, mode: i64, registers: &Registers) -> Option<Numbers> {
+    let set = bit(registers.line_pattern, 31 - steps % 32);
     match (set, mode) {
         (true, _) => Some(Numbers { i: registers.foreground, z: None }),
         (false, 0) => Some(Numbers { i: registers.background, z: None }),

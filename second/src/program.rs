@@ -3,7 +3,7 @@
 
 use crate::commands::*;
 use crate::random::Random;
-use crate::registers::{Open, Registers};
+use crate::registers::{Line, Open, Registers};
 use crate::stream::{pack_words, Word};
 
 /// The most words a stream of the drawing program can hold.
@@ -369,10 +369,43 @@ impl Program {
         }
     }
 
+    /// A line through several bends: modes mixed, some segments invisible
+    /// and some of no length, and now and then another pattern.
+    fn bending_line(&mut self) {
+        self.line_pattern_setting();
+        self.open(LX);
+        let mostly = self.random.pick(&[0, 1, 1, 2]);
+        self.subcommand(LMODE, &[mostly]);
+        self.subcommand(LSTATUS, &[0]);
+        for _ in 0..self.random.from_to(2, 9) {
+            match self.random.below(8) {
+                0 => self.line_mode_setting(),
+                1 => self.subcommand(LSTATUS, &[0x20]),
+                2 | 3 => self.subcommand(LSTATUS, &[0]),
+                4 => self.line_pattern_setting(),
+                _ => {}
+            }
+            if self.random.once_in(5) {
+                self.same_point();
+            } else {
+                self.add_point();
+            }
+        }
+    }
+
     /// An invisible segment, by INV 1.
     fn hop(&mut self) {
         self.subcommand(LSTATUS, &[INVISIBLE]);
         self.add_point();
+    }
+
+    /// The point where the open line stands, once more.
+    fn same_point(&mut self) {
+        if let Open::Line(Line { end, .. }) = self.registers.open {
+            self.push(Y, end.y);
+            let command = if self.registers.line_mode == 2 { X } else { PX };
+            self.push(command, end.x);
+        }
     }
 
     fn now_and_then_a_setting(&mut self) {
@@ -419,7 +452,8 @@ impl Program {
             4..=17 => self.setting(),
             18..=31 => self.triangles(T1X),
             32..=43 => self.triangles(T2X),
-            44..=57 => self.polyline(),
+            44..=51 => self.polyline(),
+            52..=57 => self.bending_line(),
             _ => self.quiet_piece(),
         }
     }

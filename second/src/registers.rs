@@ -19,13 +19,28 @@ pub struct Window {
     pub bottom: i64,
 }
 
+/// A segment that a line has made, of so many steps.
+#[derive(Clone, Copy, Debug, PartialEq, Eq)]
+pub struct Made {
+    pub steps: i64,
+    pub mode: i64,
+    pub visible: bool,
+}
+
+/// An open line: where it stands, and all segments it has made since LX.
+#[derive(Clone, Debug, PartialEq, Eq)]
+pub struct Line {
+    pub end: Vertex,
+    pub made: Vec<Made>,
+}
+
 /// The figure that is open, with the vertices that came so far.
 #[derive(Clone, Debug, PartialEq, Eq)]
 pub enum Open {
     Nothing,
     Strip(Vec<Vertex>),
     Fan(Vec<Vertex>),
-    Line(Vertex),
+    Line(Line),
 }
 
 /// A subcommand that awaits parameters, with those that came so far.

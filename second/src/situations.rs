@@ -2,20 +2,27 @@
 //! generator never made would be compared with nothing.
 
 use crate::commands::step;
-use crate::figures::Figure;
-use crate::registers::{Registers, CONSTANT};
+use crate::figures::{follows_dashes, since_lx, Figure};
+use crate::registers::{Made, Registers, CONSTANT};
 use crate::stream::unpack;
 
 /// A question about a figure and the registers that it is drawn under.
 type Question = fn(&Registers, &Figure) -> bool;
 
-const SITUATIONS: [(&str, Question); 6] = [
+const SITUATIONS: [(&str, Question); 13] = [
     ("constant triangle cut, depth test on", |r, f| r.depth_test && past(r, f) && is_constant(f)),
     ("constant triangle cut, depth test off", |r, f| !r.depth_test && past(r, f) && is_constant(f)),
     ("constant triangle at the section depth", |r, f| r.sectioning && depth(f) == Some(r.section) && is_constant(f)),
     ("constant triangle nearer than the section", |r, f| r.sectioning && depth(f) < Some(r.section) && is_constant(f)),
     ("constant triangle past a section that is off", |r, f| !r.sectioning && depth(f) > Some(r.section) && is_constant(f)),
     ("Gouraud triangle past the section", |r, f| past(r, f) && !is_constant(f)),
+    ("dashes joined to dashes, inside the pattern", |_, f| flat(f).is_some_and(|made| follows_dashes(made) && inside(made))),
+    ("dashes after an invisible segment", |_, f| flat(f).is_some_and(|made| inside(made) && hides(made.last()))),
+    ("dashes after a segment of mode 2", |_, f| flat(f).is_some_and(|made| inside(made) && deep(made.last()))),
+    ("dashes after dashes of no length", |_, f| flat(f).is_some_and(|made| follows_dashes(made) && still(made.last()))),
+    ("dashes of no length joined to dashes", |_, f| is_still(f) && flat(f).is_some_and(follows_dashes)),
+    ("dashes of no length that offer their point", |_, f| is_still(f) && flat(f).is_some_and(|made| inside(made) && !follows_dashes(made))),
+    ("mode 2 after dashes", |_, f| matches!(f, Figure::Segment { mode: 2, before, .. } if follows_dashes(before))),
 ];
 
 /// The depth of a triangle's completing vertex.
@@ -32,6 +39,36 @@ fn is_constant(figure: &Figure) -> bool {
 
 fn past(registers: &Registers, figure: &Figure) -> bool {
     registers.sectioning && depth(figure) > Some(registers.section)
+}
+
+/// Of a segment of mode 0 or 1, those that its line has made before it.
+fn flat(figure: &Figure) -> Option<&[Made]> {
+    match figure {
+        Figure::Segment { mode: 0 | 1, before, .. } => Some(before),
+        _ => None,
+    }
+}
+
+/// The next segment does not begin at bit 31.
+fn inside(made: &[Made]) -> bool {
+    since_lx(made) % 32 != 0
+}
+
+fn hides(last: Option<&Made>) -> bool {
+    matches!(last, Some(Made { visible: false, .. }))
+}
+
+fn deep(last: Option<&Made>) -> bool {
+    matches!(last, Some(Made { visible: true, mode: 2, .. }))
+}
+
+fn still(last: Option<&Made>) -> bool {
+    matches!(last, Some(Made { steps: 0, .. }))
+}
+
+/// A segment of no length.
+fn is_still(figure: &Figure) -> bool {
+    matches!(figure, Figure::Segment { from, to, .. } if (from.x, from.y) == (to.x, to.y))
 }
 
 /// How many figures met each situation.

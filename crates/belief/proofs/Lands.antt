@@ -54,7 +54,7 @@ triangle-deep false = refl
 
 -- a style in which nothing but the line mode is told
 abbrev shaded : Style
-shaded = record { mode = Two; pattern = 0; foreground = 0; background = 0 }
+shaded = record { mode = Two; pattern = 0; foreground = 0; background = 0; steps = 0; joined = false }
 
 -- in line mode 2 a segment's offers are the same in every style
 segment-shaded : (pen : Pen) (rows : ℕ) (r : Registers) (a b : Vertex) → r .modes .lmode ≡ 2

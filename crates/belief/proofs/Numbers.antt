@@ -97,12 +97,12 @@ effect-latch r Lpattern l = refl
 effect-latch r Mask l = refl
 effect-latch r Lstatus l = refl
 
-grown-kept : (shape : Shape) (end : Bool) (f : Figure) (v : Vertex) → Kept f → Numbers 65535 v → Kept (grownOf shape end f v)
+grown-kept : (shape : Shape) (end dashed : Bool) (f : Figure) (v : Vertex) → Kept f → Numbers 65535 v → Kept (grownOf shape end dashed f v)
 unfolding grownOf
-grown-kept Closed end f v k n = k
-grown-kept Strip end f v k n = chosen Kept (isPair f) _ _ (λ t. record { first = k .second; second = n }) (λ t. record { first = k .first; second = n })
-grown-kept Fan end f v k n = record { first = k .first; second = n }
-grown-kept Line end f v k n = chosen Kept end _ _ (λ t. record { first = no-numbers; second = no-numbers }) (λ t. record { first = n; second = no-numbers })
+grown-kept Closed end dashed f v k n = k
+grown-kept Strip end dashed f v k n = chosen Kept (isPair f) _ _ (λ t. record { first = k .second; second = n }) (λ t. record { first = k .first; second = n })
+grown-kept Fan end dashed f v k n = record { first = k .first; second = n }
+grown-kept Line end dashed f v k n = chosen Kept end _ _ (λ t. record { first = no-numbers; second = no-numbers }) (λ t. record { first = n; second = no-numbers })
 
 module _ (r : Registers) (s : Small r) where
   -- a vertex takes the registers' numbers
@@ -110,7 +110,7 @@ module _ (r : Registers) (s : Small r) where
   vertex-numbers x = record { i = s .i; z = s .z }
 
   grown-small : (x : ℕ) → Kept (figureAfter r x)
-  grown-small x = grown-kept (shapeOf (r .figure .shape)) _ (r .figure) (vertexOf r x) (s .figure) (vertex-numbers x)
+  grown-small x = grown-kept (shapeOf (r .figure .shape)) _ _ (r .figure) (vertexOf r x) (s .figure) (vertex-numbers x)
 
   coordinate-small : (c : Coordinate) (n : ℕ) → n ≤ 65535 → Small (coordinateOf r c n)
   unfolding coordinateOf

@@ -1,7 +1,7 @@
 -- What the entries of the benchmark draw with, and how they tell what a codec's call came to.
 use Prim.Native.Nat.{ℕ}
 use mathlib.Core.Path.{_≡_}
-use mathlib.Core.Bool.{true, cond}
+use mathlib.Core.Bool.{true, false, cond}
 use mathlib.Core.List.{List}
 use lib.Dec.{eqb}
 use Rattle.picture.specs.declared.Pen.{Pen}
@@ -35,7 +35,7 @@ unfoldable pub modeOf : ℕ → Mode
 modeOf n = cond (eqb n 0) Zero (cond (eqb n 1) One Two)
 
 abbrev pub styleOf : ℕ → ℕ → ℕ → ℕ → Style
-styleOf mode pattern foreground background = record { mode = modeOf mode; pattern = pattern; foreground = foreground; background = background }
+styleOf mode pattern foreground background = record { mode = modeOf mode; pattern = pattern; foreground = foreground; background = background; steps = 0; joined = false }
 
 -- the length that a call on packed streams tells, and what it leaves
 pub record Wrote (outcome : Outcome) (told : ℕ) (left : List ℕ) : Type 0 where

@@ -128,6 +128,8 @@ pub extern "C" fn dextolumen_bench_segment(
         pattern,
         foreground,
         background,
+        steps: 0,
+        joined: false,
     };
     line::segment(pen_of(line), style, a, b, im, zm)
 }

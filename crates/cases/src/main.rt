@@ -166,10 +166,10 @@ fn starts() {
     passed(
         b"pixels of the sheet's 2-D example, first line to point 4",
         &sheet[0..17],
-        5,
+        4,
     );
     passed(b"second line to point 2", &sheet[0..21], 3);
-    passed(b"second line to point 3", &sheet[0..23], 3);
+    passed(b"second line to point 3", &sheet[0..23], 2);
     passed(
         b"pixels of a line's first segment, INV 1 after LX",
         &[0xF0000, 0x80000, 0xE000C, 0xD0020, 0xB0004],

@@ -4,4 +4,5 @@ pub mod Streams
 pub mod Demands
 pub mod Laws
 pub mod Section
+pub mod Dashes
 pub mod Settled

@@ -1,9 +1,7 @@
 -- What SECTION changes of a word: where no figure is cut the offers are those of before, and a cut triangle offers nothing. Assumes nothing.
 use mathlib.Core.Path.{_≡_, refl}
 use mathlib.Core.Bool.{Bool, true, false, _&&_}
-use mathlib.Core.List.{[]}
 use Prim.Native.Nat.{ℕ, _≤_}
-use native.Mathlib.Omega.{arith}
 use lib.Dec.{ltb}
 use borrow.Author.Tests.{le-ltb}
 use Rattle.picture.specs.declared.Vertex.{Vertex}
@@ -19,9 +17,9 @@ use Rattle.registers.specs.Record.{isOn, sectionBit, invBit}
 use Rattle.registers.specs.Figure.{shapeOf, vertexOf, isPair, completes}
 use Rattle.registers.specs.Next.{completedBy, penOf}
 use Rattle.registers.proofs.Truth.{chosen}
-use Rattle.machine.specs.Machine.{Memories, rowsIn, stepOf}
+use Rattle.machine.specs.Machine.{Memories, stepOf}
 use Rattle.machine.proofs.Steps.{step-accepted, step-refused, step-either}
-use Rattle.chip.specs.Chip.{isConstant, wholeOffers, isCut, figureOffers, chip}
+use Rattle.chip.specs.Chip.{isConstant, isCut, figureOffers, chip}
 use Rattle.chip.specs.Section.{uncut, AsBefore, Sectioned}
 use Rattle.chip.proofs.Laws.{word-completes, line-completes}
 

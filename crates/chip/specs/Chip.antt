@@ -35,6 +35,8 @@ styleOf r =
       pattern = r .dash .high * 65536 + r .dash .low;
       foreground = r .dash .foreground;
       background = r .dash .background;
+      steps = r .figure .steps;
+      joined = eqb (r .figure .dashed) 1;
     }
 
 -- what a completed figure holds to be offered, where so many rows are in use

@@ -1,4 +1,5 @@
 pub mod Chip
 pub mod Section
+pub mod Dashes
 pub mod Stream
 pub mod Demands

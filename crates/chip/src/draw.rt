@@ -38,11 +38,14 @@ fn style_of(r: Registers) -> Style
 {
     let mode = mode_of(r.modes.lmode);
     let pattern = pattern_of(r.dash.high, r.dash.low);
+    let joined = r.figure.dashed == 1;
     Style {
         mode: mode,
         pattern: pattern,
         foreground: r.dash.foreground,
         background: r.dash.background,
+        steps: r.figure.steps,
+        joined: joined,
     }
 }
 

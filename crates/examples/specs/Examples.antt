@@ -72,7 +72,7 @@ bare =
     }
 
 abbrev pub shaded : Style
-shaded = record { mode = Two; pattern = 0; foreground = 0; background = 0 }
+shaded = record { mode = Two; pattern = 0; foreground = 0; background = 0; steps = 0; joined = false }
 
 -- a mode 2 line, and a Gouraud triangle, on a picture of four rows
 abbrev pub lineThere : Vertex → Vertex → List Offer

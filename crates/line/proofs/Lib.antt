@@ -5,4 +5,5 @@ pub mod Steps
 pub mod Insides
 pub mod Courses
 pub mod Walks
+pub mod Polylines
 pub mod Members

@@ -1,9 +1,10 @@
 -- What a segment offers: pixels of its mode's kind that are offered, with numbers no greater than its vertices', one at most for each step. Assumes nothing.
 use mathlib.Core.Path.{refl}
 use mathlib.Core.Bool.{Bool, true, false, cond}
-use mathlib.Core.List.{[], List·Memᴰ, List·Memᴰ·not-nil}
+use mathlib.Core.List.{List, [], List·Memᴰ, List·Memᴰ·not-nil}
 use Prim.Native.Nat.{ℕ, _+_, _≤_, zero-le}
 use native.Mathlib.Omega.{arith}
+use lib.Dec.{ltb}
 use lib.ListN.{length}
 use Rattle.picture.specs.declared.Pen.{Pen}
 use Rattle.picture.specs.declared.Vertex.{Vertex}
@@ -17,7 +18,7 @@ use Rattle.picture.proofs.Members.{Numbers, Member, every-span, every-kept}
 use Rattle.line.specs.declared.Mode.{Mode}
 use Rattle.line.specs.declared.Mode.the-variants.{Zero, One, Two}
 use Rattle.line.specs.declared.Style.{Style}
-use Rattle.line.specs.Segment.{larger, xAt, yAt, isSet, dashOffers, shadeOffers, stepOffers, segmentOffers}
+use Rattle.line.specs.Segment.{larger, xAt, yAt, isSet, firstOf, from, dashOffers, shadeOffers, stepOffers, segmentOffers}
 use Rattle.line.proofs.Rounding.{number-le}
 
 -- the kind of a line's pixels
@@ -25,6 +26,15 @@ abbrev pub kindOf : Mode → Kind
 kindOf Zero = Line0
 kindOf One = Line1
 kindOf Two = Line2
+
+-- the steps from a first one on have what each step has, and what no offers have
+from-has : (P : List Offer → Type 0) (first : ℕ) (f : ℕ → List Offer) (k : ℕ) → P [] → P (f k) → P (from first f k)
+unfolding from
+from-has P first f k p q = go (ltb k first)
+  where
+    go : (t : Bool) → P (cond t [] (f k))
+    go true = p
+    go false = q
 
 module _ (pen : Pen) (rows : ℕ) (style : Style) (a b : Vertex) where
   module _ (n : ℕ) (first : Numbers n a) (second : Numbers n b) (fore : style .foreground ≤ n) (back : style .background ≤ n) where
@@ -57,9 +67,11 @@ module _ (pen : Pen) (rows : ℕ) (style : Style) (a b : Vertex) where
         })
 
     step-member : (m : Mode) (k : ℕ) → k ≤ larger a b → (o : Offer) → List·Memᴰ o (stepOffers pen rows style m a b k) → Member pen rows (kindOf m) n o
-    step-member Zero k h = dash-member Line0 true k
-    step-member One k h = dash-member Line1 false k
-    step-member Two k h = shade-member k h
+    step-member Zero k h o =
+        from-has (λ os. List·Memᴰ o os → Member pen rows Line0 n o) (firstOf (style .joined)) (dashOffers pen rows Line0 true style a b) k (λ u. absurd (List·Memᴰ·not-nil u)) (dash-member Line0 true k o)
+    step-member One k h o =
+        from-has (λ os. List·Memᴰ o os → Member pen rows Line1 n o) (firstOf (style .joined)) (dashOffers pen rows Line1 false style a b) k (λ u. absurd (List·Memᴰ·not-nil u)) (dash-member Line1 false k o)
+    step-member Two k h o = shade-member k h o
 
     -- each offer of a segment
     pub segment-member : (o : Offer) → List·Memᴰ o (segmentOffers pen rows style a b) → Member pen rows (kindOf (style .mode)) n o
@@ -86,8 +98,8 @@ module _ (pen : Pen) (rows : ℕ) (style : Style) (a b : Vertex) where
   shade-length k = keep-length pen rows _
 
   step-length : (m : Mode) (k : ℕ) → length (stepOffers pen rows style m a b k) ≤ 1
-  step-length Zero k = dash-length Line0 true k
-  step-length One k = dash-length Line1 false k
+  step-length Zero k = from-has (λ os. length os ≤ 1) (firstOf (style .joined)) (dashOffers pen rows Line0 true style a b) k zero-le (dash-length Line0 true k)
+  step-length One k = from-has (λ os. length os ≤ 1) (firstOf (style .joined)) (dashOffers pen rows Line1 false style a b) k zero-le (dash-length Line1 false k)
   step-length Two k = shade-length k
 
   -- no more pixels of a segment pass than it has steps

@@ -60,6 +60,12 @@ ramp-next {n} {k} {first} {second} {g} h e =
       steady = λ p. steady-next n k first second g (h .steady p);
     })
 
+-- it grows beyond no word in that step
+pub ramp-ready : {n k first second : ℕ} {g : Ramp} → RampAt n k first second g → k ≤ 65535 → n ≤ 65535 → (2 * n ≤ 131070) × Narrow (2 * n) 65535 g
+ramp-ready h l u =
+    let v = h .narrow in
+    (omega arith, record { whole = omega (arith, v .whole); rest = v .rest; add = v .add; part = v .part })
+
 -- ---- the first step
 
 module _ (n first second : ℕ) (p : 0 < n) where

@@ -2,7 +2,7 @@
 use mathlib.Core.Path.{_≡_, refl, sym, ap, _∙_}
 use mathlib.Core.Bool.{Bool, true, false, cond, _||_, true≢false}
 use mathlib.Core.List.{List, []}
-use Prim.Native.Nat.{ℕ, _%_, _≤_, _<_, zero-le}
+use Prim.Native.Nat.{ℕ, _%_, _≤_, _<_, zero-le, _+_}
 use native.Mathlib.Omega.{arith}
 use Rattle.picture.specs.declared.Pen.{Pen}
 use Rattle.picture.specs.declared.Vertex.{Vertex}
@@ -109,6 +109,12 @@ dash-none pen rows a b k kind ground style set t g = rw (← t) (go _ _ set grou
     go p q true ground h = absurd (true≢false h)
     go p q false true h = absurd (true≢false h)
     go p q false false h = refl
+
+-- ---- the position in the pattern
+
+-- so far modulo 32 it is the same
+pub position-is : (steps k : ℕ) → (steps + k % 32) % 32 ≡ (steps + k) % 32
+position-is steps k = omega arith
 
 -- ---- one pixel at most passes
 

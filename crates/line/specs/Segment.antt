@@ -1,8 +1,9 @@
--- The pixels of a line segment from its earlier point a to its new endpoint b, and what is offered of them (document 01, "Line").
+-- The pixels of a line segment from its earlier point a to its new endpoint b, and what is offered of them (document 01, "Line",
+-- and document 02, [2]).
 use Prim.Native.Nat.{ℕ, _+_, _-_, _*_, _/_, _%_, min, max}
 use mathlib.Core.Bool.{Bool, true, false, cond}
 use mathlib.Core.List.{List, []}
-use lib.Dec.{leb, eqb}
+use lib.Dec.{leb, ltb, eqb}
 use Rattle.picture.specs.declared.Pen.{Pen}
 use Rattle.picture.specs.declared.Vertex.{Vertex}
 use Rattle.picture.specs.declared.Kind.{Kind}
@@ -52,13 +53,21 @@ yAt a b k = towards (a .y) (b .y) (cond (xLeads a b) (sideAt (larger a b) (small
 unfoldable pub numberAt : ℕ → ℕ → ℕ → ℕ → ℕ
 numberAt n k first second = cond (eqb n 0) second ((2 * ((n - k) * first + k * second) + n) / (2 * n))
 
--- the position in the line pattern that step k uses: each segment begins again at bit 31
+-- the bit of the line pattern that the j-th step of a line uses
 abbrev pub patternAt : ℕ → ℕ
-patternAt k = 31 - k % 32
+patternAt j = 31 - j % 32
 
--- the pattern bit of step k is set
-abbrev pub isSet : Style → ℕ → Bool
-isSet style k = hasBit (style .pattern) (patternAt k)
+-- the pattern bit of step k is set: the steps that the line has made before count
+unfoldable pub isSet : Style → ℕ → Bool
+isSet style k = hasBit (style .pattern) (patternAt (style .steps + k))
+
+-- the first step that is drawn of a line with a pattern: a segment that is joined to the one before it leaves out step 0
+unfoldable pub firstOf : Bool → ℕ
+firstOf joined = cond joined 1 0
+
+-- the steps from the first on; those before it offer nothing
+unfoldable pub from : ℕ → (ℕ → List Offer) → ℕ → List Offer
+from first f k = cond (ltb k first) [] (f k)
 
 -- step k of a line with a pattern: foreground where the bit is set; elsewhere background if there is a ground, and nothing if not
 unfoldable pub dashOffers : Pen → ℕ → Kind → Bool → Style → Vertex → Vertex → ℕ → List Offer
@@ -73,10 +82,10 @@ shadeOffers pen rows a b k =
 
 -- a step by the line mode: mode 0 writes background where the bit is clear, in mode 1 a clear bit offers nothing, mode 2 has numbers
 abbrev pub stepOffers : Pen → ℕ → Style → Mode → Vertex → Vertex → ℕ → List Offer
-stepOffers pen rows style Zero a b = dashOffers pen rows Line0 true style a b
-stepOffers pen rows style One a b = dashOffers pen rows Line1 false style a b
+stepOffers pen rows style Zero a b = from (firstOf (style .joined)) (dashOffers pen rows Line0 true style a b)
+stepOffers pen rows style One a b = from (firstOf (style .joined)) (dashOffers pen rows Line1 false style a b)
 stepOffers pen rows style Two a b = shadeOffers pen rows a b
 
--- a segment: step k from 0 to n, so that both ends belong to it
+-- a segment: step k from 0 to n, so that both ends belong to it, but for the first of one that is joined
 unfoldable pub segmentOffers : Pen → ℕ → Style → Vertex → Vertex → List Offer
 segmentOffers pen rows style a b = spans (stepOffers pen rows style (style .mode) a b) (larger a b + 1)

@@ -4,10 +4,10 @@ ghost use mathlib.Core.Bool.{cond};
 ghost use Prim.Native.Nat.{_+_, _≤_};
 ghost use lib.ListN.{length};
 ghost use Rattle.picture.specs.Place.{rowsOf};
-ghost use Rattle.picture.specs.Offer.{hasBit};
 ghost use Rattle.picture.specs.Draw.{spans};
 ghost use Rattle.picture.specs.Picture.{picture, drawn};
-ghost use Rattle.line.specs.Segment.{larger, patternAt, isSet, dashOffers};
+ghost use Rattle.line.specs.Segment.{larger, isSet, firstOf, from, dashOffers};
+ghost use Rattle.line.specs.Ramp.{RampAt};
 ghost use Rattle.line.specs.Step.{Dashed};
 use crate::Style;
 use crate::inside;
@@ -25,10 +25,29 @@ use picture::Vertex;
 use picture::draw::put;
 
 // Whether the pattern bit of step k is set.
-pub(crate) fn is_set(pattern: u32, k: u64) -> bool
-    ensures { λ r. ⌜ r ≡ hasBit pattern (patternAt k) ⌝ }
+pub(crate) fn is_set(style: Style, k: u64) -> bool
+    ensures { λ r. ⌜ r ≡ isSet style k ⌝ }
 {
-    (pattern >> (31 - k % 32)) & 1 == 1
+    let position = ((style.steps as u64) + k % 32) % 32;
+    (style.pattern >> (31 - position)) & 1 == 1
+}
+
+// The first step that is drawn: a segment that is joined to the one before it leaves out step 0.
+pub(crate) fn first_step(joined: bool) -> u64
+    ensures { λ r. ⌜ r ≡ firstOf joined ⌝ }
+{
+    if joined { 1 } else { 0 }
+}
+
+// How far that step moves to the side.
+pub(crate) fn first_side(s: Slope, joined: bool) -> Ramp
+    ensures { λ r. ⌜ RampAt (s .n) (firstOf joined) 0 (s .m) r ⌝ }
+{
+    let side = start(s.n, 0, s.m);
+    if joined {
+        return next(side, 2 * (s.n as u64));
+    }
+    side
 }
 
 // The colour of a step whose pattern bit is set or not.
@@ -79,15 +98,15 @@ fn dashed_anywhere(
     im: &mut [u16],
     zm: &mut [u16],
 ) -> u64
-    ensures { λ r. ⌜ picture (now (im .exit)) (now (zm .exit)) r ≡ drawn pen (spans (dashOffers pen (rowsOf (pen .frame) (length (now (im .entry))) (length (now (zm .entry)))) kind ground style a b) (larger a b + 1)) (picture (now (im .entry)) (now (zm .entry)) 0) ⌝ }
+    ensures { λ r. ⌜ picture (now (im .exit)) (now (zm .exit)) r ≡ drawn pen (spans (from (firstOf (style .joined)) (dashOffers pen (rowsOf (pen .frame) (length (now (im .entry))) (length (now (zm .entry)))) kind ground style a b)) (larger a b + 1)) (picture (now (im .entry)) (now (zm .entry)) 0) ⌝ }
 {
     let s = slope_of(a, b);
     let n = s.n as u64;
-    let mut side = start(s.n, 0, s.m);
+    let mut side = first_side(s, style.joined);
     let mut passed: u64 = 0;
-    let mut k: u64 = 0;
+    let mut k = first_step(style.joined);
     while k <= n {
-        let set = is_set(style.pattern, k);
+        let set = is_set(style, k);
         passed += put_dash(pen, kind, ground, style, set, a, b, s, k, side, im, zm);
         side = next(side, 2 * n);
         k += 1;
@@ -106,7 +125,7 @@ pub(crate) fn dashed(
     im: &mut [u16],
     zm: &mut [u16],
 ) -> u64
-    ensures { λ r. ⌜ picture (now (im .exit)) (now (zm .exit)) r ≡ drawn pen (spans (dashOffers pen (rowsOf (pen .frame) (length (now (im .entry))) (length (now (zm .entry)))) kind ground style a b) (larger a b + 1)) (picture (now (im .entry)) (now (zm .entry)) 0) ⌝ }
+    ensures { λ r. ⌜ picture (now (im .exit)) (now (zm .exit)) r ≡ drawn pen (spans (from (firstOf (style .joined)) (dashOffers pen (rowsOf (pen .frame) (length (now (im .entry))) (length (now (zm .entry)))) kind ground style a b)) (larger a b + 1)) (picture (now (im .entry)) (now (zm .entry)) 0) ⌝ }
 {
     let whole = has_ends(pen, a, b, im.len(), zm.len()) & (pen.transparency == 65535);
     if whole {

@@ -8,13 +8,15 @@ ghost use Rattle.picture.specs.Place.{rowsOf};
 ghost use Rattle.picture.specs.Offer.{offer, keep};
 ghost use Rattle.picture.specs.Draw.{spans};
 ghost use Rattle.picture.specs.Picture.{picture, drawn};
-ghost use Rattle.line.specs.Segment.{larger, xAt, yAt, isSet, dashOffers, shadeOffers};
+ghost use Rattle.line.specs.Segment.{larger, xAt, yAt, isSet, firstOf, from, dashOffers, shadeOffers};
 ghost use Rattle.line.specs.Step.{within, endsWithin, Inside, Dashed, Shaded};
 ghost use Rattle.line.specs.Course.{OnCourse};
 use crate::Style;
 use crate::course::Course;
 use crate::course::course_of;
 use crate::course::place_at;
+use crate::dash::first_side;
+use crate::dash::first_step;
 use crate::dash::ink_of;
 use crate::dash::is_set;
 use crate::ramp::Ramp;
@@ -141,16 +143,16 @@ pub(crate) fn dashed(
     zm: &mut [u16],
 ) -> u64
     requires { ⌜ Inside pen (rowsOf (pen .frame) (length (now im)) (length (now zm))) kind a b ⌝ }
-    ensures { λ r. ⌜ picture (now (im .exit)) (now (zm .exit)) r ≡ drawn pen (spans (dashOffers pen (rowsOf (pen .frame) (length (now (im .entry))) (length (now (zm .entry)))) kind ground style a b) (larger a b + 1)) (picture (now (im .entry)) (now (zm .entry)) 0) ⌝ }
+    ensures { λ r. ⌜ picture (now (im .exit)) (now (zm .exit)) r ≡ drawn pen (spans (from (firstOf (style .joined)) (dashOffers pen (rowsOf (pen .frame) (length (now (im .entry))) (length (now (zm .entry)))) kind ground style a b)) (larger a b + 1)) (picture (now (im .entry)) (now (zm .entry)) 0) ⌝ }
 {
     let s = slope_of(a, b);
     let n = s.n as u64;
-    let mut side = start(s.n, 0, s.m);
+    let mut side = first_side(s, style.joined);
     let c = course_of(pen, a, b, s);
     let mut passed: u64 = 0;
-    let mut k: u64 = 0;
+    let mut k = first_step(style.joined);
     while k <= n {
-        let set = is_set(style.pattern, k);
+        let set = is_set(style, k);
         passed += put_dash(pen, kind, ground, style, set, a, b, s, c, k, side, im, zm);
         side = next(side, 2 * n);
         k += 1;

@@ -3,7 +3,8 @@ ghost use mathlib.Core.Path.{_≡_};
 ghost use lib.ListN.{length};
 ghost use Rattle.picture.specs.Place.{rowsOf};
 ghost use Rattle.picture.specs.Picture.{picture, drawn};
-ghost use Rattle.line.specs.Segment.{segmentOffers};
+ghost use Rattle.line.specs.Segment.{larger, segmentOffers};
+use crate::slope::slope_of;
 use picture::Kind;
 use picture::Pen;
 use picture::Vertex;
@@ -22,12 +23,23 @@ pub enum Mode {
     Two,
 }
 
-// What the modes say of lines. The pattern and the two colours serve the modes 0 and 1.
+// What the modes say of lines, and what the line says of its next segment: how many steps it has made, and whether the segment leaves out its
+// first point, which the one before it drew. All but the mode serves the modes 0 and 1.
 pub struct Style {
     pub mode: Mode,
     pub pattern: u32,
     pub foreground: u16,
     pub background: u16,
+    pub steps: u16,
+    pub joined: bool,
+}
+
+// How many steps a segment has.
+pub fn step_count(a: Vertex, b: Vertex) -> u16
+    ensures { λ r. ⌜ r ≡ larger a b ⌝ }
+{
+    let s = slope_of(a, b);
+    s.n
 }
 
 // Draws the segment from the earlier point a to the new endpoint b. Answers how many pixels passed.

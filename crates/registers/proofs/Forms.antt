@@ -24,7 +24,7 @@ use Rattle.registers.specs.declared.Parked.{Parked}
 use Rattle.registers.specs.declared.Registers.{Registers}
 use Rattle.registers.specs.Record.{noVertex, opened, noFigure, invBit, endBit, isOn, awaiting, nothingAwaited, settings, resetOf, withParked}
 use Rattle.registers.specs.Subcommand.{subcommandOf, wants}
-use Rattle.registers.specs.Figure.{shapeOf, vertexOf, isPair, paired, grownOf, completes, figureAfter, vertexCompletes}
+use Rattle.registers.specs.Figure.{shapeOf, vertexOf, isPair, paired, advanced, grownOf, completes, figureAfter, vertexCompletes}
 use Rattle.registers.specs.Next.{value, awaited, joinedOf, counted, effectOf, parmOf, coordinateOf, coordinateCompletes, after, completedBy, penOf}
 use Rattle.registers.specs.Allowed.{isCoordinate, coordinateAllowed, allowed}
 use Rattle.registers.specs.Bounds.{vertexFits}
@@ -132,10 +132,11 @@ pub record TidyParked (p : Parked) : Type 0 where
   pub nothing : p .subcommand ≡ 13 → p ≡ nothingAwaited
   pub ahead : (k : ℕ) → p .came ≤ k → value (p .values) k ≡ 0
 
--- a closed figure has no vertex, and one with a single vertex has no second
+-- a closed figure has no vertex, one with a single vertex has no second, and only a line has steps
 pub record TidyFigure (f : Figure) : Type 0 where
   pub closed : f .shape ≡ 0 → f ≡ noFigure
   pub single : isPair f ≡ false → f .second ≡ noVertex
+  pub still : (f .shape ≡ 3 → ⊥) → (f .steps ≡ 0) × (f .dashed ≡ 0)
 
 -- a record with both
 pub record Tidy (r : Registers) : Type 0 where
@@ -150,20 +151,23 @@ tidy-nothing : TidyParked nothingAwaited
 tidy-nothing = tidy-awaiting 13 (λ e. refl)
 
 tidy-none : TidyFigure noFigure
-tidy-none = record { closed = λ e. refl; single = λ e. refl }
+tidy-none = record { closed = λ e. refl; single = λ e. refl; still = λ e. (refl, refl) }
 
 tidy-open : (shape : ℕ) (v : Vertex) → (shape ≡ 0 → ⊥) → TidyFigure (opened shape v)
-tidy-open shape v ne = record { closed = λ e. absurd (ne e); single = λ e. refl }
+tidy-open shape v ne = record { closed = λ e. absurd (ne e); single = λ e. refl; still = λ e. (refl, refl) }
 
 tidy-pair : (shape : ℕ) (a b : Vertex) → (shape ≡ 0 → ⊥) → TidyFigure (paired shape a b)
-tidy-pair shape a b ne = record { closed = λ e. absurd (ne e); single = λ e. absurd (true≢false e) }
+tidy-pair shape a b ne = record { closed = λ e. absurd (ne e); single = λ e. absurd (true≢false e); still = λ e. (refl, refl) }
 
-tidy-grown : (shape : Shape) (end : Bool) (f : Figure) (v : Vertex) → TidyFigure f → TidyFigure (grownOf shape end f v)
+tidy-advanced : (dashed : Bool) (f : Figure) (v : Vertex) → TidyFigure (advanced dashed f v)
+tidy-advanced dashed f v = record { closed = λ e. absurd (omega (arith, e)); single = λ e. refl; still = λ e. absurd (e refl) }
+
+tidy-grown : (shape : Shape) (end dashed : Bool) (f : Figure) (v : Vertex) → TidyFigure f → TidyFigure (grownOf shape end dashed f v)
 unfolding grownOf
-tidy-grown Closed end f v t = t
-tidy-grown Strip end f v t = chosen TidyFigure (isPair f) _ _ (λ p. tidy-pair 1 (f .second) v (λ e. omega (arith, e))) (λ p. tidy-pair 1 (f .first) v (λ e. omega (arith, e)))
-tidy-grown Fan end f v t = tidy-pair 2 (f .first) v (λ e. omega (arith, e))
-tidy-grown Line end f v t = chosen TidyFigure end _ _ (λ p. tidy-none) (λ p. tidy-open 3 v (λ e. omega (arith, e)))
+tidy-grown Closed end dashed f v t = t
+tidy-grown Strip end dashed f v t = chosen TidyFigure (isPair f) _ _ (λ p. tidy-pair 1 (f .second) v (λ e. omega (arith, e))) (λ p. tidy-pair 1 (f .first) v (λ e. omega (arith, e)))
+tidy-grown Fan end dashed f v t = tidy-pair 2 (f .first) v (λ e. omega (arith, e))
+tidy-grown Line end dashed f v t = chosen TidyFigure end _ _ (λ p. tidy-none) (λ p. tidy-advanced dashed f v)
 
 tidy-counted : (p : Parked) (v : ℕ) → p .came + 1 < wants (subcommandOf (p .subcommand)) → TidyParked p → TidyParked (counted (joinedOf p v))
 unfolding subcommandOf
@@ -195,11 +199,11 @@ module _ (r : Registers) (t : Tidy r) where
   tidy-coordinate I n = record { parked = t .parked; figure = t .figure }
   tidy-coordinate Z n = record { parked = t .parked; figure = t .figure }
   tidy-coordinate Y n = record { parked = t .parked; figure = t .figure }
-  tidy-coordinate X n = record { parked = t .parked; figure = tidy-grown (shapeOf (r .figure .shape)) _ (r .figure) (vertexOf r n) (t .figure) }
+  tidy-coordinate X n = record { parked = t .parked; figure = tidy-grown (shapeOf (r .figure .shape)) _ _ (r .figure) (vertexOf r n) (t .figure) }
   tidy-coordinate T1x n = record { parked = t .parked; figure = tidy-open 1 (vertexOf r n) (λ e. omega (arith, e)) }
   tidy-coordinate T2x n = record { parked = t .parked; figure = tidy-open 2 (vertexOf r n) (λ e. omega (arith, e)) }
   tidy-coordinate Lx n = record { parked = t .parked; figure = tidy-open 3 (vertexOf r n) (λ e. omega (arith, e)) }
-  tidy-coordinate Px n = record { parked = t .parked; figure = tidy-grown (shapeOf (r .figure .shape)) _ (r .figure) (vertexOf r n) (t .figure) }
+  tidy-coordinate Px n = record { parked = t .parked; figure = tidy-grown (shapeOf (r .figure .shape)) _ _ (r .figure) (vertexOf r n) (t .figure) }
 
   tidy-parm : (v : ℕ) → Tidy (parmOf r v)
   unfolding parmOf

@@ -27,7 +27,7 @@ use Rattle.registers.specs.declared.Registers.{Registers}
 use Rattle.registers.specs.Lines.{chipsIn, unitIn, pageIn, codeIn, lineOf}
 use Rattle.registers.specs.Record.{noVertex, opened, frameOf, awaiting, nothingAwaited, window, settings, resetOf, initOf, withPmode, withLmode, withZcontrol, withHcontrol, withLstatus, withTransparency, withPlanes, withSection, withModes, withWindow, withDash, withLatch, withFigure, withParked}
 use Rattle.registers.specs.Subcommand.{subcommands, subcommandOf, wants}
-use Rattle.registers.specs.Figure.{shapeOf, vertexOf, isPair, grownOf, figureAfter}
+use Rattle.registers.specs.Figure.{shapeOf, vertexOf, isPair, advanced, grownOf, figureAfter}
 use Rattle.registers.specs.Next.{value, awaited, joinedOf, counted, effectOf, parmOf, coordinateOf, after}
 use Rattle.registers.specs.Allowed.{isCoordinate, isBorder, onlyBits, zcontrolBits, hcontrolBits, lstatusBits, initAllowed, parameterAllowed, coordinateAllowed, allowed}
 use Rattle.registers.specs.Bounds.{frameFits, modesFit, windowFits, vertexFits, figureFits, valuesFit, parkedFits, inBounds}
@@ -277,9 +277,9 @@ parm-sound r v s a =
 -- ---- coordinates
 
 two-fit : (shape pair : ℕ) (a b : Vertex) → leb shape 3 ≡ true → leb pair 1 ≡ true → vertexFits a ≡ true → vertexFits b ≡ true
-    → figureFits (record { shape = shape; pair = pair; first = a; second = b }) ≡ true
+    → figureFits (record { shape = shape; pair = pair; first = a; second = b; steps = 0; dashed = 0 }) ≡ true
 unfolding figureFits
-two-fit shape pair a b s p u v = and-both (and-both (and-both s p) u) v
+two-fit shape pair a b s p u v = and-both (and-both (and-both (and-both (and-both s p) u) v) refl) refl
 
 no-vertex : vertexFits noVertex ≡ true
 unfolding vertexFits
@@ -291,16 +291,25 @@ open-fits shape v s h = two-fit shape 0 v noVertex s refl h no-vertex
 -- the vertices of an open figure
 pub vertices : (f : Figure) → figureFits f ≡ true → (vertexFits (f .first) ≡ true) × (vertexFits (f .second) ≡ true)
 unfolding figureFits
-vertices f h = let q = chain-all (leb (f .shape) 3) (leb (f .pair) 1 ∷ vertexFits (f .first) ∷ vertexFits (f .second) ∷ []) h in (q .1 .1 .0, q .1 .1 .1 .0)
+vertices f h =
+    let q = chain-all (leb (f .shape) 3) (leb (f .pair) 1 ∷ vertexFits (f .first) ∷ vertexFits (f .second) ∷ leb (f .steps) 31 ∷ leb (f .dashed) 1 ∷ []) h in
+    (q .1 .1 .0, q .1 .1 .1 .0)
 
-grown-fits : (shape : Shape) (end : Bool) (f : Figure) (v : Vertex) → figureFits f ≡ true → vertexFits v ≡ true → figureFits (grownOf shape end f v) ≡ true
+-- a line after a segment: its steps are counted modulo 32
+advanced-fits : (dashed : Bool) (f : Figure) (v : Vertex) → vertexFits v ≡ true → figureFits (advanced dashed f v) ≡ true
+unfolding figureFits
+advanced-fits dashed f v h =
+    let low : advanced dashed f v .steps ≤ 31 = omega arith in
+    and-both (and-both (and-both (and-both (and-both refl refl) h) no-vertex) (le-leb _ _ low)) (chosen (λ (n : ℕ). leb n 1 ≡ true) dashed 1 0 (λ t. refl) (λ t. refl))
+
+grown-fits : (shape : Shape) (end dashed : Bool) (f : Figure) (v : Vertex) → figureFits f ≡ true → vertexFits v ≡ true → figureFits (grownOf shape end dashed f v) ≡ true
 unfolding grownOf
-grown-fits Closed end f v h k = h
-grown-fits Strip end f v h k =
+grown-fits Closed end dashed f v h k = h
+grown-fits Strip end dashed f v h k =
     let q = vertices f h in
     chosen (λ g. figureFits g ≡ true) (isPair f) _ _ (λ t. two-fit 1 1 (f .second) v refl refl (q .1) k) (λ t. two-fit 1 1 (f .first) v refl refl (q .0) k)
-grown-fits Fan end f v h k = two-fit 2 1 (f .first) v refl refl (vertices f h .0) k
-grown-fits Line end f v h k = chosen (λ g. figureFits g ≡ true) end _ _ (λ t. open-fits 0 noVertex refl no-vertex) (λ t. open-fits 3 v refl k)
+grown-fits Fan end dashed f v h k = two-fit 2 1 (f .first) v refl refl (vertices f h .0) k
+grown-fits Line end dashed f v h k = chosen (λ g. figureFits g ≡ true) end _ _ (λ t. open-fits 0 noVertex refl no-vertex) (λ t. advanced-fits dashed f v k)
 
 module _ (r : Registers) (s : Sound r) where
   -- the vertex that an allowed x makes
@@ -309,7 +318,7 @@ module _ (r : Registers) (s : Sound r) where
   vertex-fits x h = and-both h (s .y)
 
   grown-sound : (x : ℕ) → isCoordinate x ≡ true → Sound (withFigure r (figureAfter r x))
-  grown-sound x h = sound-figure s _ (grown-fits (shapeOf (r .figure .shape)) _ (r .figure) (vertexOf r x) (s .figure) (vertex-fits x h))
+  grown-sound x h = sound-figure s _ (grown-fits (shapeOf (r .figure .shape)) _ _ (r .figure) (vertexOf r x) (s .figure) (vertex-fits x h))
 
   coordinate-sound : (c : Coordinate) (n : ℕ) → coordinateAllowed c n ≡ true → Sound (coordinateOf r c n)
   unfolding coordinateOf

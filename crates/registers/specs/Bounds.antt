@@ -31,7 +31,7 @@ unfoldable pub vertexFits : Vertex → Bool
 vertexFits v = isCoordinate (v .x) && isCoordinate (v .y)
 
 unfoldable pub figureFits : Figure → Bool
-figureFits f = leb (f .shape) 3 && leb (f .pair) 1 && vertexFits (f .first) && vertexFits (f .second)
+figureFits f = leb (f .shape) 3 && leb (f .pair) 1 && vertexFits (f .first) && vertexFits (f .second) && leb (f .steps) 31 && leb (f .dashed) 1
 
 -- borders that are parked while WINDOW is awaited
 unfoldable pub valuesFit : Subcommand → List ℕ → Bool

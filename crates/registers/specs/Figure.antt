@@ -1,17 +1,18 @@
--- Open figures, what a vertex makes of them and what it completes (document 01, "Figures").
-use Prim.Native.Nat.{ℕ}
-use mathlib.Core.Bool.{Bool, cond}
+-- Open figures, what a vertex makes of them and what it completes (document 01, "Figures"; document 02, [2]).
+use Prim.Native.Nat.{ℕ, _+_, _%_}
+use mathlib.Core.Bool.{Bool, cond, not, _&&_}
 use mathlib.Core.List.{List, [], _∷_}
 use lib.ListN.{getD}
-use lib.Dec.{eqb}
+use lib.Dec.{leb, eqb}
 use Rattle.picture.specs.declared.Vertex.{Vertex}
+use Rattle.line.specs.Segment.{larger}
 use Rattle.registers.specs.declared.Figure.{Figure}
 use Rattle.registers.specs.declared.Registers.{Registers}
 use Rattle.registers.specs.declared.shape.Shape.{Shape}
 use Rattle.registers.specs.declared.shape.Shape.the-variants.{Closed, Strip, Fan, Line}
 use Rattle.registers.specs.declared.shape.Completed.{Completed}
 use Rattle.registers.specs.declared.shape.Completed.the-variants.{Nothing, Triangle, Segment}
-use Rattle.registers.specs.Record.{isOn, invBit, endBit, opened, noFigure}
+use Rattle.registers.specs.Record.{isOn, invBit, endBit, noVertex, noFigure}
 
 -- the shape that the record's number stands for
 abbrev pub shapes : List Shape
@@ -29,15 +30,19 @@ abbrev pub isPair : Figure → Bool
 isPair f = eqb (f .pair) 1
 
 abbrev pub paired : ℕ → Vertex → Vertex → Figure
-paired shape a b = record { shape = shape; pair = 1; first = a; second = b }
+paired shape a b = record { shape = shape; pair = 1; first = a; second = b; steps = 0; dashed = 0 }
+
+-- a line after the segment to a vertex, which is the start of the next one: the steps since LX, modulo 32, and whether the segment was dashed
+abbrev pub advanced : Bool → Figure → Vertex → Figure
+advanced dashed f v = record { shape = 3; pair = 0; first = v; second = noVertex; steps = (f .steps + larger (f .first) v) % 32; dashed = cond dashed 1 0 }
 
 -- the figure after one more vertex: of a strip the last two are kept, of a fan the first and the last; the end of a segment is the
 -- start of the next one, and with END 1 the line closes after the segment
-unfoldable pub grownOf : Shape → Bool → Figure → Vertex → Figure
-grownOf Closed end f v = f
-grownOf Strip end f v = cond (isPair f) (paired 1 (f .second) v) (paired 1 (f .first) v)
-grownOf Fan end f v = paired 2 (f .first) v
-grownOf Line end f v = cond end noFigure (opened 3 v)
+unfoldable pub grownOf : Shape → Bool → Bool → Figure → Vertex → Figure
+grownOf Closed end dashed f v = f
+grownOf Strip end dashed f v = cond (isPair f) (paired 1 (f .second) v) (paired 1 (f .first) v)
+grownOf Fan end dashed f v = paired 2 (f .first) v
+grownOf Line end dashed f v = cond end noFigure (advanced dashed f v)
 
 -- what one more vertex completes: from the third vertex on a triangle, in a strip of the last three vertices, in a fan of the first, the
 -- one before and the new one; of a line a segment, and with INV 1 nothing is offered
@@ -47,9 +52,13 @@ completes Strip inv f v = cond (isPair f) (Triangle (f .first) (f .second) v) No
 completes Fan inv f v = cond (isPair f) (Triangle (f .first) (f .second) v) Nothing
 completes Line inv f v = cond inv Nothing (Segment (f .first) v)
 
+-- a segment is dashed: visible, and of line mode 0 or 1
+abbrev pub isDashed : Registers → Bool
+isDashed r = not (isOn invBit (r .modes .lstatus)) && leb (r .modes .lmode) 1
+
 -- both, by the registers as they are when the vertex comes
 abbrev pub figureAfter : Registers → ℕ → Figure
-figureAfter r x = grownOf (shapeOf (r .figure .shape)) (isOn endBit (r .modes .lstatus)) (r .figure) (vertexOf r x)
+figureAfter r x = grownOf (shapeOf (r .figure .shape)) (isOn endBit (r .modes .lstatus)) (isDashed r) (r .figure) (vertexOf r x)
 
 abbrev pub vertexCompletes : Registers → ℕ → Completed
 vertexCompletes r x = completes (shapeOf (r .figure .shape)) (isOn invBit (r .modes .lstatus)) (r .figure) (vertexOf r x)

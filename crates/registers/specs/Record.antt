@@ -55,9 +55,9 @@ awaiting number = record { subcommand = number; came = 0; values = 0 ∷ 0 ∷ 0
 abbrev pub nothingAwaited : Parked
 nothingAwaited = awaiting 13
 
--- a figure with its first vertex
+-- a figure with its first vertex, of which no step is made
 abbrev pub opened : ℕ → Vertex → Figure
-opened shape v = record { shape = shape; pair = 0; first = v; second = noVertex }
+opened shape v = record { shape = shape; pair = 0; first = v; second = noVertex; steps = 0; dashed = 0 }
 
 -- no figure is open, and no vertex kept
 abbrev pub noFigure : Figure

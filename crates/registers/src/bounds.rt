@@ -50,7 +50,12 @@ fn figure_fits(f: Figure) -> bool
 {
     let first = f.first;
     let second = f.second;
-    (f.shape <= 3) & (f.pair <= 1) & vertex_fits(first) & vertex_fits(second)
+    (f.shape <= 3)
+        & (f.pair <= 1)
+        & vertex_fits(first)
+        & vertex_fits(second)
+        & (f.steps <= 31)
+        & (f.dashed <= 1)
 }
 
 // Borders that are parked while WINDOW is awaited.

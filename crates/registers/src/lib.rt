@@ -69,12 +69,15 @@ pub struct Latch {
 }
 
 // The open figure: 0 for none, 1 a strip, 2 a fan, 3 a line. `first` is the vertex that the next one joins; where `pair` is 1, so is `second`.
+// Of a line, `steps` is how many it has made since LX, modulo 32, and `dashed` is 1 if its last segment was visible and of mode 0 or 1.
 #[repr(C)]
 pub struct Figure {
     pub shape: u16,
     pub pair: u16,
     pub first: Vertex,
     pub second: Vertex,
+    pub steps: u16,
+    pub dashed: u16,
 }
 
 // The AUX number whose parameters are awaited, 13 for none; how many have come, and those.

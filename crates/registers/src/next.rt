@@ -238,7 +238,9 @@ impl Registers {
         let v = self.vertex(x);
         let f = self.figure;
         let end = self.modes.lstatus & END != 0;
-        let g = f.grown(end, v);
+        let hidden = self.modes.lstatus & INV != 0;
+        let dashed = !hidden & (self.modes.lmode <= 1);
+        let g = f.grown(end, dashed, v);
         self.figure = g;
         self
     }

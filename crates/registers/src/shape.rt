@@ -1,8 +1,10 @@
 // Open figures: what a vertex makes of them, and what it completes.
 ghost use mathlib.Core.Path.{_≡_};
+ghost use mathlib.Core.Bool.{cond};
 ghost use Rattle.registers.specs.Record.{noVertex, opened, noFigure};
-ghost use Rattle.registers.specs.Figure.{shapeOf, paired, grownOf, completes};
+ghost use Rattle.registers.specs.Figure.{shapeOf, paired, advanced, grownOf, completes};
 use crate::Figure;
+use line::step_count;
 use picture::Vertex;
 
 // The shapes of open figures.
@@ -45,6 +47,13 @@ fn no_vertex() -> Vertex
     }
 }
 
+// A test as a number of the record: 1 if it holds.
+fn flag_of(holds: bool) -> u16
+    ensures { λ r. ⌜ r ≡ cond holds 1 0 ⌝ }
+{
+    if holds { 1 } else { 0 }
+}
+
 impl Figure {
     // No open figure.
     pub(crate) fn none() -> Self
@@ -64,6 +73,8 @@ impl Figure {
             pair: 0,
             first: first,
             second: second,
+            steps: 0,
+            dashed: 0,
         }
     }
 
@@ -76,12 +87,32 @@ impl Figure {
             pair: 1,
             first: first,
             second: second,
+            steps: 0,
+            dashed: 0,
         }
     }
 
-    // The figure after one more vertex. With `end` a line closes.
-    pub(crate) fn grown(self, end: bool, v: Vertex) -> Self
-        ensures { λ r. ⌜ r ≡ grownOf (shapeOf (self .shape)) end self v ⌝ }
+    // A line after the segment to a vertex, which was dashed or not.
+    fn advanced(self, dashed: bool, v: Vertex) -> Self
+        ensures { λ r. ⌜ r ≡ advanced dashed self v ⌝ }
+    {
+        let first = self.first;
+        let second = no_vertex();
+        let made = ((self.steps as u32) + (step_count(first, v) as u32)) % 32;
+        let flag = flag_of(dashed);
+        Figure {
+            shape: 3,
+            pair: 0,
+            first: v,
+            second: second,
+            steps: made as u16,
+            dashed: flag,
+        }
+    }
+
+    // The figure after one more vertex. With `end` a line closes; `dashed` tells of the segment to the vertex.
+    pub(crate) fn grown(self, end: bool, dashed: bool, v: Vertex) -> Self
+        ensures { λ r. ⌜ r ≡ grownOf (shapeOf (self .shape)) end dashed self v ⌝ }
     {
         let shape = shape_of(self.shape);
         let first = self.first;
@@ -99,7 +130,7 @@ impl Figure {
             Shape::Line => if end {
                 Figure::none()
             } else {
-                Figure::open(3, v)
+                self.advanced(dashed, v)
             },
         }
     }

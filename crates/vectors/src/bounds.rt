@@ -83,6 +83,12 @@ fn figure() {
     let mut g = ready();
     g.figure.second.y = 8192;
     broken(b"bounds, second y 8192", g);
+    let mut h = ready();
+    h.figure.steps = 32;
+    broken(b"bounds, steps 32", h);
+    let mut i = ready();
+    i.figure.dashed = 2;
+    broken(b"bounds, dashed 2", i);
 }
 
 // What is awaited: AUX numbers that take no parameters, and as many come as they take.

@@ -12,7 +12,7 @@ pub(crate) fn ready() -> Registers {
     r
 }
 
-// The first 21 of a record's 38 numbers, in the order of docs/REGISTERS.md: what was set.
+// The first 21 of a record's 40 numbers, in the order of docs/REGISTERS.md: what was set.
 fn settings(r: Registers) -> [u16; 21] {
     let modes = r.modes;
     let window = r.window;
@@ -42,8 +42,8 @@ fn settings(r: Registers) -> [u16; 21] {
     ]
 }
 
-// The other 17: what is open, and what is awaited.
-fn pending(r: Registers) -> [u16; 17] {
+// The other 19: what is open, and what is awaited.
+fn pending(r: Registers) -> [u16; 19] {
     let figure = r.figure;
     let first = figure.first;
     let second = figure.second;
@@ -59,6 +59,8 @@ fn pending(r: Registers) -> [u16; 17] {
         second.y,
         second.i,
         second.z,
+        figure.steps,
+        figure.dashed,
         r.parked.subcommand,
         r.parked.came,
         values[0],

@@ -1,4 +1,5 @@
 -- `dextolumen_bench_segment` meets its contract. Assumes nothing.
+use mathlib.Core.Bool.{false}
 use mathlib.Core.Path.{ap₂, _∙_}
 use lib.ListN.{length}
 use Rattle.picture.specs.declared.Pen.{Pen}
@@ -34,7 +35,7 @@ returns c =
     (λ (p : Pen) (m : Mode).
     drawn p
     (segmentOffers p (rowsOf (p .frame) (length (a .im .now)) (length (a .zm .now)))
-    (record { mode = m; pattern = a .pattern; foreground = a .foreground; background = a .background }) (vertexOf (a .ax) (a .ay) (a .ai) (a .az)) (vertexOf (a .bx) (a .by) (a .bi) (a .bz)))
+    (record { mode = m; pattern = a .pattern; foreground = a .foreground; background = a .background; steps = 0; joined = false }) (vertexOf (a .ax) (a .ay) (a .ai) (a .az)) (vertexOf (a .bx) (a .by) (a .bi) (a .bz)))
     (picture (a .im .now) (a .zm .now) 0))
     (c .before .before .before .before .before .before .before .pen-of .ensures) (c .before .before .before .before .before .before .before .before .mode-of .ensures)
 

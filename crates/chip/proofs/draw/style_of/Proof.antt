@@ -10,7 +10,7 @@ pattern-of-requires : tie.Need-pattern-of-requires
 pattern-of-requires c κs = search needs
 
 returns : tie.Need-returns
-returns c = rw (c .before .mode-of .ensures, c .pattern-of .ensures)
+returns c = rw (c .before .before .mode-of .ensures, c .before .pattern-of .ensures)
 
 pub style-of-spec : {M : Type 1} → statement M
 style-of-spec = tie.close (tie.spec mode-of-requires pattern-of-requires returns)

@@ -32,8 +32,8 @@ enum-told-4 c = search needs
 none-requires : tie.Need-none-requires
 none-requires c κs = search needs
 
-open-requires : tie.Need-open-requires
-open-requires c κs = search needs
+advanced-requires : tie.Need-advanced-requires
+advanced-requires c κs = search needs
 
 returns : tie.Need-returns
 unfolding grownOf
@@ -57,7 +57,7 @@ returns-5 c = rw (← c .before .before .before .before .before .before .shape-o
 
 returns-6 : tie.Need-returns-6
 unfolding grownOf
-returns-6 c = rw (← c .before .before .before .before .before .before .shape-of .ensures, c .before .before .enum-told4 .given .1, c .before .if2 .left) (c .«open» .ensures)
+returns-6 c = rw (← c .before .before .before .before .before .before .shape-of .ensures, c .before .before .enum-told4 .given .1, c .before .if2 .left) (c .advanced .ensures)
 
 pub grown-spec : {M : Type 1} → statement M
 grown-spec =
@@ -72,7 +72,7 @@ grown-spec =
     pair-requires-3
     enum-told-4
     none-requires
-    open-requires
+    advanced-requires
     returns
     returns-2
     returns-3

@@ -12,7 +12,7 @@ vertex-fits-requires-2 c κs = search needs
 
 returns : tie.Need-returns
 unfolding figureFits
-returns c = rw (c .vertex-fits2 .ensures, c .before .vertex-fits .ensures)
+returns c = rw (c .before .before .vertex-fits2 .ensures, c .before .before .before .vertex-fits .ensures)
 
 pub figure-fits-spec : {M : Type 1} → statement M
 figure-fits-spec = tie.close (tie.spec vertex-fits-requires vertex-fits-requires-2 returns)
