@@ -61,7 +61,7 @@ uint64_t plain_segment(uint16_t line, uint8_t mode, uint32_t pattern, uint16_t f
         size_t place = (size_t)(y * p.line + x);
         if (mode == 2) {
             uint16_t z = between(s.first.z, s.second.z, k, s.n);
-            if (z >= p.zm[place]) continue;
+            if (z > p.zm[place]) continue;
             p.zm[place] = z;
             p.im[place] = between(s.first.i, s.second.i, k, s.n);
         } else {

@@ -127,7 +127,7 @@ CASED uint64_t trace(uint8_t mode, int clipped, const Segment s, const Dashes d,
     for (int64_t k = 0; k <= s.last; k++) {
         uint32_t set = pattern >> 31;
         int offered = (!clipped || (x < p.line && y < p.rows)) && (mode != 1 || set);
-        if (offered && (mode != 2 || (uint16_t)z.quotient < p.zm[place])) {
+        if (offered && (mode != 2 || (uint16_t)z.quotient <= p.zm[place])) {
             if (mode == 2) p.zm[place] = (uint16_t)z.quotient;
             p.im[place] = (uint16_t)(mode == 2 ? (uint32_t)i.quotient : d.background ^ (flip & -set));
             passed++;

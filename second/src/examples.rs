@@ -291,6 +291,31 @@ fn dashes() {
     assert_eq!(passed("F0000 80000 E000C D0000 B0004 E0001 D0002 40008"), 10);
 }
 
+/// Document 02's [10]: a mode 2 line passes at equal depth, a triangle does
+/// not, and both go by strictly less and greater as they did.
+#[test]
+fn edges_over_faces() {
+    let begin = "F0000 E0004 D0006 E0003 D0040 E0001 D0002 ";
+    let face = "10001 20009 30000 50000 40008 30008 40000 ";
+    let line = |i: i64, z: i64| format!("1{:04X} 2{:04X} 30000 80000 E000C D0010 40003 ", i, z);
+    let left = |words: String| run_words(&(begin.to_string() + &words)).1.i[..5].to_vec();
+    // the line shows over the face, before and behind it
+    assert_eq!(left(face.to_string() + &line(2, 9)), [2, 2, 2, 2, 1]);
+    assert_eq!(left(line(2, 9) + face), [2, 2, 2, 2, 1]);
+    assert_eq!(left(face.to_string() + &line(2, 8)), [2, 2, 2, 2, 1]);
+    assert_eq!(left(face.to_string() + &line(2, 10)), [1, 1, 1, 1, 1]);
+    // of two lines the last shows, and at the starting depth any
+    assert_eq!(left(line(2, 9) + &line(3, 9)), [3, 3, 3, 3, 0]);
+    assert_eq!(left(line(2, 65535)), [2, 2, 2, 2, 0]);
+    // of two faces the first, and at the starting depth none
+    assert_eq!(left(face.to_string() + &face.replace("10001", "10004")), [1, 1, 1, 1, 1]);
+    assert_eq!(left(face.replace("20009", "2FFFF")), [0, 0, 0, 0, 0]);
+    // a joint of mode 2 passes twice, with the depth test off too
+    let passed = |words: &str| run_words(words).0.passed;
+    assert_eq!(passed(&(begin.to_string() + "80000 E000C D0000 40004 40008")), 10);
+    assert_eq!(passed("F0000 E0001 D0002 80000 E000C D0000 40004 40008"), 10);
+}
+
 #[test]
 fn constant_triangles_take_the_completing_vertex() {
     let figure = Figure::Triangle {

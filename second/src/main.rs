@@ -108,5 +108,8 @@ fn print_shares(first: u64, count: u64) -> Result<(), String> {
     if !shares.starts_often() {
         return Err("visible starts or hops are rare".to_string());
     }
+    if !shares.ties_often() {
+        return Err("lines that tie are rare".to_string());
+    }
     Ok(())
 }

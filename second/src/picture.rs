@@ -2,21 +2,34 @@
 
 use crate::figures::{Figure, Numbers};
 use crate::registers::{bit, Registers, Window};
+use std::cmp::Ordering;
 
 /// The most rows that are ever in use.
 const MOST_ROWS: i64 = 8192;
+/// The depth that all places start with.
+const FARTHEST: i64 = 65535;
 
 /// The I memory and the Z memory, of one length.
 #[derive(Clone, Debug, PartialEq, Eq)]
 pub struct Picture {
     pub i: Vec<i64>,
     pub z: Vec<i64>,
+    /// How many pixels passed at equal depth, for `shares` to tell.
+    pub ties: Ties,
+}
+
+/// Pixels that passed at the depth that a place starts with, and at a depth
+/// that was drawn.
+#[derive(Clone, Copy, Debug, Default, PartialEq, Eq)]
+pub struct Ties {
+    pub with_start: u64,
+    pub with_drawn: u64,
 }
 
 impl Picture {
     /// I all 0, Z all 65535.
     pub fn cleared(places: usize) -> Picture {
-        Picture { i: vec![0; places], z: vec![65535; places] }
+        Picture { i: vec![0; places], z: vec![FARTHEST; places], ties: Ties::default() }
     }
 
     /// The whole rows that fit, at most 8,192.
@@ -52,6 +65,9 @@ impl Picture {
         if !passes(figure, numbers, registers, self.z[place]) {
             return false;
         }
+        if registers.depth_test && numbers.z == Some(self.z[place]) {
+            self.count_tie(place);
+        }
         if registers.i_enabled() {
             self.i[place] = in_planes(self.i[place], numbers.i, registers.planes);
         }
@@ -59,6 +75,14 @@ impl Picture {
             self.z[place] = depth;
         }
         true
+    }
+
+    fn count_tie(&mut self, place: usize) {
+        if self.z[place] == FARTHEST {
+            self.ties.with_start += 1;
+        } else {
+            self.ties.with_drawn += 1;
+        }
     }
 }
 
@@ -93,16 +117,17 @@ pub fn transparency_keeps(transparency: i64, x: i64, y: i64) -> bool {
     bit(transparency, 4 * (y % 4) + x % 4)
 }
 
-/// With the depth test on, triangles and mode 2 lines pass where the new
-/// depth is strictly less than the old; everything else offered passes. The
-/// old depth is read with Z writing off too (READINGS.md, "Figures").
+/// With the depth test on, what has a depth passes where that is nearer than
+/// the old one; at equal depth a mode 2 line passes and a triangle does not
+/// (document 02, [10]). Everything else offered passes. The old depth is read
+/// with Z writing off too (READINGS.md, "Figures").
 fn passes(figure: &Figure, numbers: Numbers, registers: &Registers, old_depth: i64) -> bool {
-    let tested = match figure {
-        Figure::Triangle { .. } => true,
-        Figure::Segment { mode, .. } => *mode == 2,
-    };
     match numbers.z {
-        Some(depth) if tested && registers.depth_test => depth < old_depth,
+        Some(depth) if registers.depth_test => match depth.cmp(&old_depth) {
+            Ordering::Less => true,
+            Ordering::Equal => matches!(figure, Figure::Segment { .. }),
+            Ordering::Greater => false,
+        },
         _ => true,
     }
 }

@@ -408,6 +408,43 @@ impl Program {
         }
     }
 
+    /// A face and lines of mode 2 along its sides, either first, with the
+    /// depth test on. Their corners have the same depths, now and then that
+    /// of a fresh picture, so that many pixels tie.
+    fn outlined_face(&mut self) {
+        self.subcommand(ZCONTROL, &[DEPTH_TEST]);
+        self.subcommand(LMODE, &[2]);
+        self.choose_region();
+        let (far, slope) = (self.random.once_in(3), self.random.once_in(3));
+        let level = if far { 65535 } else { self.depth() };
+        let mut corners = Vec::new();
+        for _ in 0..3 {
+            let z = if slope { self.depth() } else { level };
+            corners.push((self.x(), self.y(), z));
+        }
+        let outline = [corners.as_slice(), &corners[..1]].concat();
+        if self.random.once_in(3) {
+            self.figure_through(LX, &outline);
+            self.figure_through(T1X, &corners);
+        } else {
+            self.figure_through(T1X, &corners);
+            self.figure_through(LX, &outline);
+        }
+    }
+
+    /// A figure of one intensity through points, each with its depth.
+    fn figure_through(&mut self, opening: i64, points: &[(i64, i64, i64)]) {
+        let i = self.intensity();
+        self.push(I, i);
+        let mut command = opening;
+        for (x, y, z) in points {
+            self.push(Z, *z);
+            self.push(Y, *y);
+            self.push(command, *x);
+            command = X;
+        }
+    }
+
     fn now_and_then_a_setting(&mut self) {
         if self.random.once_in(6) {
             match self.random.below(4) {
@@ -452,8 +489,9 @@ impl Program {
             4..=17 => self.setting(),
             18..=31 => self.triangles(T1X),
             32..=43 => self.triangles(T2X),
-            44..=51 => self.polyline(),
-            52..=57 => self.bending_line(),
+            44..=50 => self.polyline(),
+            51..=54 => self.bending_line(),
+            55..=57 => self.outlined_face(),
             _ => self.quiet_piece(),
         }
     }

@@ -1,5 +1,5 @@
-//! How often each refusal, each start of a line, and each situation of a
-//! figure comes over many seeds.
+//! How often each refusal, each start of a line, lines that tie, and each
+//! situation of a figure come over many seeds.
 
 use crate::generator::generate;
 use crate::printing::drawing_outcome;
@@ -16,22 +16,37 @@ pub struct Shares {
     pub shown: u64,
     /// Streams with a line that starts with a hop.
     pub hopped: u64,
+    /// Streams in which a line passes at the depth that a place starts with.
+    pub tied_with_start: u64,
+    /// Streams in which a line passes at equal depth over what was drawn.
+    pub tied_with_drawn: u64,
     count: u64,
     pub situations: Situations,
 }
 
 pub fn shares(first: u64, count: u64) -> Shares {
     let refusals = REFUSALS.iter().map(|number| (*number, 0)).collect();
-    let mut shares = Shares { refusals, too_long: 0, shown: 0, hopped: 0, count, situations: Situations::none() };
+    let mut shares = Shares {
+        refusals,
+        too_long: 0,
+        shown: 0,
+        hopped: 0,
+        tied_with_start: 0,
+        tied_with_drawn: 0,
+        count,
+        situations: Situations::none(),
+    };
     for seed in first..first + count {
         let bytes = generate(seed);
         match drawing_outcome(&bytes) {
             None => shares.too_long += 1,
-            Some((outcome, _)) => {
+            Some((outcome, picture)) => {
                 shares.add(outcome.refusal);
                 shares.shown += u64::from(starts(&bytes).shown);
                 shares.hopped += u64::from(starts(&bytes).hopped);
                 shares.situations.add(&bytes);
+                shares.tied_with_start += u64::from(picture.ties.with_start > 0);
+                shares.tied_with_drawn += u64::from(picture.ties.with_drawn > 0);
             }
         }
     }
@@ -50,7 +65,8 @@ impl Shares {
     pub fn text(&self) -> String {
         let rows: String = self.refusals.iter().map(|row| format!("refusal {} streams {}\n", row.0, row.1)).collect();
         let starts = format!("start visible streams {}\nhop streams {}\n", self.shown, self.hopped);
-        rows + &format!("too long streams {}\n", self.too_long) + &starts + &self.situations.text()
+        let ties = format!("tie with start streams {}\ntie with drawn streams {}\n", self.tied_with_start, self.tied_with_drawn);
+        rows + &format!("too long streams {}\n", self.too_long) + &starts + &ties + &self.situations.text()
     }
 
     /// Whether each refusal from 3 to 12 came, and each situation.
@@ -61,5 +77,10 @@ impl Shares {
     /// Whether both starts of a line came in a third of the streams.
     pub fn starts_often(&self) -> bool {
         3 * self.shown >= self.count && 3 * self.hopped >= self.count
+    }
+
+    /// Whether ties of both kinds came in a tenth of the streams.
+    pub fn ties_often(&self) -> bool {
+        10 * self.tied_with_start >= self.count && 10 * self.tied_with_drawn >= self.count
     }
 }

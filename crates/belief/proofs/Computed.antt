@@ -24,8 +24,8 @@ use Rattle.registers.specs.Refusal.{refusalOf}
 use Rattle.machine.specs.Offers.{nextIn, offersIn, offersAt, eachIn}
 use Rattle.chip.specs.Chip.{modeOf, wholeOffers, isCut, figureOffers}
 use Rattle.belief.specs.Belief.{offersOf, isAllOn, isSupposed, supposed}
-use Rattle.belief.specs.Worked.{scene}
-use Rattle.belief.specs.WorkedOrder.{farFirst, wideFaces, tiedLast, tiedFirst}
+use Rattle.belief.specs.Worked.{scene, outline}
+use Rattle.belief.specs.WorkedOrder.{farFirst, wideFaces, tiedLast, tiedFirst, farthestFace, farthestEdge}
 
 -- a run over so many places is such as demand 3 supposes
 abbrev pub Meets : List ℕ → ℕ → Type 0
@@ -41,6 +41,11 @@ pub record Computed : Type 0 where
   pub scene-1 : Offers scene 512 1 (offer Gouraud 1 0 200 10 ∷ offer Gouraud 1 0 100 20 ∷ [])
   pub scene-2 : Offers scene 512 2 (offer Gouraud 2 0 200 10 ∷ offer Gouraud 2 0 100 20 ∷ offer Line2 2 0 300 5 ∷ [])
   pub scene-256 : Offers scene 512 256 (offer Gouraud 0 1 100 20 ∷ offer Line2 256 0 400 15 ∷ [])
+  pub outline-meets : Meets outline 512
+  pub outline-0 : Offers outline 512 0 (offer Gouraud 0 0 100 20 ∷ offer Line2 0 0 300 20 ∷ offer Line2 0 0 400 20 ∷ [])
+  pub outline-1 : Offers outline 512 1 (offer Gouraud 1 0 100 20 ∷ offer Line2 1 0 300 20 ∷ offer Line2 1 0 300 20 ∷ offer Gouraud 1 0 200 20 ∷ [])
+  pub outline-2 : Offers outline 512 2 (offer Gouraud 2 0 100 20 ∷ offer Gouraud 2 0 200 20 ∷ [])
+  pub outline-6 : Offers outline 512 6 (offer Line2 6 0 500 65535 ∷ [])
   pub far-first-meets : Meets farFirst 512
   pub far-first-1 : Offers farFirst 512 1 (offer Gouraud 1 0 100 20 ∷ offer Gouraud 1 0 200 10 ∷ [])
   pub far-first-2 : Offers farFirst 512 2 (offer Gouraud 2 0 100 20 ∷ offer Gouraud 2 0 200 10 ∷ offer Line2 2 0 300 5 ∷ [])
@@ -51,9 +56,13 @@ pub record Computed : Type 0 where
   pub tied-last-1 : Offers tiedLast 512 1 (offer Gouraud 1 0 100 20 ∷ offer Gouraud 1 0 200 20 ∷ [])
   pub tied-first-meets : Meets tiedFirst 512
   pub tied-first-1 : Offers tiedFirst 512 1 (offer Gouraud 1 0 200 20 ∷ offer Gouraud 1 0 100 20 ∷ [])
+  pub farthest-face-meets : Meets farthestFace 512
+  pub farthest-face-6 : Offers farthestFace 512 6 (offer Gouraud 6 0 500 65535 ∷ [])
+  pub farthest-edge-meets : Meets farthestEdge 512
+  pub farthest-edge-6 : Offers farthestEdge 512 6 (offer Line2 6 0 500 65535 ∷ [])
 
 pub computed : Computed
-unfolding scene farFirst wideFaces tiedLast tiedFirst isAllOn isSupposed eachIn nextIn refusalOf inBounds frameFits modesFit windowFits vertexFits figureFits valuesFit parkedFits initAllowed effectOf parmOf coordinateOf coordinateCompletes after completedBy shapeOf grownOf completes decode wordOf subcommandOf settings lineOf offersIn offersAt modeOf wholeOffers isCut figureOffers placeOf rowsOf inMemory inWindow offered keep spans there plusOf minusOf closed inside covers mixed shade pixelAt pixelOffers triangleOffers larger smaller xLeads sideAt xAt yAt numberAt shadeOffers segmentOffers
+unfolding scene outline farFirst wideFaces tiedLast tiedFirst farthestFace farthestEdge isAllOn isSupposed eachIn nextIn refusalOf inBounds frameFits modesFit windowFits vertexFits figureFits valuesFit parkedFits initAllowed effectOf parmOf coordinateOf coordinateCompletes after completedBy shapeOf grownOf completes decode wordOf subcommandOf settings lineOf offersIn offersAt modeOf wholeOffers isCut figureOffers placeOf rowsOf inMemory inWindow offered keep spans there plusOf minusOf closed inside covers mixed shade pixelAt pixelOffers triangleOffers larger smaller xLeads sideAt xAt yAt numberAt shadeOffers segmentOffers
 computed =
     record {
       scene-meets = refl;
@@ -61,6 +70,11 @@ computed =
       scene-1 = refl;
       scene-2 = refl;
       scene-256 = refl;
+      outline-meets = refl;
+      outline-0 = refl;
+      outline-1 = refl;
+      outline-2 = refl;
+      outline-6 = refl;
       far-first-meets = refl;
       far-first-1 = refl;
       far-first-2 = refl;
@@ -71,4 +85,8 @@ computed =
       tied-last-1 = refl;
       tied-first-meets = refl;
       tied-first-1 = refl;
+      farthest-face-meets = refl;
+      farthest-face-6 = refl;
+      farthest-edge-meets = refl;
+      farthest-edge-6 = refl;
     }

@@ -1,17 +1,18 @@
 -- What stands at a place in the end does not depend on the order of its offers, nor on any other place. The least of some depths is the same in
--- any order, and where no two share a depth the earliest offer of that depth is the only one. Assumes nothing.
+-- any order, and where no two share a depth the earliest offer of that depth, and the last line's, is the only one. Assumes nothing.
 use mathlib.Core.Path.{_≡_, refl, sym, ap, ap₂, _∙_}
 use mathlib.Core.Logic.{_≢_, ∥∥₁-elim}
 use mathlib.Core.HLevel.{¬-prop}
-use mathlib.Core.Bool.{Bool, true, false, cond}
-use mathlib.Core.List.{List, [], _∷_, map, Perm, List·Permᴰ, List·Permᴰ·nil, List·Permᴰ·cons, List·Permᴰ·swap, List·Permᴰ·trans, Permᴰ·pairwise, Pairwise·cons, mem-cons-self}
+use mathlib.Core.Bool.{Bool, true, false, cond, _&&_}
+use mathlib.Core.List.{List, [], _∷_, map, List·Mem, Perm, Perm·cons, Perm·pairwise, List·Permᴰ, List·Permᴰ·nil, List·Permᴰ·cons, List·Permᴰ·swap, List·Permᴰ·trans, Permᴰ·pairwise, Pairwise, Pairwise·cons, Pairwise·of-cons, Pairwise·of-map′, Pairwise·map′, mem-cons-self, mem-cons-of-mem}
 use Prim.Native.Nat.{ℕ, min}
 use native.Mathlib.Nat.{ℕ-set}
 use native.Mathlib.Omega.{arith}
 use lib.Dec.{eqb, ltb}
 use lib.ListN.{length}
-use borrow.Author.Tests.{eqb-true}
+use borrow.Author.Tests.{ltb-false, eqb-true, ne-eqb}
 use Rattle.picture.specs.Offer.{Offer}
+use Rattle.picture.specs.Picture.{isEdge}
 use Rattle.picture.specs.Cell.{Cell}
 use Rattle.registers.specs.declared.Registers.{Registers}
 use Rattle.registers.specs.declared.word.Word.{Word}
@@ -24,8 +25,9 @@ use Rattle.machine.proofs.Offers.{all-cell}
 use Rattle.chip.specs.Chip.{chip}
 use Rattle.chip.specs.Demands.{Ended}
 use Rattle.chip.proofs.Laws.{inside}
-use Rattle.belief.specs.Belief.{wordsTaken, offersOf, least, earliest, intensity, Believable, AfterCalls}
-use Rattle.belief.specs.Order.{SameThere, leftBy, AfterBoth, numbersOf, Apart, Reordered, Agrees, AnyOrder, AlikeAt, NoOtherPlace}
+use Rattle.belief.specs.Belief.{wordsTaken, offersOf, least, earliest, lastLine, unlined, intensity, Believable, AfterCalls}
+use Rattle.belief.specs.Order.{SameThere, leftBy, AfterBoth, numbersOf, Drawn, drawnOf, Apart, Reordered, Agrees, AnyOrder, AlikeAt, NoOtherPlace}
+use Rattle.belief.proofs.Ends.{least-low}
 use Rattle.belief.proofs.Demand3.{stream-left, calls-leave, demand-3}
 
 -- ---- the least and the earliest, told by the offers' numbers alone
@@ -47,6 +49,25 @@ earliest-in : (d : ℕ) (os : List Offer) → earliest d os ≡ earliestIn d (ma
 unfolding earliest earliestIn
 earliest-in d [] = refl
 earliest-in d (o ∷ os) = ap (λ (r : ℕ). cond (eqb (o .z) d) (o .i) r) (earliest-in d os)
+
+-- the last line's, told by the offers' numbers and whether a line brings them
+lastIn : ℕ → List Drawn → ℕ → ℕ
+lastIn d [] other = other
+lastIn d (o ∷ os) other = lastIn d os (cond (o .line && eqb (o .numbers .z) d) (o .numbers .i) other)
+
+last-in : (d : ℕ) (os : List Offer) (other : ℕ) → lastLine d os other ≡ lastIn d (map drawnOf os) other
+unfolding lastLine lastIn
+last-in d [] other = refl
+last-in d (o ∷ os) other = last-in d os (cond (isEdge (o .kind) && eqb (o .z) d) (o .i) other)
+
+-- no two share a depth, whether lines bring them or not
+abbrev ApartDrawn : List Drawn → Type 0
+ApartDrawn os = Pairwise (λ (o : Drawn) (p : Drawn). o .numbers .z ≢ p .numbers .z) os
+
+drawn-apart : (os : List Offer) → Apart (map numbersOf os) → ApartDrawn (map drawnOf os)
+drawn-apart os n =
+    Pairwise·map′ {S = λ (o : Drawn) (p : Drawn). o .numbers .z ≢ p .numbers .z} drawnOf (λ a b. ¬-prop) {l = os}
+    (Pairwise·of-map′ {S = λ (o : Cell) (p : Cell). o .z ≢ p .z} numbersOf {l = os} n)
 
 -- ---- the same up to order
 
@@ -81,29 +102,110 @@ earliest-perm (List·Permᴰ·swap {a = a} {b = b} {l = l} e f) (Pairwise·cons 
 earliest-perm (List·Permᴰ·trans p q) n d =
     earliest-perm p n d ∙ earliest-perm q (Permᴰ·pairwise {R = λ (t : Cell) (u : Cell). t .z ≢ u .z} (λ a b. ¬-prop) (λ x y k e. k (sym e)) p n) d
 
+last-perm : {ts us : List Drawn} → List·Permᴰ ts us → ApartDrawn ts → (d r : ℕ) → lastIn d ts r ≡ lastIn d us r
+unfolding lastIn
+last-perm List·Permᴰ·nil n d r = refl
+last-perm (List·Permᴰ·cons {a = a} {l₂ = us} e p) (Pairwise·cons h n) d r =
+    last-perm p n d (cond (a .line && eqb (a .numbers .z) d) (a .numbers .i) r)
+    ∙ ap (λ (t : Drawn). lastIn d us (cond (t .line && eqb (t .numbers .z) d) (t .numbers .i) r)) e
+last-perm (List·Permᴰ·swap {a = a} {b = b} {l = l} e f) (Pairwise·cons h n) d r =
+    ap (lastIn d l) (go (a .line) (eqb (a .numbers .z) d) (b .line) (eqb (b .numbers .z) d) refl refl)
+    ∙ ap₂ (λ (t u : Drawn). lastIn d l (cond (u .line && eqb (u .numbers .z) d) (u .numbers .i) (cond (t .line && eqb (t .numbers .z) d) (t .numbers .i) r))) f e
+  where
+    go : (k p m q : Bool) → eqb (a .numbers .z) d ≡ p → eqb (b .numbers .z) d ≡ q
+        → cond (m && q) (b .numbers .i) (cond (k && p) (a .numbers .i) r) ≡ cond (k && p) (a .numbers .i) (cond (m && q) (b .numbers .i) r)
+    go true true true true x y = absurd (h b mem-cons-self (eqb-true _ _ x ∙ sym (eqb-true _ _ y)))
+    go true true true false x y = refl
+    go true true false q x y = refl
+    go true false m q x y = refl
+    go false p m q x y = refl
+last-perm (List·Permᴰ·trans p q) n d r =
+    last-perm p n d r
+    ∙ last-perm q (Permᴰ·pairwise {R = λ (t : Drawn) (u : Drawn). t .numbers .z ≢ u .numbers .z} (λ a b. ¬-prop) (λ x y k e. k (sym e)) p n) d r
+
+-- ---- where no two share a depth, the last line's tells no more than the earliest's
+
+-- a depth that none has
+none-last : (d : ℕ) (os : List Offer) (r : ℕ) → ((t : Cell) → List·Mem t (map numbersOf os) → d ≢ t .z) → lastLine d os r ≡ r
+unfolding lastLine
+none-last d [] r h = refl
+none-last d (o ∷ os) r h = ap (lastLine d os) (go (isEdge (o .kind))) ∙ none-last d os r (λ t u. h t (mem-cons-of-mem (numbersOf o) u))
+  where
+    go : (b : Bool) → cond (b && eqb (o .z) d) (o .i) r ≡ r
+    go true = rw (ne-eqb (o .z) d (λ e. h (numbersOf o) mem-cons-self (sym e)))
+    go false = refl
+
+-- a depth that one may have
+lone-last : (d : ℕ) (os : List Offer) → Apart (map numbersOf os) → lastLine d os (earliest d os) ≡ earliest d os
+unfolding lastLine earliest
+lone-last d [] n = refl
+lone-last d (o ∷ os) (Pairwise·cons h n) = go (isEdge (o .kind)) (eqb (o .z) d) refl (lone-last d os n)
+  where
+    go : (k b : Bool) → eqb (o .z) d ≡ b → lastLine d os (earliest d os) ≡ earliest d os
+        → lastLine d os (cond (k && b) (o .i) (cond b (o .i) (earliest d os))) ≡ cond b (o .i) (earliest d os)
+    go true true e rest = none-last d os (o .i) (λ t u q. h t u (eqb-true _ _ e ∙ q))
+    go false true e rest = none-last d os (o .i) (λ t u q. h t u (eqb-true _ _ e ∙ q))
+    go true false e rest = rest
+    go false false e rest = rest
+
+-- and none has the starting depth: no line is asked
+lone-shown : (c : Cell) (os : List Offer) → Apart (c ∷ map numbersOf os) → intensity (least (c .z) os) c os ≡ unlined (least (c .z) os) c os
+unfolding intensity unlined
+lone-shown c os (Pairwise·cons h n) = go (ltb (least (c .z) os) (c .z)) refl
+  where
+    go : (b : Bool) → ltb (least (c .z) os) (c .z) ≡ b
+        → lastLine (least (c .z) os) os (cond b (earliest (least (c .z) os) os) (c .i)) ≡ cond b (earliest (least (c .z) os) os) (c .i)
+    go true e = lone-last (least (c .z) os) os n
+    go false e =
+        let same : least (c .z) os ≡ c .z = omega (arith, least-low (c .z) os, ltb-false (least (c .z) os) (c .z) e) in
+        none-last (least (c .z) os) os (c .i) (λ t u q. h t u (sym same ∙ q))
+
+-- ---- offers of the same numbers up to order
+
 module _ (os us : List Offer) (same : Perm (map numbersOf os) (map numbersOf us)) where
   least-any : (z : ℕ) → least z os ≡ least z us
   least-any z = least-in z os ∙ ∥∥₁-elim same (ℕ-set _ _) (λ q. least-perm q z) ∙ sym (least-in z us)
 
-  shown-any : (c : Cell) → Apart (map numbersOf os) → intensity (least (c .z) os) c os ≡ intensity (least (c .z) us) c us
-  unfolding intensity
-  shown-any c apart =
+  unlined-any : (c : Cell) → Apart (map numbersOf os) → unlined (least (c .z) os) c os ≡ unlined (least (c .z) us) c us
+  unfolding unlined
+  unlined-any c apart =
       let d = least (c .z) us in
       ap (λ (k : ℕ). cond (ltb k (c .z)) (earliest k os) (c .i)) (least-any (c .z))
       ∙ ap (λ (k : ℕ). cond (ltb d (c .z)) k (c .i)) (earliest-in d os ∙ ∥∥₁-elim same (ℕ-set _ _) (λ q. earliest-perm q apart d) ∙ sym (earliest-in d us))
 
+  -- none has the starting depth
+  shown-any : (c : Cell) → Apart (c ∷ map numbersOf os) → intensity (least (c .z) os) c os ≡ intensity (least (c .z) us) c us
+  shown-any c apart =
+      lone-shown c os apart
+      ∙ unlined-any c (Pairwise·of-cons apart)
+      ∙ sym (lone-shown c us (Perm·pairwise {R = λ (t : Cell) (u : Cell). t .z ≢ u .z} (λ a b. ¬-prop) (λ x y k e. k (sym e)) (Perm·cons c same) apart))
+
+  -- lines bring the same of them
+  drawn-any : (c : Cell) → Apart (map numbersOf os) → Perm (map drawnOf os) (map drawnOf us)
+      → intensity (least (c .z) os) c os ≡ intensity (least (c .z) us) c us
+  unfolding intensity
+  drawn-any c apart lines =
+      let d = least (c .z) us in
+      ap (λ (k : ℕ). lastLine k os (unlined (least (c .z) os) c os)) (least-any (c .z))
+      ∙ ap (lastLine d os) (unlined-any c apart)
+      ∙ last-in d os (unlined d c us)
+      ∙ ∥∥₁-elim lines (ℕ-set _ _) (λ q. last-perm q (drawn-apart os apart) d (unlined d c us))
+      ∙ sym (last-in d us (unlined d c us))
+
 -- ---- two runs
 
 -- of two runs of which demand 3 holds
-agrees : (ws vs : List Word) (m n left other : Memories) (at : ℕ) → Believable ws m left → Believable vs n other → Reordered ws vs m n at → Agrees ws m at left other
+agrees : (ws vs : List Word) (m n left other : Memories) (at : ℕ) → Believable ws m left → Believable vs n other → Reordered ws vs m n at → Agrees ws vs m n at left other
 agrees ws vs m n left other at b c r =
     let p = b (r .one) at in
     let q = c (r .other) at in
     let os = offersOf (length (m .i)) (length (m .z)) ws at in
     let us = offersOf (length (n .i)) (length (n .z)) vs at in
+    let end = ap (λ (k : Cell). intensity (least (k .z) us) k us) (r .start) ∙ sym (q .shown) in
     record {
       depth = p .depth ∙ least-any os us (r .same) (cellIn m at .z) ∙ ap (λ (k : Cell). least (k .z) us) (r .start) ∙ sym (q .depth);
-      shown = λ apart. p .shown ∙ shown-any os us (r .same) (cellIn m at) apart ∙ ap (λ (k : Cell). intensity (least (k .z) us) k us) (r .start) ∙ sym (q .shown);
+      shown = λ apart. p .shown ∙ shown-any os us (r .same) (cellIn m at) apart ∙ end;
+      drawn = λ apart lines. p .shown ∙ drawn-any os us (r .same) (cellIn m at) apart lines ∙ end;
     }
 
 -- calls of `step` leave what their words leave, so what is so of two runs of words is so of both rows of calls
@@ -113,7 +215,7 @@ both-leave So r numbers others m n so =
     calls-leave (λ left. AfterCalls (So left) r others n) numbers r m (calls-leave (So (leftBy r (map wordOf numbers) m)) others r n so)
 
 words-agree : (numbers others : List ℕ) (m n : Memories) (at : ℕ) → Reordered (map wordOf numbers) (map wordOf others) m n at
-    → Agrees (map wordOf numbers) m at (leftBy resetOf (map wordOf numbers) m) (leftBy resetOf (map wordOf others) n)
+    → Agrees (map wordOf numbers) (map wordOf others) m n at (leftBy resetOf (map wordOf numbers) m) (leftBy resetOf (map wordOf others) n)
 words-agree numbers others m n at =
     agrees (map wordOf numbers) (map wordOf others) m n (leftBy resetOf (map wordOf numbers) m) (leftBy resetOf (map wordOf others) n) at
     (demand-3 .words numbers m) (demand-3 .words others n)
@@ -124,7 +226,7 @@ any-order =
     record {
       words = words-agree;
       calls = λ numbers others m n at r.
-          both-leave (Agrees (map wordOf numbers) m at) resetOf numbers others m n (words-agree numbers others m n at r);
+          both-leave (Agrees (map wordOf numbers) (map wordOf others) m n at) resetOf numbers others m n (words-agree numbers others m n at r);
       streams = λ bytes others i z j y o p at.
           agrees (wordsTaken (length i) (length z) bytes) (wordsTaken (length j) (length y) others) (memories i z) (memories j y)
           (memories (o .i-left) (o .z-left)) (memories (p .i-left) (p .z-left)) at (demand-3 .streams bytes i z o) (demand-3 .streams others j y p);

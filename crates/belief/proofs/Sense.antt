@@ -1,13 +1,17 @@
--- What `least`, `earliest` and `intensity` mean, in the order's own words: no depth offered is below the least, and where it is below the
--- starting depth one of the offers has it, the earliest of which gives the intensity. Assumes nothing.
+-- What `least`, `earliest`, `lastLine` and `intensity` mean, in the order's own words: no depth offered is below the least; where a line offered
+-- it, the last such line gives the intensity; where none did and it is below the starting depth, one of the offers has it, the earliest of
+-- which gives the intensity. Assumes nothing.
 use mathlib.Core.Path.{_≡_, refl, sym, ap, _∙_, subst}
-use mathlib.Core.Logic.{_≢_, ⊎-elim}
-use mathlib.Core.List.{List, [], _∷_, _++_, List·Memᴰ, List·Memᴰ·cases-cons, List·Memᴰ·not-nil}
+use mathlib.Core.Logic.{_≢_, _⊎_, inl, inr, ⊎-elim}
+use mathlib.Core.Bool.{Bool, true, false, cond, _&&_, true≢false}
+use mathlib.Core.List.{List, [], _∷_, _++_, List·Memᴰ, List·Memᴰ·head, List·Memᴰ·tail, List·Memᴰ·cases-cons, List·Memᴰ·not-nil}
 use Prim.Native.Nat.{ℕ, min, _≤_, _<_}
 use native.Mathlib.Decide.{ℕ-discrete}
 use native.Mathlib.Omega.{arith}
-use borrow.Author.Tests.{lt-ltb, le-ltb, eq-eqb, ne-eqb}
+use lib.Dec.{eqb}
+use borrow.Author.Tests.{lt-ltb, le-ltb, eqb-true, eqb-false, eq-eqb, ne-eqb}
 use Rattle.picture.specs.Offer.{Offer}
+use Rattle.picture.specs.Picture.{isEdge}
 use Rattle.picture.specs.Cell.{Cell, there}
 use Rattle.registers.specs.declared.Registers.{Registers}
 use Rattle.registers.specs.declared.word.Word.{Word}
@@ -15,7 +19,7 @@ use Rattle.registers.proofs.Refusals.{accepted-when}
 use Rattle.machine.specs.Offers.{nextIn, offersAt}
 use Rattle.machine.proofs.Offers.{offers-refused}
 use Rattle.chip.specs.Chip.{chip}
-use Rattle.belief.specs.Belief.{least, earliest, intensity, Believed}
+use Rattle.belief.specs.Belief.{least, earliest, lastLine, unlined, intensity, Believed}
 use Rattle.belief.proofs.Ends.{least-low}
 
 -- no depth offered is below the least
@@ -64,15 +68,85 @@ least-offered z (o ∷ os) h = go (ℕ-discrete (o .z) d) (least-offered (min z 
         record { before = []; offer = o; rest = os; among = refl; has = e; none = λ p u. absurd (List·Memᴰ·not-nil u); gives = rw (eq-eqb (o .z) d e) }
     go (no e) rest = let low = least-low (min z (o .z)) os in first-later d o os e (rest (omega (arith, h, low, e)))
 
--- the intensity, told by whether the depth is below the starting depth
-module _ (depth : ℕ) (start : Cell) (os : List Offer) where
+-- a line has a depth
+abbrev pub Lines : ℕ → Offer → Type 0
+Lines depth o = (isEdge (o .kind) ≡ true) × (o .z ≡ depth)
+
+-- no line has it
+abbrev pub Unlined : ℕ → List Offer → Type 0
+Unlined depth os = (o : Offer) → List·Memᴰ o os → Lines depth o → ⊥
+
+-- a line with a depth, after which none has it; the last line's intensity is its
+pub record Last (depth : ℕ) (os : List Offer) : Type 0 where
+  pub before : List Offer
+  pub offer : Offer
+  pub rest : List Offer
+  pub among : os ≡ before ++ (offer ∷ rest)
+  pub has : Lines depth offer
+  pub none : Unlined depth rest
+  pub gives : (other : ℕ) → lastLine depth os other ≡ offer .i
+
+-- without one the intensity is another's
+unlined-gives : (depth : ℕ) (os : List Offer) → Unlined depth os → (other : ℕ) → lastLine depth os other ≡ other
+unfolding lastLine
+unlined-gives depth [] none other = refl
+unlined-gives depth (o ∷ os) none other =
+    ap (lastLine depth os) (go (isEdge (o .kind)) (eqb (o .z) depth) refl refl) ∙ unlined-gives depth os (λ p u. none p (List·Memᴰ·tail u)) other
+  where
+    go : (k b : Bool) → isEdge (o .kind) ≡ k → eqb (o .z) depth ≡ b → cond (k && b) (o .i) other ≡ other
+    go true true e f = absurd (none o (List·Memᴰ·head refl) (e, eqb-true _ _ f))
+    go true false e f = refl
+    go false b e f = refl
+
+-- a depth has a last line, or none
+pub last-or-none : (depth : ℕ) (os : List Offer) → Last depth os ⊎ Unlined depth os
+unfolding lastLine
+last-or-none depth [] = inr (λ o u. absurd (List·Memᴰ·not-nil u))
+last-or-none depth (o ∷ os) = ⊎-elim (λ f. inl (later f)) (λ none. go none (isEdge (o .kind)) (eqb (o .z) depth) refl refl) (last-or-none depth os)
+  where
+    later : Last depth os → Last depth (o ∷ os)
+    later f =
+        record {
+          before = o ∷ f .before;
+          offer = f .offer;
+          rest = f .rest;
+          among = ap (λ (us : List Offer). o ∷ us) (f .among);
+          has = f .has;
+          none = f .none;
+          gives = λ other. f .gives (cond (isEdge (o .kind) && eqb (o .z) depth) (o .i) other);
+        }
+
+    not-front : Unlined depth os → (Lines depth o → ⊥) → Unlined depth (o ∷ os)
+    not-front none h p u = ⊎-elim (λ same. subst (λ (q : Offer). Lines depth q → ⊥) (sym same) h) (none p) (List·Memᴰ·cases-cons u)
+
+    go : Unlined depth os → (k b : Bool) → isEdge (o .kind) ≡ k → eqb (o .z) depth ≡ b → Last depth (o ∷ os) ⊎ Unlined depth (o ∷ os)
+    go none true true e f =
+        inl
+        (record {
+          before = [];
+          offer = o;
+          rest = os;
+          among = refl;
+          has = (e, eqb-true _ _ f);
+          none = none;
+          gives = λ other. rw (e, f) (unlined-gives depth os none (o .i));
+        })
+    go none true false e f = inr (not-front none (λ h. eqb-false (o .z) depth f (h .1)))
+    go none false b e f = inr (not-front none (λ h. true≢false (sym (h .0) ∙ e)))
+
+-- the intensity that no line brings, told by whether the depth is below the starting depth
+module _ (depth : ℕ) (start : Cell) (os : List Offer) (none : Unlined depth os) where
   below-start : depth < start .z → intensity depth start os ≡ earliest depth os
-  unfolding intensity
-  below-start h = rw (lt-ltb _ _ h)
+  unfolding intensity unlined
+  below-start h = unlined-gives depth os none _ ∙ rw (lt-ltb _ _ h)
 
   not-below : start .z ≤ depth → intensity depth start os ≡ start .i
-  unfolding intensity
-  not-below h = rw (le-ltb _ _ h)
+  unfolding intensity unlined
+  not-below h = unlined-gives depth os none _ ∙ rw (le-ltb _ _ h)
+
+lined-gives : (depth : ℕ) (start : Cell) (os : List Offer) (f : Last depth os) → intensity depth start os ≡ f .offer .i
+unfolding intensity
+lined-gives depth start os f = f .gives (unlined depth start os)
 
 -- of a place that ends as is believed
 module _ {start end : Cell} {os : List Offer} (b : Believed start os end) where
@@ -87,18 +161,22 @@ module _ {start end : Cell} {os : List Offer} (b : Believed start os end) where
   by-depth : end .i ≡ intensity (end .z) start os
   by-depth = b .shown ∙ ap (λ (d : ℕ). intensity d start os) (sym (b .depth))
 
+  -- where a line has the depth that it ends with, the starting depth too, the last such line gives the intensity
+  pub ends-lined : (f : Last (end .z) os) → end .i ≡ f .offer .i
+  ends-lined f = by-depth ∙ lined-gives (end .z) start os f
+
   module _ (h : end .z < start .z) where
     -- below the starting depth, an offer has the depth that it ends with
     pub ends-offered : First (end .z) os
     ends-offered = subst (λ (d : ℕ). First d os) (sym (b .depth)) (least-offered (start .z) os (rw (b .depth) at h))
 
-    -- and the earliest that has it gives the intensity
-    pub ends-earliest : end .i ≡ ends-offered .offer .i
-    ends-earliest = by-depth ∙ below-start (end .z) start os h ∙ ends-offered .gives
+    -- and where no line has it, the earliest that has it gives the intensity
+    pub ends-earliest : Unlined (end .z) os → end .i ≡ ends-offered .offer .i
+    ends-earliest none = by-depth ∙ below-start (end .z) start os none h ∙ ends-offered .gives
 
   -- otherwise the intensity is unchanged
-  pub ends-unchanged : start .z ≤ end .z → end .i ≡ start .i
-  ends-unchanged h = by-depth ∙ not-below (end .z) start os h
+  pub ends-unchanged : Unlined (end .z) os → start .z ≤ end .z → end .i ≡ start .i
+  ends-unchanged none h = by-depth ∙ not-below (end .z) start os none h
 
 -- ---- memories of unlike length
 

@@ -1,5 +1,6 @@
 -- What an operator believes of the picture (the order, demand 3): after a run of words from reset over the same two memories each place has
--- the least of its starting depth and all depths that the words offered there, with the intensity of the offer that brought it.
+-- the least of its starting depth and all depths that the words offered there, with the intensity of the last line that offered it or, where
+-- none did, of the offer that brought it.
 use mathlib.Core.Path.{_≡_}
 use mathlib.Core.Bool.{Bool, true, cond, _&&_}
 use mathlib.Core.List.{List, [], _∷_, map}
@@ -8,6 +9,7 @@ use lib.Dec.{ltb, eqb}
 use lib.ListN.{length}
 use Rattle.picture.specs.declared.Pen.{Pen}
 use Rattle.picture.specs.Offer.{Offer}
+use Rattle.picture.specs.Picture.{isEdge}
 use Rattle.picture.specs.Cell.{Cell}
 use Rattle.registers.specs.declared.Registers.{Registers}
 use Rattle.registers.specs.declared.word.Word.{Word}
@@ -62,9 +64,18 @@ unfoldable pub earliest : ℕ → List Offer → ℕ
 earliest depth [] = 0
 earliest depth (o ∷ os) = cond (eqb (o .z) depth) (o .i) (earliest depth os)
 
--- the intensity with the least depth: if that is below the starting depth, that of the earliest offer with it; otherwise unchanged
+-- the intensity of the last line that offered a depth; another one, where none did
+unfoldable pub lastLine : ℕ → List Offer → ℕ → ℕ
+lastLine depth [] other = other
+lastLine depth (o ∷ os) other = lastLine depth os (cond (isEdge (o .kind) && eqb (o .z) depth) (o .i) other)
+
+-- the intensity that goes with a depth if no line offered it: below the starting depth, that of the earliest offer with it; otherwise unchanged
+unfoldable pub unlined : ℕ → Cell → List Offer → ℕ
+unlined depth start os = cond (ltb depth (start .z)) (earliest depth os) (start .i)
+
+-- the intensity that goes with the least depth, be it the starting depth: if a line offered it, the last such line's (document 02, [10])
 unfoldable pub intensity : ℕ → Cell → List Offer → ℕ
-intensity depth start os = cond (ltb depth (start .z)) (earliest depth os) (start .i)
+intensity depth start os = lastLine depth os (unlined depth start os)
 
 -- how a place ends that started with two numbers and was offered others
 pub record Believed (start : Cell) (os : List Offer) (end : Cell) : Type 0 where

@@ -1,11 +1,13 @@
--- The picture does not depend on the drawing order, and what words leave at a place depends on no other place (document 02, [4]).
+-- The picture does not depend on the drawing order, and what words leave at a place depends on no other place (document 02, [4]). Since a
+-- line shows at the starting depth and a face does not, the intensity asks for a little more than it did (document 02, [10]).
 use mathlib.Core.Path.{_≡_}
 use mathlib.Core.Logic.{_≢_}
-use mathlib.Core.Bool.{true}
-use mathlib.Core.List.{List, map, Perm, Pairwise}
+use mathlib.Core.Bool.{Bool, true}
+use mathlib.Core.List.{List, _∷_, map, Perm, Pairwise}
 use Prim.Native.Nat.{ℕ}
 use lib.ListN.{length}
 use Rattle.picture.specs.Offer.{Offer}
+use Rattle.picture.specs.Picture.{isEdge}
 use Rattle.picture.specs.Cell.{Cell, cell}
 use Rattle.registers.specs.declared.Registers.{Registers}
 use Rattle.registers.specs.declared.word.Word.{Word}
@@ -42,7 +44,19 @@ numbersOf o = cell (o .i) (o .z)
 abbrev pub offeredAt : List Word → Memories → ℕ → List Cell
 offeredAt ws m at = map numbersOf (offersOf (length (m .i)) (length (m .z)) ws at)
 
--- no two of them share a depth
+-- the two numbers of an offer, and whether a line brings them
+pub record Drawn : Type 0 where
+  pub line : Bool
+  pub numbers : Cell
+
+abbrev pub drawnOf : Offer → Drawn
+drawnOf o = record { line = isEdge (o .kind); numbers = numbersOf o }
+
+-- those that words from reset offer at a place
+abbrev pub drawnAt : List Word → Memories → ℕ → List Drawn
+drawnAt ws m at = map drawnOf (offersOf (length (m .i)) (length (m .z)) ws at)
+
+-- no two of some pairs of numbers share a depth
 abbrev pub Apart : List Cell → Type 0
 Apart os = Pairwise (λ (o : Cell) (p : Cell). o .z ≢ p .z) os
 
@@ -53,23 +67,27 @@ pub record Reordered (ws vs : List Word) (m n : Memories) (at : ℕ) : Type 0 wh
   pub start : SameThere at m n
   pub same : Perm (offeredAt ws m at) (offeredAt vs n at)
 
--- the place ends with equal depth, and with equal intensity if no two of the offers there share a depth
-pub record Agrees (ws : List Word) (m : Memories) (at : ℕ) (left other : Memories) : Type 0 where
+-- the place ends with equal depth
+pub record Agrees (ws vs : List Word) (m n : Memories) (at : ℕ) (left other : Memories) : Type 0 where
   pub depth : cellIn left at .z ≡ cellIn other at .z
-  pub shown : Apart (offeredAt ws m at) → cellIn left at .i ≡ cellIn other at .i
+  -- and with equal intensity, if no two of the offers there share a depth and none has the starting depth
+  pub shown : Apart (cellIn m at ∷ offeredAt ws m at) → cellIn left at .i ≡ cellIn other at .i
+  -- or if no two share a depth and lines bring the same of them, whatever the starting depth
+  pub drawn : Apart (offeredAt ws m at) → Perm (drawnAt ws m at) (drawnAt vs n at) → cellIn left at .i ≡ cellIn other at .i
 
 -- so it is, if the two runs were such
 pub record AnyOrder : Type 0 where
   -- of any words from reset, a refused one among them changing nothing
   pub words : (numbers others : List ℕ) (m n : Memories) (at : ℕ) → Reordered (map wordOf numbers) (map wordOf others) m n at
-      → Agrees (map wordOf numbers) m at (leftBy resetOf (map wordOf numbers) m) (leftBy resetOf (map wordOf others) n)
+      → Agrees (map wordOf numbers) (map wordOf others) m n at (leftBy resetOf (map wordOf numbers) m) (leftBy resetOf (map wordOf others) n)
   -- of the calls of `step` that they are
   pub calls : (numbers others : List ℕ) (m n : Memories) (at : ℕ) → Reordered (map wordOf numbers) (map wordOf others) m n at
-      → AfterBoth (Agrees (map wordOf numbers) m at) resetOf numbers others m n
+      → AfterBoth (Agrees (map wordOf numbers) (map wordOf others) m n at) resetOf numbers others m n
   -- of any packed streams, and each outcome that the promise of `run` allows
   pub streams : (bytes others i z j y : List ℕ) (o : Ended bytes i z) (p : Ended others j y) (at : ℕ)
       → Reordered (wordsTaken (length i) (length z) bytes) (wordsTaken (length j) (length y) others) (memories i z) (memories j y) at
-      → Agrees (wordsTaken (length i) (length z) bytes) (memories i z) at (memories (o .i-left) (o .z-left)) (memories (p .i-left) (p .z-left))
+      → Agrees (wordsTaken (length i) (length z) bytes) (wordsTaken (length j) (length y) others) (memories i z) (memories j y) at
+      (memories (o .i-left) (o .z-left)) (memories (p .i-left) (p .z-left))
 
 -- ---- without any premise
 

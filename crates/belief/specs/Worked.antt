@@ -1,5 +1,5 @@
--- A run that is such as demand 3 supposes, over 512 places. It draws two faces that overlap and a mode 2 line across both, with a refused word
--- among its words, and goes on with another line length.
+-- Two runs that are such as demand 3 supposes, over 512 places. The scene has two faces that overlap and a mode 2 line across both, with a
+-- refused word among its words, and goes on with another line length. The outline has lines at the depth of what stands there.
 use mathlib.Core.Path.{_≡_}
 use mathlib.Core.Bool.{true}
 use mathlib.Core.List.{List, [], _∷_, _++_, map}
@@ -16,7 +16,7 @@ use Rattle.machine.specs.Offers.{allOf}
 use Rattle.chip.specs.Chip.{chip}
 use Rattle.belief.specs.Belief.{offersOf, supposed}
 
--- ---- its words, each told by its number
+-- ---- their words, each told by its number
 
 -- both write enables, depth test, line mode 2
 abbrev pub allOn : List ℕ
@@ -52,22 +52,46 @@ reserved = 0x70000 ∷ []
 unfoldable pub scene : List ℕ
 scene = init ++ nearFace ++ reserved ++ farFace ++ nearLine ++ initWide ++ point
 
--- ---- what it leaves
+-- a line on the far face, I 300 and then 400, and Z 20: (0, 0) to (1, 0) and back
+abbrev pub edgeLines : List ℕ
+edgeLines = 0x1012C ∷ 0x20014 ∷ 0x30000 ∷ 0x80000 ∷ 0xE000C ∷ 0xD0000 ∷ 0x40001 ∷ 0x10190 ∷ 0x40000 ∷ []
+
+-- the near face at the far one's depth, I 200 and Z 20
+abbrev pub tiedFace : List ℕ
+tiedFace = 0x100C8 ∷ 0x20014 ∷ 0x30000 ∷ 0x50001 ∷ 0x40005 ∷ 0x30002 ∷ 0x40001 ∷ []
+
+-- a line of one pixel as far as can be, I 500 and Z 65535: (6, 0)
+abbrev pub farthestLine : List ℕ
+farthestLine = 0x101F4 ∷ 0x2FFFF ∷ 0x30000 ∷ 0x80006 ∷ 0xE000C ∷ 0xD0000 ∷ 0x40006 ∷ []
+
+unfoldable pub outline : List ℕ
+outline = init ++ farFace ++ edgeLines ++ tiedFace ++ farthestLine
+
+-- ---- what they leave
 
 -- nothing is drawn yet, and all is far
 unfoldable pub blank : Memories
 blank = memories (replicate 512 0) (replicate 512 65535)
 
--- what the run offers at a place, and how the place ends
-pub record Owned (at : ℕ) (os : List Offer) (i z : ℕ) : Type 0 where
-  pub offers : offersOf 512 512 (map wordOf scene) at ≡ os
-  pub ends : cellIn (allOf (stepOf chip) resetOf (map wordOf scene) blank .memories) at ≡ cell i z
+-- what a run offers at a place, and how the place ends
+pub record Owned (numbers : List ℕ) (at : ℕ) (os : List Offer) (i z : ℕ) : Type 0 where
+  pub offers : offersOf 512 512 (map wordOf numbers) at ≡ os
+  pub ends : cellIn (allOf (stepOf chip) resetOf (map wordOf numbers) blank .memories) at ≡ cell i z
 
 pub record Worked : Type 0 where
   pub meets : supposed 512 512 (map wordOf scene) ≡ true
   -- each of the three owns a place
-  pub far-face : Owned 0 (offer Gouraud 0 0 100 20 ∷ []) 100 20
-  pub near-face : Owned 1 (offer Gouraud 1 0 200 10 ∷ offer Gouraud 1 0 100 20 ∷ []) 200 10
-  pub line : Owned 2 (offer Gouraud 2 0 200 10 ∷ offer Gouraud 2 0 100 20 ∷ offer Line2 2 0 300 5 ∷ []) 300 5
+  pub far-face : Owned scene 0 (offer Gouraud 0 0 100 20 ∷ []) 100 20
+  pub near-face : Owned scene 1 (offer Gouraud 1 0 200 10 ∷ offer Gouraud 1 0 100 20 ∷ []) 200 10
+  pub line : Owned scene 2 (offer Gouraud 2 0 200 10 ∷ offer Gouraud 2 0 100 20 ∷ offer Line2 2 0 300 5 ∷ []) 300 5
   -- (0, 1) was at the place where (256, 0) is now
-  pub after-init : Owned 256 (offer Gouraud 0 1 100 20 ∷ offer Line2 256 0 400 15 ∷ []) 400 15
+  pub after-init : Owned scene 256 (offer Gouraud 0 1 100 20 ∷ offer Line2 256 0 400 15 ∷ []) 400 15
+  pub outlined : supposed 512 512 (map wordOf outline) ≡ true
+  -- of a face and lines at its depth the last line shows, and
+  pub edge : Owned outline 0 (offer Gouraud 0 0 100 20 ∷ offer Line2 0 0 300 20 ∷ offer Line2 0 0 400 20 ∷ []) 400 20
+  -- stays over a face of that depth that comes later
+  pub edge-kept : Owned outline 1 (offer Gouraud 1 0 100 20 ∷ offer Line2 1 0 300 20 ∷ offer Line2 1 0 300 20 ∷ offer Gouraud 1 0 200 20 ∷ []) 300 20
+  -- of faces the first
+  pub face : Owned outline 2 (offer Gouraud 2 0 100 20 ∷ offer Gouraud 2 0 200 20 ∷ []) 100 20
+  -- a line shows at the starting depth
+  pub farthest : Owned outline 6 (offer Line2 6 0 500 65535 ∷ []) 500 65535

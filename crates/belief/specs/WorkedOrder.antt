@@ -1,5 +1,5 @@
--- The worked run of demand 3 with its faces in another order, in lines of another length too; and two faces that share a depth, so that the
--- premise about depths is seen to be needed.
+-- The worked run of demand 3 with its faces in another order, in lines of another length too; and runs that share a depth, with each other or
+-- with the start, so that the premises about depths are seen to be needed.
 use mathlib.Core.Path.{_≡_}
 use mathlib.Core.List.{List, [], _∷_, _++_, map}
 use Prim.Native.Nat.{ℕ}
@@ -10,7 +10,7 @@ use Rattle.registers.specs.Word.{wordOf}
 use Rattle.machine.specs.Machine.{Memories, memories}
 use Rattle.machine.specs.Touched.{cellIn}
 use Rattle.belief.specs.Order.{leftBy, offeredAt, Apart, Reordered}
-use Rattle.belief.specs.Worked.{init, initWide, nearFace, farFace, nearLine, point, scene, blank}
+use Rattle.belief.specs.Worked.{init, initWide, nearFace, farFace, nearLine, point, scene, tiedFace, farthestLine, blank}
 
 -- ---- the runs
 
@@ -26,16 +26,19 @@ wideFaces = initWide ++ farFace ++ nearFace
 unfoldable pub elsewhere : Memories
 elsewhere = memories (0 ∷ 0 ∷ 0 ∷ replicate 637 7) (65535 ∷ 65535 ∷ 65535 ∷ replicate 637 3)
 
--- the near face at the far one's depth, I 200 and Z 20
-abbrev pub tiedFace : List ℕ
-tiedFace = 0x100C8 ∷ 0x20014 ∷ 0x30000 ∷ 0x50001 ∷ 0x40005 ∷ 0x30002 ∷ 0x40001 ∷ []
-
--- both orders of it and the far face
+-- two faces of one depth, in both orders
 unfoldable pub tiedLast : List ℕ
 tiedLast = init ++ farFace ++ tiedFace
 
 unfoldable pub tiedFirst : List ℕ
 tiedFirst = init ++ tiedFace ++ farFace
+
+-- a face and a line of the same numbers at the starting depth, I 500 and Z 65535: (6, 0) (8, 0) (6, 2), and the pixel (6, 0)
+unfoldable pub farthestFace : List ℕ
+farthestFace = init ++ (0x101F4 ∷ 0x2FFFF ∷ 0x30000 ∷ 0x50006 ∷ 0x40008 ∷ 0x30002 ∷ 0x40006 ∷ [])
+
+unfoldable pub farthestEdge : List ℕ
+farthestEdge = init ++ farthestLine
 
 -- ---- what they leave
 
@@ -44,10 +47,10 @@ pub record Left (numbers : List ℕ) (m : Memories) (at : ℕ) (os : List Cell) 
   pub offers : offeredAt (map wordOf numbers) m at ≡ os
   pub ends : cellIn (leftBy resetOf (map wordOf numbers) m) at ≡ cell i z
 
--- the scene and another run have the same offers at a place up to order, no two of one depth, and both leave it so
+-- the scene and another run have the same offers at a place up to order, no two of one depth nor any of the starting depth, and both leave it so
 pub record Matched (others : List ℕ) (n : Memories) (at : ℕ) (os us : List Cell) (i z : ℕ) : Type 0 where
   pub reordered : Reordered (map wordOf scene) (map wordOf others) blank n at
-  pub apart : Apart (offeredAt (map wordOf scene) blank at)
+  pub apart : Apart (cellIn blank at ∷ offeredAt (map wordOf scene) blank at)
   pub one : Left scene blank at os i z
   pub other : Left others n at us i z
 
@@ -62,3 +65,8 @@ pub record WorkedOrder : Type 0 where
   pub shared : Apart (offeredAt (map wordOf tiedLast) blank 1) → ⊥
   pub tied-last : Left tiedLast blank 1 (cell 100 20 ∷ cell 200 20 ∷ []) 100 20
   pub tied-first : Left tiedFirst blank 1 (cell 200 20 ∷ cell 100 20 ∷ []) 200 20
+  -- nor where one has the starting depth, and a line brings it in one of the runs alone
+  pub farthest : Reordered (map wordOf farthestFace) (map wordOf farthestEdge) blank blank 6
+  pub alone : Apart (offeredAt (map wordOf farthestFace) blank 6)
+  pub farthest-face : Left farthestFace blank 6 (cell 500 65535 ∷ []) 0 65535
+  pub farthest-edge : Left farthestEdge blank 6 (cell 500 65535 ∷ []) 500 65535

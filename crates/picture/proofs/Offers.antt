@@ -1,5 +1,6 @@
 -- What is offered of a pixel. Assumes nothing.
 use mathlib.Core.Path.{_≡_, refl, sym, ap, _∙_}
+use mathlib.Core.Logic.{_≢_}
 use mathlib.Core.Bool.{Bool, true, false, cond, not, _&&_, _||_}
 use mathlib.Core.List.{List, [], _∷_}
 use Prim.Native.Nat.{ℕ, _+_, _≤_, _<_, min, max}
@@ -7,13 +8,14 @@ use native.Mathlib.Omega.{arith}
 use lib.ListN.{length, getD, set}
 use lib.Seq.{set-getD}
 use lib.Dec.{leb, ltb}
-use borrow.Author.Tests.{le-leb, leb-true, lt-ltb, ltb-true}
+use borrow.Author.Tests.{le-leb, leb-true, lt-ltb, le-ltb, ltb-true, eq-eqb, ne-eqb}
 use Rattle.picture.specs.declared.Pen.{Pen}
 use Rattle.picture.specs.declared.Kind.{Kind}
 use Rattle.picture.specs.declared.Kind.the-variants.{Line2}
+use Rattle.picture.specs.declared.Compared.the-variants.{Nearer, Equal, Farther}
 use Rattle.picture.specs.Place.{placeOf, rowsOf, inMemory}
 use Rattle.picture.specs.Offer.{Offer, offer, isMasked, inWindow, shows, offered, keep}
-use Rattle.picture.specs.Picture.{isDeep, passes, inPlanes, newI, newZ, Picture, picture, stepAt, step, drawn}
+use Rattle.picture.specs.Picture.{isDeep, comparedOf, wins, passes, inPlanes, newI, newZ, Picture, picture, stepAt, step, drawn}
 use Rattle.picture.specs.Draw.{placed, shown, seen}
 use Rattle.picture.proofs.Places.{both, place-below}
 use Rattle.picture.proofs.Fold.{drawn-passed}
@@ -95,9 +97,23 @@ module _ (pen : Pen) (l : List ℕ) (at : ℕ) where
   unfolding newZ
   keep-z kind z h = rw h (sym (set-getD l at 0))
 
+-- ---- how depths compare
+
+pub compared-nearer : (new old : ℕ) → new < old → comparedOf new old ≡ Nearer
+unfolding comparedOf
+compared-nearer new old h = rw (lt-ltb new old h)
+
+pub compared-equal : (new old : ℕ) → new ≡ old → comparedOf new old ≡ Equal
+unfolding comparedOf
+compared-equal new old e = rw (le-ltb new old (omega (arith, e)), eq-eqb new old e)
+
+pub compared-farther : (new old : ℕ) → old ≤ new → new ≢ old → comparedOf new old ≡ Farther
+unfolding comparedOf
+compared-farther new old h e = rw (le-ltb new old h, ne-eqb new old e)
+
 -- ---- whether a pixel passes
 
-pub passes-tested : (pen : Pen) (kind : Kind) (z old : ℕ) → pen .depth && isDeep kind ≡ true → passes pen kind z old ≡ ltb z old
+pub passes-tested : (pen : Pen) (kind : Kind) (z old : ℕ) → pen .depth && isDeep kind ≡ true → passes pen kind z old ≡ wins kind (comparedOf z old)
 unfolding passes
 passes-tested pen kind z old h = rw h
 

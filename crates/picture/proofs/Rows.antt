@@ -12,12 +12,14 @@ use lib.Dec.{ltb, eqb}
 use borrow.Author.Tests.{lt-ltb, le-ltb, ltb-true, ltb-false, eqb-true}
 use Rattle.picture.specs.declared.Pen.{Pen}
 use Rattle.picture.specs.declared.Kind.{Kind}
+use Rattle.picture.specs.declared.Compared.{Compared}
+use Rattle.picture.specs.declared.Compared.the-variants.{Nearer, Equal, Farther}
 use Rattle.picture.specs.declared.Carried.{Carried}
 use Rattle.picture.specs.Place.{placeOf, inMemory}
 use Rattle.picture.specs.Offer.{Offer, offer, isMasked, shows}
-use Rattle.picture.specs.Picture.{isDeep, passes, inPlanes, newI, newZ, Picture, picture, stepAt, step, drawn}
+use Rattle.picture.specs.Picture.{isDeep, comparedOf, isEdge, wins, passes, inPlanes, newI, newZ, Picture, picture, stepAt, step, drawn}
 use Rattle.picture.specs.Draw.{shown, seen, carriedTo, spanPixel, spanOffers}
-use Rattle.picture.specs.Loops.{Plain, nearerAt}
+use Rattle.picture.specs.Loops.{Plain, isNearer, nearerAt}
 use Rattle.picture.proofs.Places.{both}
 use Rattle.picture.proofs.Spans.{spans-stop, spans-none}
 
@@ -38,18 +40,24 @@ pub in-all-planes : (old new : ℕ) → new ≤ 65535 → inPlanes 65535 old new
 unfolding inPlanes
 in-all-planes old new h = rw (and-zero-r old, or-zero-l) (and-mask new 16 ∙ mod-eq-of-lt (omega arith))
 
+-- a kind that is no edge wins where it is nearer
+pub strict-wins : (kind : Kind) (how : Compared) → isEdge kind ≡ false → wins kind how ≡ isNearer how
+strict-wins kind Nearer e = refl
+strict-wins kind Equal e = e
+strict-wins kind Farther e = refl
+
 pub step-nearer : (pen : Pen) (kind : Kind) → Plain pen kind → (at i z : ℕ) → i ≤ 65535 → (p : Picture) → stepAt pen kind at i z p ≡ nearerAt at i z p
 unfolding stepAt nearerAt passes newI newZ
-step-nearer pen kind k at i z h p = rw (k .depth, k .deep, k .ienable, k .zenable, k .planes, in-all-planes (getD (p .i) at 0) i h)
+step-nearer pen kind k at i z h p = rw (k .depth, k .deep, strict-wins kind (comparedOf z (getD (p .z) at 0)) (k .strict), k .ienable, k .zenable, k .planes, in-all-planes (getD (p .i) at 0) i h)
 
 module _ (at i z : ℕ) (im zm : List ℕ) (n : ℕ) where
-  pub nearer-pass : z < getD zm at 0 → nearerAt at i z (picture im zm n) ≡ picture (set im at i) (set zm at z) (n + 1)
+  pub nearer-pass : isNearer (comparedOf z (getD zm at 0)) ≡ true → nearerAt at i z (picture im zm n) ≡ picture (set im at i) (set zm at z) (n + 1)
   unfolding nearerAt
-  nearer-pass h = rw (lt-ltb _ _ h)
+  nearer-pass h = rw h
 
-  pub nearer-fail : getD zm at 0 ≤ z → nearerAt at i z (picture im zm n) ≡ picture im zm n
+  pub nearer-fail : isNearer (comparedOf z (getD zm at 0)) ≡ false → nearerAt at i z (picture im zm n) ≡ picture im zm n
   unfolding nearerAt
-  nearer-fail h = rw (le-ltb _ _ h)
+  nearer-fail h = rw h
 
 -- a test that holds below n, computed
 unfoldable pub every : (ℕ → Bool) → ℕ → Bool
@@ -77,23 +85,29 @@ unfolding shows
 shows-all pen x y e = rw e (ones-show (4 * (y % 4) + x % 4) (omega arith))
 
 pub plain-of : (pen : Pen) (kind : Kind)
-    → (not (isMasked kind) || eqb (pen .transparency) 65535) && isDeep kind && pen .depth && pen .ienable && pen .zenable && eqb (pen .planes) 65535 ≡ true
+    → (not (isMasked kind) || eqb (pen .transparency) 65535) && isDeep kind && not (isEdge kind) && pen .depth && pen .ienable && pen .zenable && eqb (pen .planes) 65535 ≡ true
     → Plain pen kind
 plain-of pen kind e =
     let f = both _ (eqb (pen .planes) 65535) e in
     let d = both _ (pen .zenable) (f .0) in
     let c = both _ (pen .ienable) (d .0) in
     let b = both _ (pen .depth) (c .0) in
-    let a = both (not (isMasked kind) || eqb (pen .transparency) 65535) (isDeep kind) (b .0) in
+    let s = both _ (not (isEdge kind)) (b .0) in
+    let a = both (not (isMasked kind) || eqb (pen .transparency) 65535) (isDeep kind) (s .0) in
     record {
       shows-all = λ x y. go (not (isMasked kind)) (eqb (pen .transparency) 65535) (shows pen x y) (a .0) (λ t. shows-all pen x y (eqb-true _ _ t));
       deep = a .1;
+      strict = unset (isEdge kind) (s .1);
       depth = b .1;
       ienable = c .1;
       zenable = d .1;
       planes = eqb-true _ _ (f .1);
     }
   where
+    unset : (b : Bool) → not b ≡ true → b ≡ false
+    unset true e = sym e
+    unset false e = refl
+
     go : (p q r : Bool) → p || q ≡ true → (q ≡ true → r ≡ true) → p || r ≡ true
     go true q r e f = refl
     go false q r e f = f e

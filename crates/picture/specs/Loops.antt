@@ -1,23 +1,31 @@
 -- What the code of a row leans on. No promise of a public call cites anything here.
 use Prim.Native.Nat.{ℕ, _+_}
 use mathlib.Core.Path.{_≡_}
-use mathlib.Core.Bool.{true, cond, not, _||_}
+use mathlib.Core.Bool.{Bool, true, false, cond, not, _||_}
 use lib.ListN.{getD, set}
-use lib.Dec.{ltb}
 use Rattle.picture.specs.declared.Pen.{Pen}
 use Rattle.picture.specs.declared.Kind.{Kind}
+use Rattle.picture.specs.declared.Compared.{Compared}
+use Rattle.picture.specs.declared.Compared.the-variants.{Nearer, Equal, Farther}
 use Rattle.picture.specs.Offer.{isMasked, shows}
-use Rattle.picture.specs.Picture.{isDeep, Picture, picture}
+use Rattle.picture.specs.Picture.{isDeep, comparedOf, isEdge, Picture, picture}
 
--- nothing but the depth decides, and both numbers are stored whole
+-- nothing but a nearer depth decides, and both numbers are stored whole
 pub record Plain (pen : Pen) (kind : Kind) : Type 0 where
   pub shows-all : (x y : ℕ) → (not (isMasked kind) || shows pen x y) ≡ true
   pub deep : isDeep kind ≡ true
+  pub strict : isEdge kind ≡ false
   pub depth : pen .depth ≡ true
   pub ienable : pen .ienable ≡ true
   pub zenable : pen .zenable ≡ true
   pub planes : pen .planes ≡ 65535
 
+-- the depth is strictly less; equal stays
+abbrev pub isNearer : Compared → Bool
+isNearer Nearer = true
+isNearer Equal = false
+isNearer Farther = false
+
 -- one offer of that sort at a place
 unfoldable pub nearerAt : ℕ → ℕ → ℕ → Picture → Picture
-nearerAt at i z p = cond (ltb z (getD (p .z) at 0)) (picture (set (p .i) at i) (set (p .z) at z) (p .passed + 1)) p
+nearerAt at i z p = cond (isNearer (comparedOf z (getD (p .z) at 0))) (picture (set (p .i) at i) (set (p .z) at z) (p .passed + 1)) p

@@ -3,11 +3,13 @@ use Prim.Native.Nat.{ℕ, _+_, _-_}
 use mathlib.Core.Bool.{Bool, true, false, cond, not, _&&_, _||_}
 use mathlib.Core.List.{List, foldl}
 use lib.ListN.{getD, set}
-use lib.Dec.{ltb}
+use lib.Dec.{ltb, eqb}
 use lib.Bits.{bitAnd, bitOr}
 use Rattle.picture.specs.declared.Pen.{Pen}
 use Rattle.picture.specs.declared.Kind.{Kind}
 use Rattle.picture.specs.declared.Kind.the-variants.{Gouraud, Constant, Line0, Line1, Line2}
+use Rattle.picture.specs.declared.Compared.{Compared}
+use Rattle.picture.specs.declared.Compared.the-variants.{Nearer, Equal, Farther}
 use Rattle.picture.specs.Place.{placeOf}
 use Rattle.picture.specs.Offer.{Offer}
 
@@ -19,13 +21,27 @@ isDeep Line0 = false
 isDeep Line1 = false
 isDeep Line2 = true
 
--- the new depth is strictly less than the old; equal stays
-abbrev pub nearer : ℕ → ℕ → Bool
-nearer new old = ltb new old
+-- how a new depth stands to the old one
+unfoldable pub comparedOf : ℕ → ℕ → Compared
+comparedOf new old = cond (ltb new old) Nearer (cond (eqb new old) Equal Farther)
 
--- an offer passes where a depth stands: tested, it is nearer; everything else passes
+-- edges lie over faces: lines of mode 2 pass at equal depth (document 02, [10]), triangles do not
+abbrev pub isEdge : Kind → Bool
+isEdge Gouraud = false
+isEdge Constant = false
+isEdge Line0 = false
+isEdge Line1 = false
+isEdge Line2 = true
+
+-- a pixel whose depth stands so passes the depth test
+abbrev pub wins : Kind → Compared → Bool
+wins kind Nearer = true
+wins kind Equal = isEdge kind
+wins kind Farther = false
+
+-- an offer passes where a depth stands: tested, it wins; everything else passes
 unfoldable pub passes : Pen → Kind → ℕ → ℕ → Bool
-passes pen kind z old = not (pen .depth && isDeep kind) || nearer z old
+passes pen kind z old = not (pen .depth && isDeep kind) || wins kind (comparedOf z old)
 
 -- the new number in the set planes, the old one in the others
 unfoldable pub inPlanes : ℕ → ℕ → ℕ → ℕ

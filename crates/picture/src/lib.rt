@@ -33,6 +33,13 @@ pub enum Kind {
     Line2,
 }
 
+// How a new depth stands to the old one.
+pub enum Compared {
+    Nearer,
+    Equal,
+    Farther,
+}
+
 // A point of a figure, with its two numbers.
 #[repr(C)]
 pub struct Vertex {

@@ -5,8 +5,9 @@ ghost use Prim.Native.Nat.{_+_, _<_, _≤_};
 ghost use lib.ListN.{length, set, getD};
 ghost use Rattle.picture.specs.Offer.{isMasked, inWindow, shows, offered, offer};
 ghost use Rattle.picture.specs.Place.{rowsOf};
-ghost use Rattle.picture.specs.Loops.{Plain, nearerAt};
-ghost use Rattle.picture.specs.Picture.{isDeep, inPlanes, passes, newI, newZ, picture, stepAt};
+ghost use Rattle.picture.specs.Loops.{Plain, isNearer, nearerAt};
+ghost use Rattle.picture.specs.Picture.{isDeep, inPlanes, comparedOf, isEdge, wins, passes, newI, newZ, picture, stepAt};
+use crate::Compared;
 use crate::Kind;
 use crate::Pen;
 use crate::place::is_inside;
@@ -31,6 +32,19 @@ pub(crate) fn is_deep(kind: Kind) -> bool
     match kind {
         Kind::Gouraud => true,
         Kind::Constant => true,
+        Kind::Line0 => false,
+        Kind::Line1 => false,
+        Kind::Line2 => true,
+    }
+}
+
+// Whether figures of this kind pass at equal depth.
+fn is_edge(kind: Kind) -> bool
+    ensures { λ r. ⌜ r ≡ isEdge kind ⌝ }
+{
+    match kind {
+        Kind::Gouraud => false,
+        Kind::Constant => false,
         Kind::Line0 => false,
         Kind::Line1 => false,
         Kind::Line2 => true,
@@ -67,13 +81,48 @@ fn in_planes(planes: u16, old: u16, new: u16) -> u16
     (old & !planes) | (new & planes)
 }
 
+// How a new depth stands to the old one.
+fn compare(new: u16, old: u16) -> Compared
+    ensures { λ r. ⌜ r ≡ comparedOf new old ⌝ }
+{
+    if new < old {
+        return Compared::Nearer;
+    }
+    if new == old {
+        return Compared::Equal;
+    }
+    Compared::Farther
+}
+
+// Whether a pixel whose depth stands so passes the depth test.
+fn is_won(kind: Kind, how: Compared) -> bool
+    ensures { λ r. ⌜ r ≡ wins kind how ⌝ }
+{
+    match how {
+        Compared::Nearer => true,
+        Compared::Equal => is_edge(kind),
+        Compared::Farther => false,
+    }
+}
+
+// Whether a depth is strictly less.
+fn is_nearer(how: Compared) -> bool
+    ensures { λ r. ⌜ r ≡ isNearer how ⌝ }
+{
+    match how {
+        Compared::Nearer => true,
+        Compared::Equal => false,
+        Compared::Farther => false,
+    }
+}
+
 // Whether a pixel passes at a place. The depth memory is read only where the depth is tested.
 fn is_passed(pen: Pen, kind: Kind, at: usize, z: u16, zm: &[u16]) -> bool
     requires { ⌜ at < length (now zm) ⌝ }
     ensures { λ r. ⌜ r ≡ passes pen kind z (getD (now (zm .entry)) at 0) ⌝ }
 {
     if pen.depth & is_deep(kind) {
-        return z < zm[at];
+        return is_won(kind, compare(z, zm[at]));
     }
     true
 }
@@ -120,12 +169,18 @@ pub(crate) fn put_at(
     n
 }
 
-// Whether nothing but the depth decides of a figure's pixels, and both numbers are stored whole.
+// Whether nothing but a nearer depth decides of a figure's pixels, and both numbers are stored whole.
 pub(crate) fn is_plain(pen: Pen, kind: Kind) -> bool
     ensures { λ r. ⌜ (r ≡ true → Plain pen kind) ⌝ }
 {
     let open = !is_masked(kind) | (pen.transparency == 65535);
-    open & is_deep(kind) & pen.depth & pen.ienable & pen.zenable & (pen.planes == 65535)
+    open
+        & is_deep(kind)
+        & !is_edge(kind)
+        & pen.depth
+        & pen.ienable
+        & pen.zenable
+        & (pen.planes == 65535)
 }
 
 // One offer at a place, of the sort that `is_plain` finds.
@@ -133,7 +188,7 @@ pub(crate) fn put_nearer(at: usize, i: u16, z: u16, im: &mut [u16], zm: &mut [u1
     requires { ⌜ (at < length (now im)) × (at < length (now zm)) × (n ≤ 65535) ⌝ }
     ensures { λ r. ⌜ (picture (now (im .exit)) (now (zm .exit)) r ≡ nearerAt at i z (picture (now (im .entry)) (now (zm .entry)) n)) × (r ≤ n + 1) ⌝ }
 {
-    if z < zm[at] {
+    if is_nearer(compare(z, zm[at])) {
         im[at] = i;
         zm[at] = z;
         return n + 1;

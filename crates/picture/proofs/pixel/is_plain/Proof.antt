@@ -10,8 +10,13 @@ is-masked-requires c κs = search needs
 is-deep-requires : tie.Need-is-deep-requires
 is-deep-requires c κs = search needs
 
+is-edge-requires : tie.Need-is-edge-requires
+is-edge-requires c κs = search needs
+
 returns : tie.Need-returns
-returns c = let a = c .before .before .before .before .before .before .before .args in (λ e. plain-of (a .pen) (a .kind) (rw (c .before .before .before .before .before .before .is-masked .ensures, c .before .before .before .before .is-deep .ensures) at e))
+returns c =
+    let a = c .before .before .before .before .before .before .before .before .args in
+    (λ e. plain-of (a .pen) (a .kind) (rw (c .before .before .before .before .before .before .before .is-masked .ensures, c .before .before .before .before .before .is-deep .ensures, c .before .before .before .before .is-edge .ensures) at e))
 
 pub is-plain-spec : {M : Type 1} → statement M
-is-plain-spec = tie.close (tie.spec is-masked-requires is-deep-requires returns)
+is-plain-spec = tie.close (tie.spec is-masked-requires is-deep-requires is-edge-requires returns)
