@@ -1,0 +1,6 @@
+pub mod Rows
+pub mod Words
+pub mod Bytes
+pub mod Ends
+pub mod Settled
+pub mod Request3

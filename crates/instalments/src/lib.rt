@@ -1,0 +1,171 @@
+// Recordings in instalments: the bytes of a packed stream are taken as they come, and each word is run once its twenty bits are there.
+// specs/Instalments.antt says what each call tells and leaves.
+ghost use mathlib.Core.Path.{_≡_};
+ghost use Prim.Native.Nat.{_^_, _<_};
+ghost use Rattle.stream.specs.Format.{bits};
+ghost use Rattle.machine.specs.Machine.{memories};
+ghost use Rattle.instalments.specs.Instalments.{soFar, taking, fresh, isClosed, isSound, wordIn, poured, byteIn, feeding, endNumber, ending};
+use chip::step::step;
+use registers::Registers;
+
+// How far a recording has come, which is also the answer of each call: the number that refused a word or the end, 0 for none; how many words
+// were run, and the sum of their counts, both modulo 2^64; the bits of a word that has not come whole, and how many they are; not 0 once
+// the end was told; and the registers.
+#[repr(C)]
+pub struct Intake {
+    pub refusal: u64,
+    pub index: u64,
+    pub sum: u64,
+    pub held: u32,
+    pub count: u32,
+    pub over: u32,
+    pub registers: Registers,
+}
+
+// Before the first byte.
+pub fn begin() -> Intake
+    ensures { λ s. ⌜ s ≡ fresh ⌝ }
+{
+    let r = Registers::reset();
+    Intake {
+        refusal: 0,
+        index: 0,
+        sum: 0,
+        held: 0,
+        count: 0,
+        over: 0,
+        registers: r,
+    }
+}
+
+// Whether a word was refused, or the end was told.
+fn is_closed(refusal: u64, over: u32) -> bool
+    ensures { λ r. ⌜ r ≡ isClosed refusal over ⌝ }
+{
+    !(refusal == 0) | !(over == 0)
+}
+
+// Whether the bits that are held are fewer than a word has, and no more than are counted.
+fn is_sound(held: u32, count: u32) -> bool
+    ensures { λ r. ⌜ r ≡ isSound held count ⌝ }
+{
+    if count < 20 {
+        return held >> count == 0;
+    }
+    false
+}
+
+// The same words run, with another number, other bits held and another end.
+fn answer(s: Intake, refusal: u64, held: u32, count: u32, over: u32) -> Intake
+    ensures { λ a. ⌜ a ≡ record { refusal = refusal; index = s .index; sum = s .sum; held = held; count = count; over = over; registers = s .registers } ⌝ }
+{
+    let registers = s.registers;
+    Intake {
+        refusal: refusal,
+        index: s.index,
+        sum: s.sum,
+        held: held,
+        count: count,
+        over: over,
+        registers: registers,
+    }
+}
+
+// Runs a word.
+fn run_word(s: Intake, w: u32, im: &mut [u16], zm: &mut [u16]) -> Intake
+    requires { ⌜ s .refusal ≡ 0 ⌝ }
+    requires { ⌜ w < 2 ^ 20 ⌝ }
+    ensures { λ a. ⌜ soFar a (memories (now (im .exit)) (now (zm .exit))) ≡ wordIn (soFar s (memories (now (im .entry)) (now (zm .entry)))) w ⌝ }
+{
+    let registers = s.registers;
+    let a = step(registers, (w / 65536) as u8, (w % 65536) as u16, im, zm);
+    if a.refusal != 0 {
+        return answer(s, a.refusal, 0, 0, 0);
+    }
+    let next = a.registers;
+    Intake {
+        refusal: 0,
+        index: std::num::wrapping_add_u64(s.index, 1),
+        sum: std::num::wrapping_add_u64(s.sum, a.passed),
+        held: 0,
+        count: 0,
+        over: 0,
+        registers: next,
+    }
+}
+
+// Takes n bits, those held and eight more: twenty are a word, and those behind it wait.
+fn pour(s: Intake, v: u32, n: u32, im: &mut [u16], zm: &mut [u16]) -> Intake
+    requires { ⌜ s .refusal ≡ 0 ⌝ }
+    requires { ⌜ n < 28 ⌝ }
+    requires { ⌜ v < 2 ^ n ⌝ }
+    ensures { λ a. ⌜ taking a (memories (now (im .exit)) (now (zm .exit))) ≡ poured (soFar s (memories (now (im .entry)) (now (zm .entry)))) (bits n v) ⌝ }
+{
+    if n < 20 {
+        return answer(s, s.refusal, v, n, 0);
+    }
+    let rest = n - 20;
+    let a = run_word(s, v >> rest, im, zm);
+    if a.refusal != 0 {
+        return answer(a, a.refusal, 0, 0, 0);
+    }
+    answer(a, a.refusal, v % (1 << rest), rest, 0)
+}
+
+// Takes a byte.
+fn take(s: Intake, b: u8, im: &mut [u16], zm: &mut [u16]) -> Intake
+    ensures { λ a. ⌜ taking a (memories (now (im .exit)) (now (zm .exit))) ≡ byteIn (taking s (memories (now (im .entry)) (now (zm .entry)))) b ⌝ }
+{
+    if is_closed(s.refusal, s.over) {
+        return s;
+    }
+    if is_sound(s.held, s.count) {
+        return pour(s, s.held * 256 + b as u32, s.count + 8, im, zm);
+    }
+    answer(s, 2, s.held, s.count, s.over)
+}
+
+// Takes an instalment. Before the end the answer has 0, and the words run and their sum so far; after a refused word or the end, a call
+// changes nothing and answers as before.
+pub fn feed(s: Intake, bytes: &[u8], im: &mut [u16], zm: &mut [u16]) -> Intake
+    ensures { λ a. ⌜ taking a (memories (now (im .exit)) (now (zm .exit))) ≡ feeding (taking s (memories (now (im .entry)) (now (zm .entry)))) (now (bytes .entry)) ⌝ }
+{
+    let mut next = s;
+    let mut k = 0;
+    while k < bytes.len() {
+        next = take(next, bytes[k], im, zm);
+        k += 1;
+    }
+    next
+}
+
+// The number that the end tells of bits that are left over: 11, 12, then 2.
+fn end_number(held: u32, count: u32, unfit: bool) -> u64
+    ensures { λ r. ⌜ r ≡ endNumber held count unfit ⌝ }
+{
+    if !((count == 0) | (count == 4)) {
+        return 11;
+    }
+    if !(held == 0) {
+        return 12;
+    }
+    if unfit {
+        return 2;
+    }
+    0
+}
+
+// Ends a recording: no more bytes come.
+pub fn finish(s: Intake, im: &[u16], zm: &[u16]) -> Intake
+    ensures { λ a. ⌜ taking a (memories (now (im .entry)) (now (zm .entry))) ≡ ending (taking s (memories (now (im .entry)) (now (zm .entry)))) ⌝ }
+{
+    if is_closed(s.refusal, s.over) {
+        return s;
+    }
+    if is_sound(s.held, s.count) {
+        let registers = s.registers;
+        let unfit = !(im.len() == zm.len()) | !registers.is_sound();
+        return answer(s, end_number(s.held, s.count, unfit), 0, 0, 1);
+    }
+    answer(s, 2, s.held, s.count, s.over)
+}
