@@ -1,9 +1,9 @@
--- Bytes, one by one: what a call makes of a record that is open, closed or not sound, and what bytes come to: the words that are whole are
--- run, and the bits behind them wait. Assumes nothing.
+-- Bytes, one by one: what is open takes them and what is closed does not, and what they come to: the words that are whole are run, and the
+-- bits behind them wait. Assumes nothing.
 use mathlib.Core.Path.{_≡_, refl, sym, ap, ap₂, _∙_}
 use mathlib.Core.Logic.{_≢_}
-use mathlib.Core.Bool.{Bool, true, false, cond, not, _||_}
-use mathlib.Core.List.{List, [], _∷_, _++_, foldl, append-nil, append-assoc}
+use mathlib.Core.Bool.{Bool, true, false, not, _||_}
+use mathlib.Core.List.{List, [], _∷_, _++_, foldl, append-nil, append-assoc, foldl-append}
 use Prim.Native.Nat.{ℕ, _+_, _-_, _*_, _/_, _%_, _^_, _≤_, _<_}
 use native.Mathlib.Numerals.{add-one}
 use native.Mathlib.Omega.{arith}
@@ -18,42 +18,11 @@ use Rattle.registers.proofs.Truth.{neither}
 use Rattle.machine.specs.Run.{Ran}
 use Rattle.machine.specs.Machine.{Memories}
 use Rattle.machine.proofs.Runs.{zero-or-not}
-use Rattle.instalments.specs.Instalments.{Taking, isClosed, isSound, numbered, onward, wordIn, holding, waiting, poured, byteIn, feeding}
-use Rattle.instalments.proofs.Rows.{row-sound, byte-row, number-row, front-word, front-rest, past, whole-short, past-short, whole-more, past-more}
+use Rattle.instalments.specs.Instalments.{Taking, isClosed, wordIn, holding, waiting, poured, byteIn, bytesIn}
+use Rattle.instalments.proofs.Rows.{byte-row, number-row, front-word, front-rest, past, whole-short, past-short, whole-more, past-more}
 use Rattle.instalments.proofs.Words.{word-low, words-stay}
 
--- ---- what is made of a record
-
--- the same, refused with 2
-abbrev pub refused : Taking → Taking
-refused t = record { so = numbered 2 (t .so); held = t .held; count = t .count; over = t .over }
-
-module _ (t next : Taking) where
-  -- what holds of all that may become of it holds of it
-  pub onward-each : (P : Taking → Type 0) → (isClosed (t .so .refusal) (t .over) ≡ true → P t) → P next → P (refused t) → P (onward t next)
-  unfolding onward
-  onward-each P shut goes unsound = go (isClosed (t .so .refusal) (t .over)) refl (isSound (t .held) (t .count))
-    where
-      go : (c : Bool) → isClosed (t .so .refusal) (t .over) ≡ c → (s : Bool) → P (cond c t (cond s next (refused t)))
-      go true e s = shut e
-      go false e true = goes
-      go false e false = unsound
-
-  -- once closed, it stays
-  pub onward-closed : isClosed (t .so .refusal) (t .over) ≡ true → onward t next ≡ t
-  unfolding onward
-  onward-closed e = rw e
-
-  module _ (opened : isClosed (t .so .refusal) (t .over) ≡ false) where
-    -- open, it goes on
-    pub onward-sound : isSound (t .held) (t .count) ≡ true → onward t next ≡ next
-    unfolding onward
-    onward-sound e = rw (opened, e)
-
-    -- unless its bits are such as no call leaves
-    pub onward-unsound : isSound (t .held) (t .count) ≡ false → onward t next ≡ refused t
-    unfolding onward
-    onward-unsound e = rw (opened, e)
+-- ---- open and closed
 
 -- a number that is not 0 closes
 pub closed-refused : (n over : ℕ) → n ≢ 0 → isClosed n over ≡ true
@@ -77,12 +46,20 @@ open-parts n over e =
     let p = neither (not (eqb n 0)) (not (eqb over 0)) e in
     (eqb-true n 0 (not-false _ (p .0)), eqb-true over 0 (not-false _ (p .1)))
 
--- a byte of an open record, as the code takes it
-pub byte-taken : (t : Taking) (b : ℕ) → b < 256 → isClosed (t .so .refusal) (t .over) ≡ false → isSound (t .held) (t .count) ≡ true
-    → poured (t .so) (bits (t .count + 8) (t .held * 256 + b)) ≡ byteIn t b
+-- a byte of an open record
+pub byte-open : (t : Taking) (b : ℕ) → isClosed (t .so .refusal) (t .over) ≡ false → byteIn t b ≡ poured (t .so) (bits (t .count) (t .held) ++ bits 8 b)
 unfolding byteIn
-byte-taken t b byte opened sound =
-    ap (poured (t .so)) (byte-row (t .count) (t .held) b byte) ∙ sym (onward-sound t (poured (t .so) (bits (t .count) (t .held) ++ bits 8 b)) opened sound)
+byte-open t b e = rw e
+
+-- as the code takes it
+pub byte-taken : (t : Taking) (b : ℕ) → b < 256 → isClosed (t .so .refusal) (t .over) ≡ false
+    → poured (t .so) (bits (t .count + 8) (t .held * 256 + b)) ≡ byteIn t b
+byte-taken t b byte e = ap (poured (t .so)) (byte-row (t .count) (t .held) b byte) ∙ sym (byte-open t b e)
+
+-- a closed one takes none
+pub byte-closed : (t : Taking) (b : ℕ) → isClosed (t .so .refusal) (t .over) ≡ true → byteIn t b ≡ t
+unfolding byteIn
+byte-closed t b e = rw e
 
 -- ---- a row of bits, as the code pours it
 
@@ -98,12 +75,12 @@ module _ (a : Ran Registers Memories) (row : List ℕ) where
   waiting-closed e = rw (ne-eqb _ _ e)
 
   -- too few for a word
-  poured-short : length row < 20 → poured a row ≡ waiting a row
+  pub poured-short : length row < 20 → poured a row ≡ waiting a row
   unfolding poured
   poured-short h = rw (lt-ltb _ _ h)
 
   -- a word and more
-  poured-word : 20 ≤ length row → poured a row ≡ waiting (wordIn a (number (take 20 row))) (drop 20 row)
+  pub poured-word : 20 ≤ length row → poured a row ≡ waiting (wordIn a (number (take 20 row))) (drop 20 row)
   unfolding poured
   poured-word h = rw (le-ltb _ _ h)
 
@@ -142,31 +119,35 @@ module _ (a : Ran Registers Memories) (n v : ℕ) (fits : v < 2 ^ n) where
 -- ---- one turn of a loop over bytes
 
 -- the bytes that are left are the first of them, and then the rest
-pub turn : (bytes : List ℕ) (k : ℕ) → k < length bytes → (t : Taking) → feeding t (drop k bytes) ≡ feeding (byteIn t (getD bytes k 0)) (drop (k + 1) bytes)
-unfolding feeding
+pub turn : (bytes : List ℕ) (k : ℕ) → k < length bytes → (t : Taking) → bytesIn t (drop k bytes) ≡ bytesIn (byteIn t (getD bytes k 0)) (drop (k + 1) bytes)
+unfolding bytesIn
 turn bytes k h t = rw (add-one, drop-cons bytes k 0 h)
 
 -- nothing is left
-pub turn-none : (bytes : List ℕ) (k : ℕ) → length bytes ≤ k → (t : Taking) → feeding t (drop k bytes) ≡ t
-unfolding feeding
+pub turn-none : (bytes : List ℕ) (k : ℕ) → length bytes ≤ k → (t : Taking) → bytesIn t (drop k bytes) ≡ t
+unfolding bytesIn
 turn-none bytes k h t = rw (drop-of-length-le bytes h)
 
 -- ---- what bytes come to
 
--- a closed record takes no byte
-pub feeding-closed : (bytes : List ℕ) (t : Taking) → isClosed (t .so .refusal) (t .over) ≡ true → feeding t bytes ≡ t
-unfolding feeding byteIn
-feeding-closed [] t e = refl
-feeding-closed (b ∷ bytes) t e =
-    ap (λ (u : Taking). foldl byteIn u bytes) (onward-closed t _ e) ∙ feeding-closed bytes t e
+-- bytes in two parts are one part after the other
+pub bytes-append : (t : Taking) (bytes more : List ℕ) → bytesIn t (bytes ++ more) ≡ bytesIn (bytesIn t bytes) more
+unfolding bytesIn
+bytes-append t bytes more = foldl-append byteIn t bytes more
+
+-- a closed record takes none
+pub bytes-closed : (bytes : List ℕ) (t : Taking) → isClosed (t .so .refusal) (t .over) ≡ true → bytesIn t bytes ≡ t
+unfolding bytesIn
+bytes-closed [] t e = refl
+bytes-closed (b ∷ bytes) t e =
+    ap (λ (u : Taking). foldl byteIn u bytes) (byte-closed t b e) ∙ bytes-closed bytes t e
 
 -- a byte's bits come behind those that wait
-byte-behind : (a : Ran Registers Memories) (row : List ℕ) (b : ℕ) → a .refusal ≡ 0 → Fits 1 row → length row < 20
+byte-behind : (a : Ran Registers Memories) (row : List ℕ) (b : ℕ) → a .refusal ≡ 0 → Fits 1 row
     → byteIn (waiting a row) b ≡ poured a (row ++ bits 8 b)
-unfolding byteIn
-byte-behind a row b goes f short =
+byte-behind a row b goes f =
     ap (λ (t : Taking). byteIn t b) (waiting-open a row goes)
-    ∙ onward-sound (holding a row) _ (open-before _ goes) (row-sound f short)
+    ∙ byte-open (holding a row) b (open-before _ goes)
     ∙ ap (λ (r : List ℕ). poured a (r ++ bits 8 b)) (bits-number f)
 
 -- what a row of bits comes to: its whole words are run, and the bits behind them wait
@@ -189,7 +170,7 @@ come-word a row rest h =
 -- one byte, and then the rest
 module _ (b : ℕ) (bytes : List ℕ)
     (rest : (a : Ran Registers Memories) (row : List ℕ) → a .index < 2 ^ 64 → Fits 1 row → length row < 20
-    → feeding (waiting a row) bytes ≡ come a (row ++ joined 8 bytes))
+    → bytesIn (waiting a row) bytes ≡ come a (row ++ joined 8 bytes))
     (a : Ran Registers Memories) (row : List ℕ) (low : a .index < 2 ^ 64) (f : Fits 1 row) (short : length row < 20) where
   -- the bits that wait now
   next : List ℕ
@@ -208,36 +189,36 @@ module _ (b : ℕ) (bytes : List ℕ)
   fitting = fits-append f (bits-fit 8 b)
 
   -- before a refused word
-  byte-goes : a .refusal ≡ 0 → feeding (byteIn (waiting a row) b) bytes ≡ come a (row ++ (bits 8 b ++ joined 8 bytes))
+  byte-goes : a .refusal ≡ 0 → bytesIn (byteIn (waiting a row) b) bytes ≡ come a (row ++ (bits 8 b ++ joined 8 bytes))
   unfolding next
-  byte-goes e = ap (λ (t : Taking). feeding t bytes) (byte-behind a row b e f short) ∙ go (ltb (length next) 20) refl ∙ ap (come a) joins
+  byte-goes e = ap (λ (t : Taking). bytesIn t bytes) (byte-behind a row b e f) ∙ go (ltb (length next) 20) refl ∙ ap (come a) joins
     where
-      go : (t : Bool) → ltb (length next) 20 ≡ t → feeding (poured a next) bytes ≡ come a (next ++ joined 8 bytes)
+      go : (t : Bool) → ltb (length next) 20 ≡ t → bytesIn (poured a next) bytes ≡ come a (next ++ joined 8 bytes)
       go true h =
           let few = ltb-true (length next) 20 h in
-          ap (λ (t : Taking). feeding t bytes) (poured-short a next few) ∙ rest a next low fitting few
+          ap (λ (t : Taking). bytesIn t bytes) (poured-short a next few) ∙ rest a next low fitting few
       go false h =
           let enough = ltb-false (length next) 20 h in
           let w = number (take 20 next) in
-          ap (λ (t : Taking). feeding t bytes) (poured-word a next enough)
+          ap (λ (t : Taking). bytesIn t bytes) (poured-word a next enough)
           ∙ rest (wordIn a w) (drop 20 next) (word-low a w) (fits-drop 20 fitting) (omega (arith, size, length-drop 20 next, short))
           ∙ come-word a next (joined 8 bytes) enough
 
   -- after one
-  byte-stopped : a .refusal ≢ 0 → feeding (byteIn (waiting a row) b) bytes ≡ come a (row ++ (bits 8 b ++ joined 8 bytes))
-  unfolding feeding
+  byte-stopped : a .refusal ≢ 0 → bytesIn (byteIn (waiting a row) b) bytes ≡ come a (row ++ (bits 8 b ++ joined 8 bytes))
+  unfolding bytesIn
   byte-stopped e =
       let all = row ++ (bits 8 b ++ joined 8 bytes) in
       let shut : isClosed (holding a [] .so .refusal) (holding a [] .over) ≡ true = closed-refused (a .refusal) 0 e in
-      ap (λ (t : Taking). feeding t (b ∷ bytes)) (waiting-closed a row e)
-      ∙ feeding-closed (b ∷ bytes) (holding a []) shut
+      ap (λ (t : Taking). bytesIn t (b ∷ bytes)) (waiting-closed a row e)
+      ∙ bytes-closed (b ∷ bytes) (holding a []) shut
       ∙ sym (waiting-closed a (past all) e)
       ∙ ap (λ (c : Ran Registers Memories). waiting c (past all)) (sym (words-stay (whole 20 all) a low e))
 
 -- bytes behind bits that wait: the words that are whole are run, and the bits behind them wait
-pub feeding-row : (bytes : List ℕ) (a : Ran Registers Memories) (row : List ℕ) → a .index < 2 ^ 64 → Fits 1 row → length row < 20
-    → feeding (waiting a row) bytes ≡ come a (row ++ joined 8 bytes)
-unfolding feeding joined
-feeding-row [] a row low f short = come-short a row short ∙ ap (come a) (sym (append-nil row))
-feeding-row (b ∷ bytes) a row low f short =
-    zero-or-not (a .refusal) (byte-goes b bytes (feeding-row bytes) a row low f short) (byte-stopped b bytes (feeding-row bytes) a row low f short)
+pub bytes-row : (bytes : List ℕ) (a : Ran Registers Memories) (row : List ℕ) → a .index < 2 ^ 64 → Fits 1 row → length row < 20
+    → bytesIn (waiting a row) bytes ≡ come a (row ++ joined 8 bytes)
+unfolding bytesIn joined
+bytes-row [] a row low f short = come-short a row short ∙ ap (come a) (sym (append-nil row))
+bytes-row (b ∷ bytes) a row low f short =
+    zero-or-not (a .refusal) (byte-goes b bytes (bytes-row bytes) a row low f short) (byte-stopped b bytes (bytes-row bytes) a row low f short)

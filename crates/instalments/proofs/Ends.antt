@@ -1,6 +1,6 @@
 -- The end: what it tells of the bits that are left over is what is wrong with the stream, and over memories that differ in length the first
 -- word was refused with 2. Assumes nothing.
-use mathlib.Core.Path.{_≡_, refl, sym, ap, _∙_}
+use mathlib.Core.Path.{_≡_, refl, sym, ap, ap₂, _∙_}
 use mathlib.Core.Logic.{_≢_}
 use mathlib.Core.Bool.{Bool, true, false, cond, not, _||_}
 use mathlib.Core.List.{List, [], _∷_, map}
@@ -8,32 +8,33 @@ use Prim.Native.Nat.{ℕ, zero, suc, _+_, _-_, _*_, _/_, _%_, _^_, _<_}
 use native.Mathlib.Nat.{mod-lt, mul-add-mod-self-right}
 use native.Mathlib.Omega.{arith}
 use lib.Dec.{eqb}
-use lib.ListN.{length, getD, drop, length-drop, drop-of-length-le}
+use lib.ListN.{length, getD, drop, length-drop, length-map, drop-of-length-le}
 use lib.Seq.{drop-drop, getD-drop}
 use borrow.Author.Tests.{eq-eqb, ne-eqb, le-ltb, eqb-false}
-use Rattle.stream.specs.Format.{bits, number, joined}
+use Rattle.stream.specs.Format.{bits, number, joined, unpackOf}
 use Rattle.stream.specs.Calls.{badLength, badTail, checked}
 use Rattle.stream.proofs.Bits.{Fits, none, more, number-bits}
 use Rattle.stream.proofs.Cut.{length-joined, drop-joined}
 use Rattle.stream.proofs.Calls.{good-told}
+use Rattle.stream.proofs.Stream.{length-unpack}
 use Rattle.stream.proofs.Round.{unpack-fits}
 use Rattle.registers.specs.declared.Registers.{Registers}
 use Rattle.registers.specs.Record.{resetOf}
 use Rattle.registers.specs.Word.{wordOf}
-use Rattle.registers.specs.Refusal.{isUnknown, isUnfit, refusalOf}
+use Rattle.registers.specs.Refusal.{isUnknown, refusalOf}
 use Rattle.registers.proofs.Commands.{decode-unknown}
 use Rattle.registers.proofs.Refusals.{given-2}
-use Rattle.machine.specs.Run.{Ran, ran, advance, runFrom}
+use Rattle.machine.specs.Run.{Ran, ran, advance, runFrom, runOf}
 use Rattle.machine.specs.Machine.{Memories, stepOf}
-use Rattle.machine.proofs.Runs.{zero-or-not, advance-refused, stays}
+use Rattle.machine.proofs.Runs.{zero-or-not, advance-refused, stays, index-low}
 use Rattle.machine.proofs.Steps.{step-number}
 use Rattle.machine.proofs.Kept.{run-length-i, run-length-z}
 use Rattle.chip.specs.Chip.{chip}
-use Rattle.chip.specs.Stream.{wordsOf, flawOf, running}
-use Rattle.chip.proofs.Laws.{run-kept}
+use Rattle.chip.specs.Stream.{wordsOf, flawIn, flawOf, running}
 use Rattle.instalments.specs.Instalments.{numbered, holding, endNumber, endNumberOf}
 use Rattle.instalments.specs.Delivered.{wordsRun, endedBy}
 use Rattle.instalments.proofs.Rows.{past, past-length}
+use Rattle.instalments.proofs.Words.{counted-low}
 
 -- ---- the bits that are left over
 
@@ -73,15 +74,15 @@ module _ (s : List ℕ) where
       ∙ ap (λ (c : ℕ). c % 16) (getD-drop (5 * q) s 2 0 ∙ ap (λ (i : ℕ). getD s i 0) end)
 
   -- they tell what is wrong with the stream
-  left-told : (unfit : Bool) → endNumber (number (past (joined 8 s))) (length (past (joined 8 s))) unfit ≡ checked s (cond unfit 2 0)
+  left-told : (ni nz : ℕ) → endNumber (number (past (joined 8 s))) (length (past (joined 8 s))) ni nz ≡ flawIn s ni nz
   unfolding checked badLength badTail
-  left-told unfit = go (length s % 5) refl (mod-lt (length s) (omega arith))
+  left-told ni nz = go (length s % 5) refl (mod-lt (length s) (omega arith))
     where
       count : (q : ℕ) → length s % 5 ≡ q → length (past (joined 8 s)) ≡ q * 8 % 20
       count q e = left-count ∙ ap (λ (r : ℕ). r * 8 % 20) e
 
       go : (q : ℕ) → length s % 5 ≡ q → q < 5
-          → endNumber (number (past (joined 8 s))) (length (past (joined 8 s))) unfit ≡ checked s (cond unfit 2 0)
+          → endNumber (number (past (joined 8 s))) (length (past (joined 8 s))) ni nz ≡ flawIn s ni nz
       go zero e h = rw (count 0 e, left-none e, e)
       go (suc zero) e h = rw (count 1 e, e)
       go (suc (suc zero)) e h = rw (count 2 e, e)
@@ -91,25 +92,13 @@ module _ (s : List ℕ) where
 
 -- ---- 2
 
--- a run keeps its bounds and the lengths, so that only the lent memories' lengths can be wrong at its end
-unfit-told : (bytes : List ℕ) (m : Memories)
-    → _≡_ {A = ℕ} (cond (isUnfit (length (wordsRun bytes m .memories .i)) (length (wordsRun bytes m .memories .z)) (wordsRun bytes m .registers)) 2 0)
-    (cond (eqb (length (m .i)) (length (m .z))) 0 2)
-unfit-told bytes m =
-    rw (run-length-i chip (wordsOf bytes) (ran 0 0 0 resetOf m), run-length-z chip (wordsOf bytes) (ran 0 0 0 resetOf m), run-kept (wordsOf bytes) m)
-    (go (eqb (length (m .i)) (length (m .z))))
-  where
-    go : (b : Bool) → _≡_ {A = ℕ} (cond (not b || false) 2 0) (cond b 0 2)
-    go true = refl
-    go false = refl
-
--- so the end tells what is checked of the whole stream
+-- a run keeps the lengths, so the end tells what is checked of the whole stream
 pub end-number : (bytes : List ℕ) (m : Memories)
     → endNumberOf (holding (wordsRun bytes m) (past (joined 8 bytes))) ≡ flawOf bytes m
 unfolding flawOf
 end-number bytes m =
-    left-told bytes (isUnfit (length (wordsRun bytes m .memories .i)) (length (wordsRun bytes m .memories .z)) (wordsRun bytes m .registers))
-    ∙ ap (checked bytes) (unfit-told bytes m)
+    left-told bytes (length (wordsRun bytes m .memories .i)) (length (wordsRun bytes m .memories .z))
+    ∙ ap₂ (flawIn bytes) (run-length-i chip (wordsOf bytes) (ran 0 0 0 resetOf m)) (run-length-z chip (wordsOf bytes) (ran 0 0 0 resetOf m))
 
 -- a word of 20 bits has a known command
 known : (w : ℕ) → w < 2 ^ 20 → isUnknown (wordOf w) ≡ false
@@ -141,12 +130,23 @@ ended-zero : (a : Ran Registers Memories) → endedBy 0 a ≡ a
 ended-zero a =
     zero-or-not (a .refusal) (λ e. rw (eq-eqb _ _ e) (ap (λ (n : ℕ). numbered n a) (sym e))) (λ e. rw (ne-eqb _ _ e))
 
+-- a stream shorter than 2 ^ 64 bytes has fewer words than are counted
+all-counted : (bytes : List ℕ) (m : Memories) → length bytes < 2 ^ 64 → wordsRun bytes m ≡ runOf (stepOf chip) resetOf (wordsOf bytes) m
+all-counted bytes m h =
+    counted-low (runOf (stepOf chip) resetOf (wordsOf bytes) m)
+    (omega (arith, h, index-low (stepOf chip) resetOf (wordsOf bytes) m, length-map (unpackOf bytes) wordOf, length-unpack bytes))
+
 -- a stream that 11 and 12 don't touch ends as if it were run at once
-pub ended-once : (bytes : List ℕ) (m : Memories) → checked bytes 0 ≡ 0 → endedBy (flawOf bytes m) (wordsRun bytes m) ≡ running bytes m
+pub ended-once : (bytes : List ℕ) (m : Memories) → length bytes < 2 ^ 64 → checked bytes 0 ≡ 0 → endedBy (flawOf bytes m) (wordsRun bytes m) ≡ running bytes m
 unfolding running flawOf
-ended-once bytes m e = rw (good-told bytes (cond (eqb (length (m .i)) (length (m .z))) 0 2) e) (go (eqb (length (m .i)) (length (m .z))) refl)
+ended-once bytes m h e =
+    ap (endedBy (flawOf bytes m)) (all-counted bytes m h)
+    ∙ (rw (good-told bytes (cond (eqb (length (m .i)) (length (m .z))) 0 2) e) (go (eqb (length (m .i)) (length (m .z))) refl))
   where
+    a : Ran Registers Memories
+    a = runOf (stepOf chip) resetOf (wordsOf bytes) m
+
     go : (b : Bool) → eqb (length (m .i)) (length (m .z)) ≡ b
-        → endedBy (cond b 0 2) (wordsRun bytes m) ≡ cond (eqb (cond b 0 2) 0) (wordsRun bytes m) (ran (cond b 0 2) 0 0 resetOf m)
-    go true t = ended-zero (wordsRun bytes m)
+        → endedBy (cond b 0 2) a ≡ cond (eqb (cond b 0 2) 0) a (ran (cond b 0 2) 0 0 resetOf m)
+    go true t = ended-zero a
     go false t = unlike-run m (eqb-false _ _ t) (unpack-fits bytes)

@@ -1,6 +1,7 @@
 pub mod Rows
 pub mod Words
 pub mod Bytes
+pub mod Sound
 pub mod Ends
 pub mod Settled
 pub mod Request3

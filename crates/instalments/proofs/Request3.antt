@@ -1,16 +1,15 @@
 -- Request 3, of every outcome that the promises of the calls allow: cut anywhere, a recording ends as if it were run at once. Assumes nothing.
 use mathlib.Core.Path.{_≡_, refl, sym, ap, _∙_}
 use mathlib.Core.Logic.{_≢_}
-use mathlib.Core.Bool.{true}
-use mathlib.Core.List.{List, [], _∷_, _++_, flatten, foldl-append}
-use Prim.Native.Nat.{ℕ, _^_, _<_}
+use mathlib.Core.Bool.{Bool, true, false, cond}
+use mathlib.Core.List.{List, [], _∷_, flatten}
+use Prim.Native.Nat.{ℕ, _<_}
 use native.Mathlib.Omega.{arith}
 use lib.ListN.{length}
 use borrow.Author.Tests.{eq-eqb, ne-eqb}
 use Rattle.stream.specs.Format.{number, joined, unpackOf}
 use Rattle.stream.proofs.Bits.{Fits, none}
 use Rattle.stream.proofs.Cut.{joined-fit}
-use Rattle.stream.proofs.Stream.{length-unpack}
 use Rattle.registers.specs.declared.Registers.{Registers}
 use Rattle.registers.specs.Record.{resetOf}
 use Rattle.machine.specs.Run.{Ran, ran}
@@ -18,36 +17,50 @@ use Rattle.machine.specs.Machine.{Memories, memories}
 use Rattle.machine.proofs.Runs.{zero-or-not}
 use Rattle.chip.specs.Stream.{flawOf}
 use Rattle.instalments.specs.declared.Intake.{Intake}
-use Rattle.instalments.specs.Instalments.{Taking, taking, fresh, isClosed, numbered, holding, waiting, byteIn, feeding, endNumberOf, ending}
-use Rattle.instalments.specs.Delivered.{Fed, no-part, a-part, Delivered, wordsRun, endedBy, Cut, Request3}
-use Rattle.instalments.proofs.Rows.{row-sound, past, past-few, past-fits}
+use Rattle.instalments.specs.Instalments.{Taking, taking, intakeOf, fresh, isClosed, isSound, numbered, unsound, given, holding, waiting, bytesIn, feeding, endNumberOf, told, ending}
+use Rattle.instalments.specs.Delivered.{Fed, no-part, a-part, Delivered, Left, by-begin, by-feed, by-finish, wordsRun, endedBy, Cut, Request3}
+use Rattle.instalments.proofs.Rows.{past, past-few, past-fits}
 use Rattle.instalments.proofs.Words.{words-run}
-use Rattle.instalments.proofs.Bytes.{onward-each, onward-closed, onward-sound, closed-refused, closed-told, open-before, waiting-open, waiting-closed, feeding-closed, feeding-row}
+use Rattle.instalments.proofs.Bytes.{closed-refused, closed-told, open-before, waiting-open, waiting-closed, bytes-append, bytes-closed, bytes-row}
+use Rattle.instalments.proofs.Sound.{feeding-bytes, feeding-refused, ending-open, ending-stays, ending-refused, fresh-sound, bytes-sound, feeding-sound, ending-sound}
 use Rattle.instalments.proofs.Ends.{end-number, ended-once}
-use Rattle.instalments.proofs.Settled.{intakeOf}
+
+-- ---- records that calls leave
+
+-- they break no bound
+left-sound : {s : Intake} → Left s → isSound s ≡ true
+left-sound (by-begin e) = rw e fresh-sound
+left-sound (by-feed {s = s} m m′ bytes l e) = rw (ap intakeOf e) (feeding-sound (taking s m) (left-sound l) bytes)
+left-sound (by-finish {s = s} m l e) = rw (ap intakeOf e) (ending-sound (taking s m) (left-sound l))
+
+-- the end closes them
+ending-closes : (t : Taking) → isSound (intakeOf t) ≡ true → isClosed (ending t .so .refusal) (ending t .over) ≡ true
+ending-closes t sound = go (isClosed (t .so .refusal) (t .over)) refl
+  where
+    go : (c : Bool) → isClosed (t .so .refusal) (t .over) ≡ c → isClosed (ending t .so .refusal) (ending t .over) ≡ true
+    go true e = rw (ending-stays t sound e) e
+    go false e = rw (ending-open t sound e) (closed-told (endNumberOf t))
 
 -- ---- parts
 
--- an instalment in two parts is one after the other
-pub feeding-append : (t : Taking) (bytes more : List ℕ) → feeding t (bytes ++ more) ≡ feeding (feeding t bytes) more
-unfolding feeding
-feeding-append t bytes more = foldl-append byteIn t bytes more
-
 -- calls of `feed` come to what one call with all their bytes comes to
-pub fed-together : {s s′ : Intake} {m m′ : Memories} {parts : List (List ℕ)} → Fed s m parts s′ m′ → taking s′ m′ ≡ feeding (taking s m) (flatten parts)
-unfolding feeding flatten
-fed-together no-part = refl
-fed-together (a-part {s = s} {m = m} {part = part} {parts = parts} e f) =
-    fed-together f ∙ ap (λ (t : Taking). feeding t (flatten parts)) e ∙ sym (feeding-append (taking s m) part (flatten parts))
+pub fed-together : {s s′ : Intake} {m m′ : Memories} {parts : List (List ℕ)} → isSound s ≡ true → Fed s m parts s′ m′
+    → taking s′ m′ ≡ bytesIn (taking s m) (flatten parts)
+unfolding bytesIn flatten
+fed-together sound no-part = refl
+fed-together sound (a-part {s = s} {s₁ = s₁} {m = m} {m₁ = m₁} {part = part} {parts = parts} e f) =
+    let here : taking s₁ m₁ ≡ bytesIn (taking s m) part = e ∙ feeding-bytes (taking s m) sound part in
+    let next : isSound s₁ ≡ true = rw (ap intakeOf here) (bytes-sound part (taking s m) sound) in
+    fed-together next f ∙ ap (λ (t : Taking). bytesIn t (flatten parts)) here ∙ sym (bytes-append (taking s m) part (flatten parts))
 
 -- ---- from the beginning
 
 -- bytes from the beginning: their words are run, and the bits behind them wait
-pub fed-fresh : (bytes : List ℕ) (m : Memories) → length bytes < 2 ^ 64 → feeding (taking fresh m) bytes ≡ waiting (wordsRun bytes m) (past (joined 8 bytes))
+pub bytes-fresh : (bytes : List ℕ) (m : Memories) → bytesIn (taking fresh m) bytes ≡ waiting (wordsRun bytes m) (past (joined 8 bytes))
 unfolding waiting number unpackOf
-fed-fresh bytes m h =
-    feeding-row bytes (ran 0 0 0 resetOf m) [] (omega arith) none (omega arith)
-    ∙ ap (λ (a : Ran Registers Memories). waiting a (past (joined 8 bytes))) (words-run (unpackOf bytes) (ran 0 0 0 resetOf m) (omega (arith, length-unpack bytes)))
+bytes-fresh bytes m =
+    bytes-row bytes (ran 0 0 0 resetOf m) [] (omega arith) none (omega arith)
+    ∙ ap (λ (a : Ran Registers Memories). waiting a (past (joined 8 bytes))) (words-run (unpackOf bytes) (ran 0 0 0 resetOf m))
 
 -- with bits that wait, the run so far is the run
 waiting-so : (a : Ran Registers Memories) (row : List ℕ) → waiting a row .so ≡ a
@@ -56,51 +69,37 @@ waiting-so a row = refl
 
 -- ---- the end
 
-module _ (a : Ran Registers Memories) (row : List ℕ) where
-  -- after a refused word the end repeats its answer
-  end-stopped : a .refusal ≢ 0 → ending (waiting a row) .so ≡ a
-  unfolding ending
-  end-stopped e = ap (λ (t : Taking). ending t .so) (waiting-closed a row e) ∙ ap (λ (t : Taking). t .so) (onward-closed (holding a []) _ (closed-refused _ 0 e))
+-- after all bytes
+pub ended-fresh : (bytes : List ℕ) (m : Memories) → ending (bytesIn (taking fresh m) bytes) .so ≡ endedBy (flawOf bytes m) (wordsRun bytes m)
+ended-fresh bytes m = zero-or-not (a .refusal) going stopped
+  where
+    a : Ran Registers Memories
+    a = wordsRun bytes m
 
-  -- else it tells its number
-  end-told : Fits 1 row → length row < 20 → a .refusal ≡ 0
-      → ending (waiting a row) .so ≡ numbered (endNumberOf (holding a row)) a
-  unfolding ending
-  end-told f short e =
-      ap (λ (t : Taking). ending t .so) (waiting-open a row e)
-      ∙ ap (λ (t : Taking). t .so) (onward-sound (holding a row) _ (open-before _ e) (row-sound f short))
+    row : List ℕ
+    row = past (joined 8 bytes)
 
--- the end after all bytes
-pub ended-fresh : (bytes : List ℕ) (m : Memories) → length bytes < 2 ^ 64
-    → ending (feeding (taking fresh m) bytes) .so ≡ endedBy (flawOf bytes m) (wordsRun bytes m)
-ended-fresh bytes m h =
-    let a = wordsRun bytes m in
-    let row = past (joined 8 bytes) in
-    ap (λ (t : Taking). ending t .so) (fed-fresh bytes m h)
-    ∙ zero-or-not (a .refusal)
-    (λ e.
-    end-told a row (past-fits (joined-fit 8 bytes)) (past-few (joined 8 bytes)) e
-    ∙ ap (λ (n : ℕ). numbered n a) (end-number bytes m)
-    ∙ sym (rw (eq-eqb _ _ e)))
-    (λ e. end-stopped a row e ∙ sym (rw (ne-eqb _ _ e)))
+    t : Taking
+    t = bytesIn (taking fresh m) bytes
 
--- ---- a closed record
+    sound : isSound (intakeOf t) ≡ true
+    sound = bytes-sound bytes (taking fresh m) fresh-sound
 
-module _ (t : Taking) where
-  -- the end leaves it as it is
-  ending-stays : isClosed (t .so .refusal) (t .over) ≡ true → ending t ≡ t
-  unfolding ending
-  ending-stays e = onward-closed t _ e
+    -- it tells its number
+    going : a .refusal ≡ 0 → ending t .so ≡ endedBy (flawOf bytes m) a
+    going e =
+        let is : t ≡ holding a row = bytes-fresh bytes m ∙ waiting-open a row e in
+        let opened : isClosed (t .so .refusal) (t .over) ≡ false = rw is (open-before (a .refusal) e) in
+        ap (λ (u : Taking). u .so) (ending-open t sound opened ∙ ap told is)
+        ∙ ap (λ (n : ℕ). numbered n a) (end-number bytes m)
+        ∙ sym (rw (eq-eqb _ _ e))
 
-  -- the end closes a record
-  ending-closes : isClosed (ending t .so .refusal) (ending t .over) ≡ true
-  unfolding ending
-  ending-closes = onward-each t _ (λ u. isClosed (u .so .refusal) (u .over) ≡ true) (λ e. e) (closed-told (endNumberOf t)) refl
-
-  -- and leaves the memories
-  ending-leaves : ending t .so .memories ≡ t .so .memories
-  unfolding ending
-  ending-leaves = onward-each t _ (λ u. u .so .memories ≡ t .so .memories) (λ e. refl) refl refl
+    -- after a refused word it repeats that answer
+    stopped : a .refusal ≢ 0 → ending t .so ≡ endedBy (flawOf bytes m) a
+    stopped e =
+        let is : t ≡ holding a [] = bytes-fresh bytes m ∙ waiting-closed a row e in
+        let shut : isClosed (t .so .refusal) (t .over) ≡ true = rw is (closed-refused (a .refusal) 0 e) in
+        ap (λ (u : Taking). u .so) (ending-stays t sound shut ∙ is) ∙ sym (rw (ne-eqb _ _ e))
 
 -- ---- answers
 
@@ -114,6 +113,16 @@ fed : (parts : List (List ℕ)) (s : Intake) (m : Memories) → Fed s m parts (i
 unfolding left
 fed [] s m = no-part
 fed (part ∷ parts) s m = let t = feeding (taking s m) part in a-part refl (fed parts (intakeOf t) (t .so .memories))
+
+-- the end leaves the memories
+ending-leaves : (t : Taking) → ending t .so .memories ≡ t .so .memories
+unfolding ending given
+ending-leaves t = go (isSound (intakeOf t)) (isClosed (t .so .refusal) (t .over))
+  where
+    go : (b c : Bool) → cond b (cond c t (told t)) (unsound t) .so .memories ≡ t .so .memories
+    go true true = refl
+    go true false = refl
+    go false c = refl
 
 -- so there is one of every recording
 answered : (parts : List (List ℕ)) (i z : List ℕ) → Delivered parts i z
@@ -132,21 +141,22 @@ answered parts i z =
 
 -- ---- the request
 
-module _ (parts : List (List ℕ)) (i z : List ℕ) (h : length (flatten parts) < 2 ^ 64) (d : Delivered parts i z) where
+module _ (parts : List (List ℕ)) (i z : List ℕ) (d : Delivered parts i z) where
   -- the last call of `feed` answers as one call with all bytes would
-  told : taking (d .last) (memories (d .i-left) (d .z-left)) ≡ feeding (taking fresh (memories i z)) (flatten parts)
-  told = fed-together (d .feeds) ∙ ap (λ (s : Intake). feeding (taking s (memories i z)) (flatten parts)) (d .begins)
+  last-is : taking (d .last) (memories (d .i-left) (d .z-left)) ≡ bytesIn (taking fresh (memories i z)) (flatten parts)
+  last-is =
+      fed-together (rw (d .begins) fresh-sound) (d .feeds) ∙ ap (λ (s : Intake). bytesIn (taking s (memories i z)) (flatten parts)) (d .begins)
 
   -- and the end as it would then
   end-is : taking (d .end) (memories (d .i-left) (d .z-left)) .so ≡ endedBy (flawOf (flatten parts) (memories i z)) (wordsRun (flatten parts) (memories i z))
-  end-is = ap (λ (t : Taking). t .so) (d .ends ∙ ap ending told) ∙ ended-fresh (flatten parts) (memories i z) h
+  end-is = ap (λ (t : Taking). t .so) (d .ends ∙ ap ending last-is) ∙ ended-fresh (flatten parts) (memories i z)
 
   cut : Cut parts i z d
   cut =
       record {
-        before = ap (λ (t : Taking). t .so) (told ∙ fed-fresh (flatten parts) (memories i z) h) ∙ waiting-so _ _;
+        before = ap (λ (t : Taking). t .so) (last-is ∙ bytes-fresh (flatten parts) (memories i z)) ∙ waiting-so _ _;
         at-end = end-is;
-        at-once = λ good o. end-is ∙ ended-once (flatten parts) (memories i z) good ∙ sym (o .promise);
+        at-once = λ short good o. end-is ∙ ended-once (flatten parts) (memories i z) short good ∙ sym (o .promise);
       }
 
 pub request-3 : Request3
@@ -154,9 +164,12 @@ request-3 =
     record {
       answers = answered;
       cut = cut;
-      closes = λ s s′ m e. ap (λ (t : Taking). isClosed (t .so .refusal) (t .over)) e ∙ ending-closes (taking s m);
-      feed-again = λ s s′ m m′ bytes shut e.
-          let same = e ∙ feeding-closed bytes (taking s m) shut in
+      closes = λ s s′ m l e. ap (λ (t : Taking). isClosed (t .so .refusal) (t .over)) e ∙ ending-closes (taking s m) (left-sound l);
+      feed-again = λ s s′ m m′ bytes l shut e.
+          let same = e ∙ feeding-bytes (taking s m) (left-sound l) bytes ∙ bytes-closed bytes (taking s m) shut in
           (ap intakeOf same, ap (λ (t : Taking). t .so .memories) same);
-      end-again = λ s s′ m shut e. ap intakeOf (e ∙ ending-stays (taking s m) shut);
+      end-again = λ s s′ m l shut e. ap intakeOf (e ∙ ending-stays (taking s m) (left-sound l) shut);
+      sound = λ s l. left-sound l;
+      feed-refuses = λ s s′ m m′ bytes broken e. e ∙ feeding-refused (taking s m) broken bytes;
+      end-refuses = λ s s′ m broken e. e ∙ ending-refused (taking s m) broken;
     }

@@ -1,7 +1,7 @@
 -- Rows of bits as the code holds them, a number and how many they are: a byte more, a word off the front, and what is left behind the
 -- words. Assumes nothing.
 use mathlib.Core.Path.{_≡_, sym, ap, ap₂, _∙_}
-use mathlib.Core.Bool.{true}
+use mathlib.Core.Bool.{true, _&&_}
 use mathlib.Core.List.{List, [], _∷_, _++_}
 use Prim.Native.Nat.{ℕ, suc, _+_, _-_, _*_, _/_, _%_, _^_, _≤_, _<_}
 use native.Mathlib.Nat.{div-eq-of-lt, div-lt-iff-lt-mul, mod-lt, mod-eq-of-lt}
@@ -13,24 +13,25 @@ use lib.Pow.{pow-add, pow-pos, pow-mono, shr-lt}
 use lib.Seq.{drop-drop, take-at, drop-at}
 use borrow.Author.Tests.{lt-ltb, ltb-true, eqb-true}
 use Rattle.stream.specs.Format.{bits, number, cut, whole}
-use Rattle.stream.proofs.Bits.{Fits, fits-drop, length-bits, bits-split, bits-low, number-bits, number-lt}
+use Rattle.stream.proofs.Bits.{Fits, fits-drop, length-bits, bits-split, bits-low, number-bits}
 use Rattle.registers.proofs.Truth.{both}
-use Rattle.instalments.specs.Instalments.{isSound}
+use Rattle.instalments.specs.Instalments.{bitsFit}
 
 -- ---- bits that are held
 
--- sound bits are fewer than twenty, and no more than are counted
-pub sound-parts : (h k : ℕ) → isSound h k ≡ true → (k < 20) × (h < 2 ^ k)
-unfolding isSound
-sound-parts h k e =
-    let p = both (ltb k 20) (eqb (h / 2 ^ k) 0) e in
-    let none : h / 2 ^ k < 1 = omega (arith, eqb-true (h / 2 ^ k) 0 (p .1)) in
-    (ltb-true k 20 (p .0), omega (arith, div-lt-iff-lt-mul (pow-pos k) .0 none))
+-- bits that bytes may have left are fewer than twenty, a multiple of four, and a number of no more bits
+pub bits-parts : (h k : ℕ) → bitsFit h k ≡ true → (k < 20) × (k % 4 ≡ 0) × (h < 2 ^ k)
+unfolding bitsFit
+bits-parts h k e =
+    let p = both (ltb k 20) (eqb (k % 4) 0 && eqb (h / 2 ^ k) 0) e in
+    let q = both (eqb (k % 4) 0) (eqb (h / 2 ^ k) 0) (p .1) in
+    let none : h / 2 ^ k < 1 = omega (arith, eqb-true (h / 2 ^ k) 0 (q .1)) in
+    (ltb-true k 20 (p .0), eqb-true (k % 4) 0 (q .0), omega (arith, div-lt-iff-lt-mul (pow-pos k) .0 none))
 
--- a row that is no whole word is sound
-pub row-sound : {row : List ℕ} → Fits 1 row → length row < 20 → isSound (number row) (length row) ≡ true
-unfolding isSound
-row-sound f h = rw (lt-ltb _ _ h, div-eq-of-lt (number-lt f))
+-- and the other way round
+pub parts-bits : (h k : ℕ) → k < 20 → k % 4 ≡ 0 → h < 2 ^ k → bitsFit h k ≡ true
+unfolding bitsFit
+parts-bits h k few fours fits = rw (lt-ltb _ _ few, fours, div-eq-of-lt fits)
 
 -- a row, as the number that it is
 pub number-row : (k v : ℕ) → v < 2 ^ k → number (bits k v) ≡ v

@@ -4,20 +4,7 @@ use mathlib.Core.List.{List}
 use Prim.Native.Nat.{ℕ}
 use Rattle.machine.specs.Machine.{memories}
 use Rattle.instalments.specs.declared.Intake.{Intake}
-use Rattle.instalments.specs.Instalments.{Taking, taking, fresh}
-
--- what is kept of how far a recording has come
-abbrev pub intakeOf : Taking → Intake
-intakeOf t =
-    record {
-      refusal = t .so .refusal;
-      index = t .so .index;
-      sum = t .so .sum;
-      held = t .held;
-      count = t .count;
-      over = t .over;
-      registers = t .so .registers;
-    }
+use Rattle.instalments.specs.Instalments.{Taking, taking, intakeOf, fresh}
 
 -- any two outcomes that the promise of `feed`, or that of `finish`, allows have the same record and the same memories
 pub settled : {t : Taking} {s s′ : Intake} {i z i′ z′ : List ℕ} → taking s (memories i z) ≡ t → taking s′ (memories i′ z′) ≡ t

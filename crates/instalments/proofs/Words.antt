@@ -1,24 +1,34 @@
--- Words, one by one: a word's outcome, added to a run that is counted modulo 2 ^ 64; and, of fewer words than that, the chip's run.
+-- Words, one by one: a word's outcome, added to a run that is counted modulo 2 ^ 64; words in a row are the chip's run, so counted.
 -- Assumes nothing.
 use mathlib.Core.Path.{_≡_, refl, sym, ap, ap₂, _∙_}
 use mathlib.Core.Logic.{_≢_}
+use mathlib.Core.Bool.{true}
 use mathlib.Core.List.{List, [], _∷_, foldl, map}
 use Prim.Native.Nat.{ℕ, _+_, _%_, _^_, _<_}
 use native.Mathlib.Nat.{mod-lt, mod-eq-of-lt}
 use native.Mathlib.Omega.{arith}
-use lib.ListN.{length}
 use Rattle.registers.specs.declared.Registers.{Registers}
 use Rattle.registers.specs.Word.{wordOf}
+use Rattle.registers.specs.Bounds.{inBounds}
 use Rattle.machine.specs.Run.{Outcome, outcome, Ran, ran, advance, runFrom}
 use Rattle.machine.specs.Machine.{Memories, stepOf}
-use Rattle.machine.proofs.Runs.{advance-accepted, advance-refused, advance-stays, run-index}
+use Rattle.machine.proofs.Runs.{advance-accepted, advance-refused, advance-stays, Comes, took, halted, stood, comes}
 use Rattle.machine.proofs.Steps.{refused-leaves}
 use Rattle.chip.specs.Chip.{chip}
+use Rattle.chip.proofs.Laws.{step-kept}
 use Rattle.instalments.specs.Instalments.{counted, wordIn}
 
 -- a count below 2 ^ 64 is told as it is
-counted-low : (a : Ran Registers Memories) → a .index < 2 ^ 64 → counted a ≡ a
+pub counted-low : (a : Ran Registers Memories) → a .index < 2 ^ 64 → counted a ≡ a
 counted-low a h = ap (λ (k : ℕ). ran (a .refusal) k (a .sum) (a .registers) (a .memories)) (mod-eq-of-lt h)
+
+-- counted twice is counted once
+twice : (a : Ran Registers Memories) → counted (counted a) ≡ counted a
+twice a = ap (λ (k : ℕ). ran (a .refusal) k (a .sum) (a .registers) (a .memories)) (mod-eq-of-lt (mod-lt (a .index) (omega arith)))
+
+-- and one more may be counted before or after
+count-on : (k : ℕ) → (k % 2 ^ 64 + 1) % 2 ^ 64 ≡ (k + 1) % 2 ^ 64
+count-on k = omega arith
 
 module _ (a : Ran Registers Memories) (w : ℕ) where
   -- ---- for code that has found a word's outcome
@@ -55,19 +65,36 @@ module _ (a : Ran Registers Memories) (w : ℕ) where
   unfolding wordIn
   word-stays low e = ap counted (advance-stays (stepOf chip) a (wordOf w) e) ∙ counted-low a low
 
-  -- where the count does not pass 2 ^ 64, a word is the chip's
-  word-run : a .index + 1 < 2 ^ 64 → wordIn a w ≡ advance (stepOf chip) a (wordOf w)
+  -- a run that is counted modulo 2 ^ 64 goes on as one that is not
+  word-counted : wordIn (counted a) w ≡ counted (advance (stepOf chip) a (wordOf w))
   unfolding wordIn
-  word-run low = counted-low (advance (stepOf chip) a (wordOf w)) (omega (arith, low, run-index (stepOf chip) (wordOf w ∷ []) a))
+  word-counted = go (comes (stepOf chip) a (wordOf w))
+    where
+      o : Outcome Registers Memories
+      o = stepOf chip (a .registers) (wordOf w) (a .memories)
+
+      go : Comes (stepOf chip) a (wordOf w) → counted (advance (stepOf chip) (counted a) (wordOf w)) ≡ counted (advance (stepOf chip) a (wordOf w))
+      go (took e f) = ap counted (advance-accepted (stepOf chip) (counted a) (wordOf w) e f) ∙ ap (λ (k : ℕ). ran 0 k ((a .sum + o .passed) % 2 ^ 64) (o .registers) (o .memories)) (count-on (a .index)) ∙ sym (ap counted (advance-accepted (stepOf chip) a (wordOf w) e f))
+      go (halted e f) = ap counted (advance-refused (stepOf chip) (counted a) (wordOf w) e f) ∙ twice _ ∙ sym (ap counted (advance-refused (stepOf chip) a (wordOf w) e f))
+      go (stood e) = ap counted (advance-stays (stepOf chip) (counted a) (wordOf w) e) ∙ twice a ∙ sym (ap counted (advance-stays (stepOf chip) a (wordOf w) e))
 
 -- after a refused word none is run
 pub words-stay : (ws : List ℕ) (a : Ran Registers Memories) → a .index < 2 ^ 64 → a .refusal ≢ 0 → foldl wordIn a ws ≡ a
 words-stay [] a low e = refl
 words-stay (w ∷ ws) a low e = ap (λ (b : Ran Registers Memories). foldl wordIn b ws) (word-stays a w low e) ∙ words-stay ws a low e
 
--- fewer than 2 ^ 64 words are the chip's run
-pub words-run : (ws : List ℕ) (a : Ran Registers Memories) → a .index + length ws < 2 ^ 64 → foldl wordIn a ws ≡ runFrom (stepOf chip) a (map wordOf ws)
-words-run [] a low = refl
-words-run (w ∷ ws) a low =
-    ap (λ (b : Ran Registers Memories). foldl wordIn b ws) (word-run a w (omega arith))
-    ∙ words-run ws (advance (stepOf chip) a (wordOf w)) (omega (arith, low, run-index (stepOf chip) (wordOf w ∷ []) a))
+-- words one by one are the chip's run, counted modulo 2 ^ 64
+pub words-run : (ws : List ℕ) (a : Ran Registers Memories) → foldl wordIn (counted a) ws ≡ counted (runFrom (stepOf chip) a (map wordOf ws))
+words-run [] a = refl
+words-run (w ∷ ws) a =
+    ap (λ (b : Ran Registers Memories). foldl wordIn b ws) (word-counted a w) ∙ words-run ws (advance (stepOf chip) a (wordOf w))
+
+-- words keep the registers within their bounds
+pub word-kept : (a : Ran Registers Memories) (w : ℕ) → inBounds (a .registers) ≡ true → inBounds (wordIn a w .registers) ≡ true
+unfolding wordIn
+word-kept a w h = go (comes (stepOf chip) a (wordOf w))
+  where
+    go : Comes (stepOf chip) a (wordOf w) → inBounds (advance (stepOf chip) a (wordOf w) .registers) ≡ true
+    go (took e f) = rw (advance-accepted (stepOf chip) a (wordOf w) e f) (step-kept (a .registers) (wordOf w) (a .memories) h)
+    go (halted e f) = rw (advance-refused (stepOf chip) a (wordOf w) e f) h
+    go (stood e) = rw (advance-stays (stepOf chip) a (wordOf w) e) h

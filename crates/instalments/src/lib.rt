@@ -1,16 +1,17 @@
 // Recordings in instalments: the bytes of a packed stream are taken as they come, and each word is run once its twenty bits are there.
 // specs/Instalments.antt says what each call tells and leaves.
 ghost use mathlib.Core.Path.{_≡_};
+ghost use mathlib.Core.Bool.{true, false};
 ghost use Prim.Native.Nat.{_^_, _<_};
 ghost use Rattle.stream.specs.Format.{bits};
 ghost use Rattle.machine.specs.Machine.{memories};
-ghost use Rattle.instalments.specs.Instalments.{soFar, taking, fresh, isClosed, isSound, wordIn, poured, byteIn, feeding, endNumber, ending};
+ghost use Rattle.instalments.specs.Instalments.{soFar, taking, fresh, isClosed, bitsFit, isSound, wordIn, poured, byteIn, bytesIn, feeding, endNumber, ending};
 use chip::step::step;
 use registers::Registers;
 
 // How far a recording has come, which is also the answer of each call: the number that refused a word or the end, 0 for none; how many words
-// were run, and the sum of their counts, both modulo 2^64; the bits of a word that has not come whole, and how many they are; not 0 once
-// the end was told; and the registers.
+// were run, and the sum of their counts, both modulo 2^64; the bits of a word that has not come whole, and how many they are; 1 once the
+// end was told, else 0; and the registers.
 #[repr(C)]
 pub struct Intake {
     pub refusal: u64,
@@ -45,14 +46,23 @@ fn is_closed(refusal: u64, over: u32) -> bool
     !(refusal == 0) | !(over == 0)
 }
 
-// Whether the bits that are held are fewer than a word has, and no more than are counted.
-fn is_sound(held: u32, count: u32) -> bool
-    ensures { λ r. ⌜ r ≡ isSound held count ⌝ }
+// Whether bytes may have left these bits: fewer than a word has, a multiple of four, and a number of no more bits.
+fn bits_fit(held: u32, count: u32) -> bool
+    ensures { λ r. ⌜ r ≡ bitsFit held count ⌝ }
 {
     if count < 20 {
-        return held >> count == 0;
+        return (count % 4 == 0) & (held >> count == 0);
     }
     false
+}
+
+// Whether a record breaks no bound. None does that a call leaves.
+fn is_sound(s: Intake) -> bool
+    ensures { λ r. ⌜ r ≡ isSound s ⌝ }
+{
+    let registers = s.registers;
+    bits_fit(s.held, s.count)
+        & ((s.over < 2) & ((!is_closed(s.refusal, s.over) | (s.count == 0)) & registers.is_sound()))
 }
 
 // The same words run, with another number, other bits held and another end.
@@ -112,36 +122,46 @@ fn pour(s: Intake, v: u32, n: u32, im: &mut [u16], zm: &mut [u16]) -> Intake
     answer(a, a.refusal, v % (1 << rest), rest, 0)
 }
 
-// Takes a byte.
+// Takes a byte: its bits come behind those that are held.
 fn take(s: Intake, b: u8, im: &mut [u16], zm: &mut [u16]) -> Intake
+    requires { ⌜ isSound s ≡ true ⌝ }
+    requires { ⌜ isClosed (s .refusal) (s .over) ≡ false ⌝ }
     ensures { λ a. ⌜ taking a (memories (now (im .exit)) (now (zm .exit))) ≡ byteIn (taking s (memories (now (im .entry)) (now (zm .entry)))) b ⌝ }
 {
-    if is_closed(s.refusal, s.over) {
-        return s;
-    }
-    if is_sound(s.held, s.count) {
-        return pour(s, s.held * 256 + b as u32, s.count + 8, im, zm);
-    }
-    answer(s, 2, s.held, s.count, s.over)
+    pour(s, s.held * 256 + b as u32, s.count + 8, im, zm)
 }
 
-// Takes an instalment. Before the end the answer has 0, and the words run and their sum so far; after a refused word or the end, a call
-// changes nothing and answers as before.
-pub fn feed(s: Intake, bytes: &[u8], im: &mut [u16], zm: &mut [u16]) -> Intake
-    ensures { λ a. ⌜ taking a (memories (now (im .exit)) (now (zm .exit))) ≡ feeding (taking s (memories (now (im .entry)) (now (zm .entry)))) (now (bytes .entry)) ⌝ }
+// Takes byte after byte, until a word is refused.
+fn take_all(s: Intake, bytes: &[u8], im: &mut [u16], zm: &mut [u16]) -> Intake
+    requires { ⌜ isSound s ≡ true ⌝ }
+    ensures { λ a. ⌜ taking a (memories (now (im .exit)) (now (zm .exit))) ≡ bytesIn (taking s (memories (now (im .entry)) (now (zm .entry)))) (now (bytes .entry)) ⌝ }
 {
     let mut next = s;
     let mut k = 0;
     while k < bytes.len() {
+        if is_closed(next.refusal, next.over) {
+            return next;
+        }
         next = take(next, bytes[k], im, zm);
         k += 1;
     }
     next
 }
 
-// The number that the end tells of bits that are left over: 11, 12, then 2.
-fn end_number(held: u32, count: u32, unfit: bool) -> u64
-    ensures { λ r. ⌜ r ≡ endNumber held count unfit ⌝ }
+// Takes an instalment. Before the end the answer has 0, and the words run and their sum so far; after a refused word or the end, a call
+// changes nothing and answers as before. A record that no call leaves is refused with 2.
+pub fn feed(s: Intake, bytes: &[u8], im: &mut [u16], zm: &mut [u16]) -> Intake
+    ensures { λ a. ⌜ taking a (memories (now (im .exit)) (now (zm .exit))) ≡ feeding (taking s (memories (now (im .entry)) (now (zm .entry)))) (now (bytes .entry)) ⌝ }
+{
+    if is_sound(s) {
+        return take_all(s, bytes, im, zm);
+    }
+    answer(s, 2, s.held, s.count, s.over)
+}
+
+// The number that the end tells of bits that are left over, and of memories of two lengths: 11, 12, then 2.
+fn end_number(held: u32, count: u32, ni: usize, nz: usize) -> u64
+    ensures { λ r. ⌜ r ≡ endNumber held count ni nz ⌝ }
 {
     if !((count == 0) | (count == 4)) {
         return 11;
@@ -149,23 +169,22 @@ fn end_number(held: u32, count: u32, unfit: bool) -> u64
     if !(held == 0) {
         return 12;
     }
-    if unfit {
-        return 2;
+    if ni == nz {
+        return 0;
     }
-    0
+    2
 }
 
-// Ends a recording: no more bytes come.
+// Ends a recording: no more bytes come. After a refused word or the end it changes nothing and answers as before. A record that no call
+// leaves is refused with 2.
 pub fn finish(s: Intake, im: &[u16], zm: &[u16]) -> Intake
     ensures { λ a. ⌜ taking a (memories (now (im .entry)) (now (zm .entry))) ≡ ending (taking s (memories (now (im .entry)) (now (zm .entry)))) ⌝ }
 {
-    if is_closed(s.refusal, s.over) {
-        return s;
-    }
-    if is_sound(s.held, s.count) {
-        let registers = s.registers;
-        let unfit = !(im.len() == zm.len()) | !registers.is_sound();
-        return answer(s, end_number(s.held, s.count, unfit), 0, 0, 1);
+    if is_sound(s) {
+        if is_closed(s.refusal, s.over) {
+            return s;
+        }
+        return answer(s, end_number(s.held, s.count, im.len(), zm.len()), 0, 0, 1);
     }
     answer(s, 2, s.held, s.count, s.over)
 }
