@@ -3,12 +3,14 @@
 //! is tried against every figure.
 
 mod commands;
+mod cuts;
 mod edges;
 #[cfg(test)]
 mod examples;
 mod figures;
 mod generator;
 mod hexwords;
+mod instalments;
 mod picture;
 mod printing;
 mod program;
@@ -23,7 +25,8 @@ mod vectors;
 use std::io::{self, Read, Write};
 use std::process::ExitCode;
 
-const USAGE: &str = "usage: second draw | pack | unpack | generate SEED | seeds FIRST COUNT DIR | vectors DIR | shares FIRST COUNT";
+const USAGE: &str =
+    "usage: second draw | receive | pack | unpack | generate SEED | seeds FIRST COUNT DIR | cuts FIRST COUNT DIR | vectors DIR | shares FIRST COUNT";
 
 fn main() -> ExitCode {
     let arguments: Vec<String> = std::env::args().skip(1).collect();
@@ -40,10 +43,12 @@ fn main() -> ExitCode {
 fn dispatch(arguments: &[&str]) -> Result<(), String> {
     match arguments {
         ["draw"] => draw(),
+        ["receive"] => receive(),
         ["pack"] => write_out(&hexwords::pack_text(&read_all()?)?),
         ["unpack"] => write_out(hexwords::unpack_text(&read_all()?)?.as_bytes()),
         ["generate", seed] => write_out(&generator::generate(number(seed)?)),
         ["seeds", first, count, directory] => seeds::write(number(first)?, number(count)?, directory),
+        ["cuts", first, count, directory] => cuts::write(number(first)?, number(count)?, directory),
         ["vectors", directory] => vectors::write(directory),
         ["shares", first, count] => print_shares(number(first)?, number(count)?),
         _ => Err(USAGE.to_string()),
@@ -74,6 +79,16 @@ fn write_out(bytes: &[u8]) -> Result<(), String> {
 fn draw() -> Result<(), String> {
     let bytes = read_at_most(printing::LONGEST_STREAM as u64 + 1)?;
     write_out(printing::drawing(&bytes).as_bytes())
+}
+
+/// A recording of any length, a thousand bytes an instalment.
+fn receive() -> Result<(), String> {
+    let mut picture = picture::Picture::cleared(printing::PLACES);
+    let mut recording = instalments::Instalments::begun();
+    for part in read_all()?.chunks(1000) {
+        recording.feed(part, &mut picture);
+    }
+    write_out(printing::text(&recording.end(), &picture).as_bytes())
 }
 
 fn print_shares(first: u64, count: u64) -> Result<(), String> {

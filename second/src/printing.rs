@@ -12,7 +12,7 @@ pub const PLACES: usize = 8192;
 pub fn drawing(bytes: &[u8]) -> String {
     match drawing_outcome(bytes) {
         None => "too long\n".to_string(),
-        Some((outcome, picture)) => first_line(&outcome) + &lit_places(&outcome, &picture),
+        Some((outcome, picture)) => text(&outcome, &picture),
     }
 }
 
@@ -24,6 +24,11 @@ pub fn drawing_outcome(bytes: &[u8]) -> Option<(Outcome, Picture)> {
     let mut picture = Picture::cleared(PLACES);
     let outcome = run(bytes, &mut picture);
     Some((outcome, picture))
+}
+
+/// What is printed of a run.
+pub fn text(outcome: &Outcome, picture: &Picture) -> String {
+    first_line(outcome) + &lit_places(outcome, picture)
 }
 
 fn first_line(outcome: &Outcome) -> String {

@@ -59,7 +59,7 @@ pub fn unpack(bytes: &[u8]) -> Result<Vec<Word>, i64> {
 }
 
 /// Five half bytes, read as one number, most significant first.
-fn word_of_halves(halves: &[i64]) -> Word {
+pub fn word_of_halves(halves: &[i64]) -> Word {
     Word::from_number(halves.iter().fold(0, |number, half| number * 16 + half))
 }
 
