@@ -3,9 +3,8 @@
 ghost use mathlib.Core.Path.{_≡_};
 ghost use mathlib.Core.Bool.{true, false};
 ghost use Prim.Native.Nat.{_^_, _<_};
-ghost use Rattle.stream.specs.Format.{bits};
 ghost use Rattle.machine.specs.Machine.{memories};
-ghost use Rattle.instalments.specs.Instalments.{soFar, taking, fresh, isClosed, bitsFit, isSound, wordIn, poured, byteIn, bytesIn, feeding, endNumber, ending};
+ghost use Rattle.instalments.specs.Instalments.{soFar, taking, fresh, isClosed, bitsFit, isSound, wordIn, bytesIn, feeding, endNumber, ending};
 use chip::step::step;
 use registers::Registers;
 
@@ -104,48 +103,34 @@ fn run_word(s: Intake, w: u32, im: &mut [u16], zm: &mut [u16]) -> Intake
     }
 }
 
-// Takes n bits, those held and eight more: twenty are a word, and those behind it wait.
-fn pour(s: Intake, v: u32, n: u32, im: &mut [u16], zm: &mut [u16]) -> Intake
-    requires { ⌜ s .refusal ≡ 0 ⌝ }
-    requires { ⌜ n < 28 ⌝ }
-    requires { ⌜ v < 2 ^ n ⌝ }
-    ensures { λ a. ⌜ taking a (memories (now (im .exit)) (now (zm .exit))) ≡ poured (soFar s (memories (now (im .entry)) (now (zm .entry)))) (bits n v) ⌝ }
-{
-    if n < 20 {
-        return answer(s, s.refusal, v, n, 0);
-    }
-    let rest = n - 20;
-    let a = run_word(s, v >> rest, im, zm);
-    if a.refusal != 0 {
-        return answer(a, a.refusal, 0, 0, 0);
-    }
-    answer(a, a.refusal, v % (1 << rest), rest, 0)
-}
-
-// Takes a byte: its bits come behind those that are held.
-fn take(s: Intake, b: u8, im: &mut [u16], zm: &mut [u16]) -> Intake
-    requires { ⌜ isSound s ≡ true ⌝ }
-    requires { ⌜ isClosed (s .refusal) (s .over) ≡ false ⌝ }
-    ensures { λ a. ⌜ taking a (memories (now (im .exit)) (now (zm .exit))) ≡ byteIn (taking s (memories (now (im .entry)) (now (zm .entry)))) b ⌝ }
-{
-    pour(s, s.held * 256 + b as u32, s.count + 8, im, zm)
-}
-
-// Takes byte after byte, until a word is refused.
+// Takes byte after byte, until a word is refused: a byte's bits come behind those that are held, and the first twenty are a word.
 fn take_all(s: Intake, bytes: &[u8], im: &mut [u16], zm: &mut [u16]) -> Intake
     requires { ⌜ isSound s ≡ true ⌝ }
+    requires { ⌜ isClosed (s .refusal) (s .over) ≡ false ⌝ }
     ensures { λ a. ⌜ taking a (memories (now (im .exit)) (now (zm .exit))) ≡ bytesIn (taking s (memories (now (im .entry)) (now (zm .entry)))) (now (bytes .entry)) ⌝ }
 {
     let mut next = s;
+    let mut held = s.held;
+    let mut count = s.count;
     let mut k = 0;
     while k < bytes.len() {
-        if is_closed(next.refusal, next.over) {
-            return next;
-        }
-        next = take(next, bytes[k], im, zm);
+        let v = held * 256 + bytes[k] as u32;
+        let n = count + 8;
         k += 1;
+        if n < 20 {
+            held = v;
+            count = n;
+        } else {
+            let rest = n - 20;
+            next = run_word(next, v >> rest, im, zm);
+            if next.refusal != 0 {
+                return answer(next, next.refusal, 0, 0, 0);
+            }
+            held = v % (1 << rest);
+            count = rest;
+        }
     }
-    next
+    answer(next, next.refusal, held, count, 0)
 }
 
 // Takes an instalment. Before the end the answer has 0, and the words run and their sum so far; after a refused word or the end, a call
@@ -154,6 +139,9 @@ pub fn feed(s: Intake, bytes: &[u8], im: &mut [u16], zm: &mut [u16]) -> Intake
     ensures { λ a. ⌜ taking a (memories (now (im .exit)) (now (zm .exit))) ≡ feeding (taking s (memories (now (im .entry)) (now (zm .entry)))) (now (bytes .entry)) ⌝ }
 {
     if is_sound(s) {
+        if is_closed(s.refusal, s.over) {
+            return s;
+        }
         return take_all(s, bytes, im, zm);
     }
     answer(s, 2, s.held, s.count, s.over)
