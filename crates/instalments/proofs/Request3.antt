@@ -3,13 +3,11 @@ use mathlib.Core.Path.{_≡_, refl, sym, ap, _∙_}
 use mathlib.Core.Logic.{_≢_}
 use mathlib.Core.Bool.{Bool, true, false, cond}
 use mathlib.Core.List.{List, [], _∷_, flatten}
-use Prim.Native.Nat.{ℕ, _<_}
+use Prim.Native.Nat.{ℕ}
 use native.Mathlib.Omega.{arith}
-use lib.ListN.{length}
 use borrow.Author.Tests.{eq-eqb, ne-eqb}
 use Rattle.stream.specs.Format.{number, joined, unpackOf}
-use Rattle.stream.proofs.Bits.{Fits, none}
-use Rattle.stream.proofs.Cut.{joined-fit}
+use Rattle.stream.proofs.Bits.{none}
 use Rattle.registers.specs.declared.Registers.{Registers}
 use Rattle.registers.specs.Record.{resetOf}
 use Rattle.machine.specs.Run.{Ran, ran}
@@ -19,7 +17,7 @@ use Rattle.chip.specs.Stream.{flawOf}
 use Rattle.instalments.specs.declared.Intake.{Intake}
 use Rattle.instalments.specs.Instalments.{Taking, taking, intakeOf, fresh, isClosed, isSound, numbered, unsound, given, holding, waiting, bytesIn, feeding, endNumberOf, told, ending}
 use Rattle.instalments.specs.Delivered.{Fed, no-part, a-part, Delivered, Left, by-begin, by-feed, by-finish, wordsRun, endedBy, Cut, Request3}
-use Rattle.instalments.proofs.Rows.{past, past-few, past-fits}
+use Rattle.instalments.proofs.Rows.{past}
 use Rattle.instalments.proofs.Words.{words-run}
 use Rattle.instalments.proofs.Bytes.{closed-refused, closed-told, open-before, waiting-open, waiting-closed, bytes-append, bytes-closed, bytes-row}
 use Rattle.instalments.proofs.Sound.{feeding-bytes, feeding-refused, ending-open, ending-stays, ending-refused, fresh-sound, bytes-sound, feeding-sound, ending-sound}

@@ -4,7 +4,7 @@ use mathlib.Core.Path.{_≡_, sym, ap, ap₂, _∙_}
 use mathlib.Core.Bool.{true, _&&_}
 use mathlib.Core.List.{List, [], _∷_, _++_}
 use Prim.Native.Nat.{ℕ, suc, _+_, _-_, _*_, _/_, _%_, _^_, _≤_, _<_}
-use native.Mathlib.Nat.{div-eq-of-lt, div-lt-iff-lt-mul, mod-lt, mod-eq-of-lt}
+use native.Mathlib.Nat.{div-eq-of-lt, div-lt-iff-lt-mul, mod-eq-of-lt}
 use native.Mathlib.Omega.{arith}
 use lib.Arith.{digits-lt}
 use lib.Dec.{ltb, eqb}
@@ -13,7 +13,7 @@ use lib.Pow.{pow-add, pow-pos, pow-mono, shr-lt}
 use lib.Seq.{drop-drop, take-at, drop-at}
 use borrow.Author.Tests.{lt-ltb, ltb-true, eqb-true}
 use Rattle.stream.specs.Format.{bits, number, cut, whole}
-use Rattle.stream.proofs.Bits.{Fits, fits-drop, length-bits, bits-split, bits-low, number-bits}
+use Rattle.stream.proofs.Bits.{length-bits, bits-split, bits-low, number-bits}
 use Rattle.registers.proofs.Truth.{both}
 use Rattle.instalments.specs.Instalments.{bitsFit}
 
@@ -122,12 +122,3 @@ module _ (row : List ℕ) where
   pub past-length : length (past row) ≡ length row % 20
   unfolding past
   past-length = omega (arith, length-drop (length row / 20 * 20) row)
-
-  -- fewer than a word has
-  pub past-few : length (past row) < 20
-  past-few = rw past-length (mod-lt (length row) (omega arith))
-
--- and they are bits
-pub past-fits : {row : List ℕ} → Fits 1 row → Fits 1 (past row)
-unfolding past
-past-fits {row} f = fits-drop (length row / 20 * 20) f

@@ -1,8 +1,8 @@
 -- Records that break no bound: what that comes to, that every call leaves one, and what a call makes of any other. Assumes nothing.
-use mathlib.Core.Path.{_≡_, refl, sym, ap, _∙_, subst}
+use mathlib.Core.Path.{_≡_, refl, sym, _∙_}
 use mathlib.Core.Bool.{Bool, true, false, not, _&&_, _||_, true≢false}
 use mathlib.Core.List.{List, [], _∷_, _++_}
-use Prim.Native.Nat.{ℕ, _+_, _-_, _%_, _^_, _≤_, _<_}
+use Prim.Native.Nat.{ℕ, _+_, _-_, _%_, _^_, _<_}
 use native.Mathlib.Omega.{arith}
 use lib.Dec.{ltb, eqb}
 use lib.ListN.{length, take, drop, length-append, length-drop}
@@ -17,7 +17,7 @@ use Rattle.machine.specs.Run.{Ran}
 use Rattle.machine.specs.Machine.{Memories}
 use Rattle.machine.proofs.Runs.{zero-or-not}
 use Rattle.instalments.specs.declared.Intake.{Intake}
-use Rattle.instalments.specs.Instalments.{Taking, taking, intakeOf, fresh, isClosed, bitsFit, isSound, unsound, given, wordIn, waiting, poured, byteIn, bytesIn, feeding, told, ending}
+use Rattle.instalments.specs.Instalments.{Taking, intakeOf, fresh, isClosed, bitsFit, isSound, unsound, given, wordIn, waiting, poured, byteIn, bytesIn, feeding, told, ending}
 use Rattle.instalments.proofs.Rows.{bits-parts, parts-bits}
 use Rattle.instalments.proofs.Words.{word-kept}
 use Rattle.instalments.proofs.Bytes.{open-before, waiting-open, waiting-closed, poured-short, poured-word, byte-open, byte-closed, bytes-append}

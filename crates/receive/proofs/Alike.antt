@@ -4,9 +4,7 @@ use mathlib.Core.List.{List, flatten}
 use Prim.Native.Nat.{ℕ, _^_, _<_}
 use lib.ListN.{length}
 use Rattle.stream.specs.Calls.{checked}
-use Rattle.registers.specs.declared.Registers.{Registers}
-use Rattle.machine.specs.Run.{Ran}
-use Rattle.machine.specs.Machine.{Memories, memories}
+use Rattle.machine.specs.Machine.{memories}
 use Rattle.chip.specs.Stream.{running}
 use Rattle.chip.specs.Demands.{Ended}
 use Rattle.instalments.specs.Instalments.{Taking, taking}
