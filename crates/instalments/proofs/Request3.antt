@@ -15,7 +15,7 @@ use Rattle.machine.specs.Machine.{Memories, memories}
 use Rattle.machine.proofs.Runs.{zero-or-not}
 use Rattle.chip.specs.Stream.{flawOf}
 use Rattle.instalments.specs.declared.Intake.{Intake}
-use Rattle.instalments.specs.Instalments.{Taking, taking, intakeOf, fresh, isClosed, isSound, numbered, unsound, given, holding, waiting, bytesIn, feeding, endNumberOf, told, ending}
+use Rattle.instalments.specs.Instalments.{Taking, soFar, taking, intakeOf, fresh, isClosed, isSound, numbered, unsound, given, holding, waiting, bytesIn, feeding, endNumberOf, told, ending}
 use Rattle.instalments.specs.Delivered.{Fed, no-part, a-part, Delivered, Left, by-begin, by-feed, by-finish, wordsRun, endedBy, Cut, Request3}
 use Rattle.instalments.proofs.Rows.{past}
 use Rattle.instalments.proofs.Words.{words-run}
@@ -139,20 +139,24 @@ answered parts i z =
 
 -- ---- the request
 
-module _ (parts : List (List ℕ)) (i z : List ℕ) (d : Delivered parts i z) where
-  -- the last call of `feed` answers as one call with all bytes would
-  last-is : taking (d .last) (memories (d .i-left) (d .z-left)) ≡ bytesIn (taking fresh (memories i z)) (flatten parts)
-  last-is =
-      fed-together (rw (d .begins) fresh-sound) (d .feeds) ∙ ap (λ (s : Intake). bytesIn (taking s (memories i z)) (flatten parts)) (d .begins)
+module _ (parts : List (List ℕ)) (first last : Intake) (m m′ : Memories) (begins : first ≡ fresh) (feeds : Fed first m parts last m′) where
+  -- a call of `feed` answers as one call with all bytes so far would
+  last-is : taking last m′ ≡ bytesIn (taking fresh m) (flatten parts)
+  last-is = fed-together (rw begins fresh-sound) feeds ∙ ap (λ (s : Intake). bytesIn (taking s m) (flatten parts)) begins
 
+  before : soFar last m′ ≡ wordsRun (flatten parts) m
+  before = ap (λ (t : Taking). t .so) (last-is ∙ bytes-fresh (flatten parts) m) ∙ waiting-so _ _
+
+module _ (parts : List (List ℕ)) (i z : List ℕ) (d : Delivered parts i z) where
   -- and the end as it would then
   end-is : taking (d .end) (memories (d .i-left) (d .z-left)) .so ≡ endedBy (flawOf (flatten parts) (memories i z)) (wordsRun (flatten parts) (memories i z))
-  end-is = ap (λ (t : Taking). t .so) (d .ends ∙ ap ending last-is) ∙ ended-fresh (flatten parts) (memories i z)
+  end-is =
+      let all = last-is parts (d .first) (d .last) (memories i z) (memories (d .i-left) (d .z-left)) (d .begins) (d .feeds) in
+      ap (λ (t : Taking). t .so) (d .ends ∙ ap ending all) ∙ ended-fresh (flatten parts) (memories i z)
 
   cut : Cut parts i z d
   cut =
       record {
-        before = ap (λ (t : Taking). t .so) (last-is ∙ bytes-fresh (flatten parts) (memories i z)) ∙ waiting-so _ _;
         at-end = end-is;
         at-once = λ short good o. end-is ∙ ended-once (flatten parts) (memories i z) short good ∙ sym (o .promise);
       }
@@ -161,6 +165,7 @@ pub request-3 : Request3
 request-3 =
     record {
       answers = answered;
+      before = before;
       cut = cut;
       closes = λ s s′ m l e. ap (λ (t : Taking). isClosed (t .so .refusal) (t .over)) e ∙ ending-closes (taking s m) (left-sound l);
       feed-again = λ s s′ m m′ bytes l shut e.

@@ -52,11 +52,9 @@ wordsRun bytes m = counted (runOf (stepOf chip) resetOf (wordsOf bytes) m)
 abbrev pub endedBy : ℕ → Ran Registers Memories → Ran Registers Memories
 endedBy n a = cond (eqb (a .refusal) 0) (numbered n a) a
 
--- of a recording, cut anywhere
+-- the end of a recording that was cut anywhere
 pub record Cut (parts : List (List ℕ)) (i z : List ℕ) (d : Delivered parts i z) : Type 0 where
-  -- before the end a call tells 0, and the words run and their sum so far; or the refused word's number, its index and the sum before it
-  pub before : soFar (d .last) (memories (d .i-left) (d .z-left)) ≡ wordsRun (flatten parts) (memories i z)
-  -- the end checks 11, 12, then 2
+  -- it checks 11, 12, then 2
   pub at-end : soFar (d .end) (memories (d .i-left) (d .z-left)) ≡ endedBy (flawOf (flatten parts) (memories i z)) (wordsRun (flatten parts) (memories i z))
   -- a stream that 11 and 12 don't touch ends as if it were run at once: the same answer, registers and memories
   pub at-once : length (flatten parts) < 2 ^ 64 → checked (flatten parts) 0 ≡ 0 → (o : Ended (flatten parts) i z)
@@ -65,6 +63,9 @@ pub record Cut (parts : List (List ℕ)) (i z : List ℕ) (d : Delivered parts i
 pub record Request3 : Type 0 where
   -- every recording, cut anywhere, over every pair of memories, gets an answer
   pub answers : (parts : List (List ℕ)) (i z : List ℕ) → Delivered parts i z
+  -- before the end each call tells 0, and the words run and their sum so far; or the refused word's number, its index and the sum before it
+  pub before : (parts : List (List ℕ)) (first last : Intake) (m m′ : Memories) → first ≡ fresh → Fed first m parts last m′
+      → soFar last m′ ≡ wordsRun (flatten parts) m
   pub cut : (parts : List (List ℕ)) (i z : List ℕ) (d : Delivered parts i z) → Cut parts i z d
   -- the end closes a record
   pub closes : (s s′ : Intake) (m : Memories) → Left s → taking s′ m ≡ ending (taking s m) → isClosed (s′ .refusal) (s′ .over) ≡ true
