@@ -1,4 +1,5 @@
-// A recording fed to the card word by word, as a driver gets it: one register record, which each word updates where it stands.
+// A recording fed to the card as a driver gets it: word by word, with one register record that each word updates where it stands; or in
+// instalments.
 #ifndef FEED_H
 #define FEED_H
 
@@ -19,6 +20,19 @@ static inline struct dextolumen_ended feed(const uint8_t *bytes, size_t length, 
         e.sum += told.passed;
     }
     return e;
+}
+
+// The same recording in instalments of a few bytes, as a slow line delivers them: 0, 1, 2 .. 6 bytes, and again.
+static inline struct dextolumen_ended trickle(const uint8_t *bytes, size_t length, uint16_t *im, size_t ni, uint16_t *zm, size_t nz) {
+    struct dextolumen_intake s = dextolumen_begin();
+    for (size_t at = 0, part = 0; at < length; part = (part + 1) % 7) {
+        size_t size = part < length - at ? part : length - at;
+        s = dextolumen_feed(s, bytes + at, size, im, ni, zm, nz);
+        at += size;
+    }
+    s = dextolumen_finish(s, im, ni, zm, nz);
+    s = dextolumen_feed(s, bytes, length, im, ni, zm, nz); // changes nothing
+    return (struct dextolumen_ended){s.refusal, s.index, s.sum, s.registers};
 }
 
 #endif

@@ -2,6 +2,7 @@
 // "Examples").
 // usage: host < RECORDING        word by word
 //        host run < RECORDING    the whole recording in one call
+//        host slow < RECORDING   in instalments of a few bytes
 #include "feed.h"
 #include <stdio.h>
 #include <string.h>
@@ -21,8 +22,9 @@ static void print(struct dextolumen_ended e) {
 
 int main(int argc, char **argv) {
     int whole = argc == 2 && strcmp(argv[1], "run") == 0;
-    if (argc != 1 && !whole) {
-        fprintf(stderr, "usage: host [run] < RECORDING\n");
+    int slow = argc == 2 && strcmp(argv[1], "slow") == 0;
+    if (argc != 1 && !whole && !slow) {
+        fprintf(stderr, "usage: host [run | slow] < RECORDING\n");
         return 2;
     }
     size_t length = fread(bytes, 1, sizeof bytes, stdin);
@@ -34,7 +36,7 @@ int main(int argc, char **argv) {
         printf("too long\n");
     } else {
         for (size_t at = 0; at < PLACES; at++) zm[at] = 65535;
-        print(whole ? dextolumen_run(bytes, length, im, PLACES, zm, PLACES) : feed(bytes, length, im, PLACES, zm, PLACES));
+        print((whole ? dextolumen_run : slow ? trickle : feed)(bytes, length, im, PLACES, zm, PLACES));
     }
     if (fflush(stdout) != 0) {
         fprintf(stderr, "host: standard output\n");

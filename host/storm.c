@@ -2,8 +2,8 @@
 // Whatever comes, a refused word leaves record and memories as they were and counts nothing; an accepted word changes no place outside
 // the rows in use, no more places than it says, and leaves a record that a further INIT accepts; a triangle that the section cuts passes
 // no pixel; a segment advances the line by its steps and passes no more pixels than it has, its first point with them if it has that;
-// no guard ever changes. Streams of such words, some of them damaged, end alike in one call and word by word. Stops at the first fault with
-// status 1.
+// no guard ever changes. Streams of such words, some of them damaged, end alike in one call and word by word, and so do their whole words in
+// instalments, cut anywhere. What no call on instalments leaves is refused. Stops at the first fault with status 1.
 // usage: storm
 #include "chance.h"
 #include "feed.h"
@@ -27,7 +27,7 @@ struct memory {
     size_t length;
 };
 
-static struct memory im, zm, im_was, zm_was;
+static struct memory im, zm, im_was, zm_was, im_slow, zm_slow;
 
 static struct held {
     uint16_t under[GUARD];
@@ -254,6 +254,88 @@ static size_t stream(void) {
     return length;
 }
 
+// ---- instalments
+
+static int same_intake(const struct dextolumen_intake *a, const struct dextolumen_intake *b) {
+    return a->refusal == b->refusal && a->index == b->index && a->sum == b->sum && a->held == b->held && a->count == b->count
+        && a->over == b->over && memcmp(&a->registers, &b->registers, sizeof a->registers) == 0;
+}
+
+static struct dextolumen_intake feed_slow(struct dextolumen_intake s, const uint8_t *from, size_t length) {
+    return dextolumen_feed(s, from, length, lent(&im_slow), im_slow.length, lent(&zm_slow), zm_slow.length);
+}
+
+static struct dextolumen_intake finish_slow(struct dextolumen_intake s) {
+    return dextolumen_finish(s, lent(&im_slow), im_slow.length, lent(&zm_slow), zm_slow.length);
+}
+
+// The stream in instalments of any size, empty ones among them.
+static struct dextolumen_intake trickled(size_t length) {
+    static const unsigned sizes[] = {1, 2, 7, 40, sizeof bytes};
+    unsigned most = sizes[below(5)];
+    struct dextolumen_intake s = dextolumen_begin();
+    for (size_t at = 0; at < length;) {
+        size_t size = below(most + 1);
+        if (size > length - at) size = length - at;
+        s = feed_slow(s, bytes + at, size);
+        at += size;
+    }
+    return s;
+}
+
+// In instalments the whole words end as they end in one call, and the end tells what is wrong with the stream; later calls change nothing.
+static int trickled_alike(size_t length, struct dextolumen_intake s) {
+    static uint8_t words[sizeof bytes];
+    size_t count = length * 2 / 5, whole = (count * 5 + 1) / 2;
+    uint64_t flaw = dextolumen_word_count(bytes, length);
+    flaw = flaw & DEXTOLUMEN_REFUSED ? flaw - DEXTOLUMEN_REFUSED : 0;
+    memcpy(words, bytes, whole);
+    if (count % 2) words[whole - 1] &= 0xF0;
+    struct dextolumen_ended one = dextolumen_run(words, whole, lent(&im), im.length, lent(&zm), zm.length);
+    uint64_t number = flaw != 0 && (count == 0 || one.refusal == 0) ? flaw : one.refusal;
+    struct dextolumen_intake end = finish_slow(s), later = finish_slow(feed_slow(end, bytes, length));
+    return end.refusal == number && end.index == one.index && end.sum == one.sum
+        && memcmp(&end.registers, &one.registers, sizeof one.registers) == 0 && same_intake(&end, &later)
+        && changed(&im, &im_slow) + changed(&zm, &zm_slow) == 0;
+}
+
+// Makes an intake one that no call leaves. Returns 0 where chance left it whole.
+static int break_intake(struct dextolumen_intake *s) {
+    switch (below(6)) {
+    case 0: s->count = 20 + below(1000); return 1;
+    case 1: s->count = 4 * below(5) + 1 + below(3); return 1;
+    case 2: s->held = (uint32_t)(chance() | 1) << s->count; return 1;
+    case 3: s->over = 2 + below(1000); return 1;
+    case 4: s->count = 4 + 4 * below(4); s->held = 0; s->over = 1; return 1;
+    default: spoil(&s->registers); break;
+    }
+    struct dextolumen_registers r = s->registers;
+    uint16_t none[1];
+    return dextolumen_step(&r, 15, 0, none, 0, none + 1, 0).refusal == DEXTOLUMEN_BAD_RECORD;
+}
+
+// An intake that no call leaves is refused with 2 by every call, and nothing else changes.
+static int broken_refused(struct dextolumen_intake s, uint64_t *broken) {
+    if (!break_intake(&s)) return 1;
+    struct dextolumen_intake fed = feed_slow(s, bytes, below(sizeof bytes)), ended = finish_slow(s);
+    s.refusal = DEXTOLUMEN_BAD_RECORD;
+    ++*broken;
+    return same_intake(&fed, &s) && same_intake(&ended, &s) && changed(&im, &im_slow) + changed(&zm, &zm_slow) == 0;
+}
+
+// A stream in instalments, on memories that may be of unlike length.
+static int slow_alike(uint64_t *broken) {
+    size_t length = stream(), places = any_length();
+    fill(&im, places);
+    fill(&zm, below(16) == 0 ? any_length() : places);
+    copy(&im_slow, &im);
+    copy(&zm_slow, &zm);
+    struct dextolumen_intake s = trickled(length);
+    return trickled_alike(length, s) && broken_refused(s, broken);
+}
+
+// ---- a stream in two ways
+
 // In one call, and word by word over the same memories.
 static int stream_alike(uint64_t *stopped) {
     size_t length = stream(), places = any_length();
@@ -294,5 +376,16 @@ int main(void) {
         return 1;
     }
     printf("storm: %u streams, %lu stopped by a refusal\n", STREAMS, (unsigned long)stopped);
+    uint64_t broken = 0;
+    for (unsigned k = 0; k < STREAMS; k++)
+        if (!slow_alike(&broken)) {
+            printf("storm: stream %u: in instalments it ends unlike\n", k);
+            return 1;
+        }
+    if (broken == 0) {
+        printf("storm: no intake was broken\n");
+        return 1;
+    }
+    printf("storm: %u streams in instalments, %lu broken intakes\n", STREAMS, (unsigned long)broken);
     return fflush(stdout) != 0;
 }

@@ -116,6 +116,16 @@ struct dextolumen_mended {
     uint64_t refusal, size, dropped, cut, cleared;
 };
 
+/* How far a packed stream in instalments has come, and the answer of each call on it: the number that refused a word or the end; the words
+   run and the sum of their counts, both modulo 2^64; bits of a word that has not come whole, and how many they are (0, 4, 8, 12 or 16); 1
+   once the end was told, else 0; and the record. It comes from dextolumen_begin and the calls after it. Compare its fields, not its bytes:
+   there may be padding behind the last. */
+struct dextolumen_intake {
+    uint64_t refusal, index, sum;
+    uint32_t held, count, over;
+    struct dextolumen_registers registers;
+};
+
 /* ---- packed streams */
 
 /* How many words a packed stream holds; or refused: BAD_LENGTH, BAD_TAIL. */
@@ -137,6 +147,24 @@ struct dextolumen_told dextolumen_step(struct dextolumen_registers *registers, u
    (BAD_LENGTH, BAD_TAIL, BAD_RECORD, in that order) ends with index and sum 0, the record after reset and both memories untouched. */
 struct dextolumen_ended dextolumen_run(const uint8_t *bytes, size_t length, uint16_t *i_memory, size_t i_length, uint16_t *z_memory,
                                        size_t z_length);
+
+/* ---- a packed stream in instalments */
+
+/* Before the first byte. */
+struct dextolumen_intake dextolumen_begin(void);
+
+/* Takes the next bytes, as few or as many as came, or none: words that are whole now are run. Lend the same memories each time. Before the
+   end the answer has ACCEPTED, and the words run and their sum so far; or the number of the refused word, its index and the sum before
+   it. After a refused word or the end, a call changes nothing and answers as before. An intake that no call leaves, or with a record that
+   breaks a bound, is refused with BAD_RECORD, and nothing else changes. */
+struct dextolumen_intake dextolumen_feed(struct dextolumen_intake intake, const uint8_t *bytes, size_t length, uint16_t *i_memory,
+                                         size_t i_length, uint16_t *z_memory, size_t z_length);
+
+/* The end is reached. Refused (BAD_LENGTH, BAD_TAIL, BAD_RECORD, in that order), it tells the words run and their sum. A stream that is not
+   refused with the first two ends with the answer, record and memories of dextolumen_run. An intake that no call leaves is refused as by
+   dextolumen_feed. */
+struct dextolumen_intake dextolumen_finish(struct dextolumen_intake intake, const uint16_t *i_memory, size_t i_length,
+                                           const uint16_t *z_memory, size_t z_length);
 
 /* ---- damaged recordings */
 
@@ -215,6 +243,14 @@ DEXTOLUMEN_AT(dextolumen_ended, refusal, 0);
 DEXTOLUMEN_AT(dextolumen_ended, index, 8);
 DEXTOLUMEN_AT(dextolumen_ended, sum, 16);
 DEXTOLUMEN_AT(dextolumen_ended, registers, 24);
+DEXTOLUMEN_SIZE(dextolumen_intake, (36 + sizeof(struct dextolumen_registers) + 7) / 8 * 8, 8);
+DEXTOLUMEN_AT(dextolumen_intake, refusal, 0);
+DEXTOLUMEN_AT(dextolumen_intake, index, 8);
+DEXTOLUMEN_AT(dextolumen_intake, sum, 16);
+DEXTOLUMEN_AT(dextolumen_intake, held, 24);
+DEXTOLUMEN_AT(dextolumen_intake, count, 28);
+DEXTOLUMEN_AT(dextolumen_intake, over, 32);
+DEXTOLUMEN_AT(dextolumen_intake, registers, 36);
 DEXTOLUMEN_SIZE(dextolumen_mended, 40, 8);
 DEXTOLUMEN_AT(dextolumen_mended, refusal, 0);
 DEXTOLUMEN_AT(dextolumen_mended, size, 8);

@@ -3,6 +3,7 @@
 //! is tried against every figure.
 
 mod commands;
+mod cuts;
 mod damages;
 mod edges;
 #[cfg(test)]
@@ -10,6 +11,7 @@ mod examples;
 mod figures;
 mod generator;
 mod hexwords;
+mod instalments;
 mod mend;
 mod picture;
 mod pictures;
@@ -29,8 +31,8 @@ mod vectors;
 use std::io::{self, Read, Write};
 use std::process::ExitCode;
 
-const USAGE: &str = "usage: second draw | pack | unpack | generate SEED | seeds FIRST COUNT DIR | vectors DIR | shares FIRST COUNT | \
-    mend | damages FIRST COUNT DIR | squares FIRST COUNT DIR";
+const USAGE: &str = "usage: second draw | receive | pack | unpack | generate SEED | seeds FIRST COUNT DIR | cuts FIRST COUNT DIR | vectors DIR | \
+    shares FIRST COUNT | mend | damages FIRST COUNT DIR | squares FIRST COUNT DIR";
 
 fn main() -> ExitCode {
     let arguments: Vec<String> = std::env::args().skip(1).collect();
@@ -47,10 +49,12 @@ fn main() -> ExitCode {
 fn dispatch(arguments: &[&str]) -> Result<(), String> {
     match arguments {
         ["draw"] => draw(),
+        ["receive"] => receive(),
         ["pack"] => write_out(&hexwords::pack_text(&read_all()?)?),
         ["unpack"] => write_out(hexwords::unpack_text(&read_all()?)?.as_bytes()),
         ["generate", seed] => write_out(&generator::generate(number(seed)?)),
         ["seeds", first, count, directory] => seeds::write(number(first)?, number(count)?, directory),
+        ["cuts", first, count, directory] => cuts::write(number(first)?, number(count)?, directory),
         ["vectors", directory] => vectors::write(directory),
         ["shares", first, count] => print_shares(number(first)?, number(count)?),
         ["mend"] => mend(),
@@ -97,6 +101,16 @@ fn mend() -> Result<(), String> {
     write_out(&mended.stream())?;
     eprint!("{}", mended.said());
     Ok(())
+}
+
+/// A recording of any length, a thousand bytes an instalment.
+fn receive() -> Result<(), String> {
+    let mut picture = picture::Picture::cleared(printing::PLACES);
+    let mut recording = instalments::Instalments::begun();
+    for part in read_all()?.chunks(1000) {
+        recording.feed(part, &mut picture);
+    }
+    write_out(printing::picture_text(&recording.end(), &picture).as_bytes())
 }
 
 fn print_shares(first: u64, count: u64) -> Result<(), String> {

@@ -1,6 +1,6 @@
-// Entries for the host program in C: the record after reset, one word on the record where it stands, and a whole packed stream. Their
-// results are those of the chip's own calls, by the same definitions. mend.rt has the entry for damaged recordings, include/dextolumen.h the
-// C side.
+// Entries for the host program in C: the record after reset, one word on the record where it stands, and a packed stream, whole or in
+// instalments. Their results are those of the calls they make, by the same definitions. mend.rt has the entry for damaged recordings,
+// include/dextolumen.h the C side.
 pub mod mend;
 
 ghost use mathlib.Core.Path.{_≡_};
@@ -10,8 +10,13 @@ ghost use Rattle.machine.specs.Run.{outcome, ran};
 ghost use Rattle.machine.specs.Machine.{memories, stepOf};
 ghost use Rattle.chip.specs.Chip.{chip};
 ghost use Rattle.chip.specs.Stream.{running};
+ghost use Rattle.instalments.specs.Instalments.{taking, fresh, feeding, ending};
 use chip::run::run;
 use chip::step::step;
+use instalments::Intake;
+use instalments::begin;
+use instalments::feed;
+use instalments::finish;
 use registers::Registers;
 
 // The answer to a word: the number that refuses it, 0 for accepted, and how many pixels passed. The next registers are in the record.
@@ -72,4 +77,33 @@ pub extern "C" fn dextolumen_run(bytes: &[u8], im: &mut [u16], zm: &mut [u16]) -
         sum: a.sum,
         registers: last,
     }
+}
+
+// A packed stream in instalments: before the first byte.
+#[no_mangle]
+pub extern "C" fn dextolumen_begin() -> Intake
+    ensures { λ s. ⌜ s ≡ fresh ⌝ }
+{
+    begin()
+}
+
+// Takes an instalment.
+#[no_mangle]
+pub extern "C" fn dextolumen_feed(
+    intake: Intake,
+    bytes: &[u8],
+    im: &mut [u16],
+    zm: &mut [u16],
+) -> Intake
+    ensures { λ a. ⌜ taking a (memories (now (im .exit)) (now (zm .exit))) ≡ feeding (taking intake (memories (now (im .entry)) (now (zm .entry)))) (now (bytes .entry)) ⌝ }
+{
+    feed(intake, bytes, im, zm)
+}
+
+// Ends a packed stream in instalments.
+#[no_mangle]
+pub extern "C" fn dextolumen_finish(intake: Intake, im: &[u16], zm: &[u16]) -> Intake
+    ensures { λ a. ⌜ taking a (memories (now (im .entry)) (now (zm .entry))) ≡ ending (taking intake (memories (now (im .entry)) (now (zm .entry)))) ⌝ }
+{
+    finish(intake, im, zm)
 }

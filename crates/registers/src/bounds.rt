@@ -97,7 +97,7 @@ fn parked_fits(p: Parked) -> bool
 
 impl Registers {
     // The record breaks no bound.
-    pub(crate) fn is_sound(self) -> bool
+    pub fn is_sound(self) -> bool
         ensures { λ r. ⌜ r ≡ inBounds self ⌝ }
     {
         let frame = self.frame;

@@ -5,6 +5,7 @@ pub mod Pages
 pub mod Upright
 pub mod Room
 pub mod Calls
+pub mod Fitting
 pub mod Settled
 pub mod Example
 pub mod Choice

@@ -1,6 +1,6 @@
 -- `text::put_text` meets its contract: the text fits, so that it is written and `NoRoom` is never answered. Assumes nothing.
 use borrow.Author.Needs.{needs}
-use Rattle.draw.proofs.Page.{text-stands, text-fits}
+use Rattle.report.proofs.Fitting.{text-stands, text-fits}
 use Rattle.draw.proofs.text.put_text.Statement.{statement}
 use Rattle.draw.proofs.text.put_text.Tie as tie
 

@@ -1,0 +1,124 @@
+-- Rows of bits as the code holds them, a number and how many they are: a byte more, a word off the front, and what is left behind the
+-- words. Assumes nothing.
+use mathlib.Core.Path.{_≡_, sym, ap, ap₂, _∙_}
+use mathlib.Core.Bool.{true, _&&_}
+use mathlib.Core.List.{List, [], _∷_, _++_}
+use Prim.Native.Nat.{ℕ, suc, _+_, _-_, _*_, _/_, _%_, _^_, _≤_, _<_}
+use native.Mathlib.Nat.{div-eq-of-lt, div-lt-iff-lt-mul, mod-eq-of-lt}
+use native.Mathlib.Omega.{arith}
+use lib.Arith.{digits-lt}
+use lib.Dec.{ltb, eqb}
+use lib.ListN.{length, take, drop, length-drop}
+use lib.Pow.{pow-add, pow-pos, pow-mono, shr-lt}
+use lib.Seq.{drop-drop, take-at, drop-at}
+use borrow.Author.Tests.{lt-ltb, ltb-true, eqb-true}
+use Rattle.stream.specs.Format.{bits, number, cut, whole}
+use Rattle.stream.proofs.Bits.{length-bits, bits-split, bits-low, number-bits}
+use Rattle.registers.proofs.Truth.{both}
+use Rattle.instalments.specs.Instalments.{bitsFit}
+
+-- ---- bits that are held
+
+-- bits that bytes may have left are fewer than twenty, a multiple of four, and a number of no more bits
+pub bits-parts : (h k : ℕ) → bitsFit h k ≡ true → (k < 20) × (k % 4 ≡ 0) × (h < 2 ^ k)
+unfolding bitsFit
+bits-parts h k e =
+    let p = both (ltb k 20) (eqb (k % 4) 0 && eqb (h / 2 ^ k) 0) e in
+    let q = both (eqb (k % 4) 0) (eqb (h / 2 ^ k) 0) (p .1) in
+    let none : h / 2 ^ k < 1 = omega (arith, eqb-true (h / 2 ^ k) 0 (q .1)) in
+    (ltb-true k 20 (p .0), eqb-true (k % 4) 0 (q .0), omega (arith, div-lt-iff-lt-mul (pow-pos k) .0 none))
+
+-- and the other way round
+pub parts-bits : (h k : ℕ) → k < 20 → k % 4 ≡ 0 → h < 2 ^ k → bitsFit h k ≡ true
+unfolding bitsFit
+parts-bits h k few fours fits = rw (lt-ltb _ _ few, fours, div-eq-of-lt fits)
+
+-- a row, as the number that it is
+pub number-row : (k v : ℕ) → v < 2 ^ k → number (bits k v) ≡ v
+number-row k v h = number-bits k v ∙ mod-eq-of-lt h
+
+-- ---- a byte more
+
+module _ (k h b : ℕ) (byte : b < 256) where
+  -- the number grows by a digit of base 256
+  pub byte-row : bits (k + 8) (h * 256 + b) ≡ bits k h ++ bits 8 b
+  byte-row =
+      let high : (h * 256 + b) / 256 ≡ h = omega arith in
+      bits-split k 8 (h * 256 + b) ∙ ap₂ (λ (x y : List ℕ). x ++ y) (ap (bits k) high) (bits-low 8 h b)
+
+  -- and still fits
+  pub byte-fits : h < 2 ^ k → h * 256 + b < 2 ^ (k + 8)
+  byte-fits l = rw (pow-add 2 k 8) (digits-lt l byte)
+
+-- what is held leaves room for a byte
+pub held-low : (k h : ℕ) → k < 20 → h < 2 ^ k → h < 524288
+held-low k h few l = let m : k ≤ 19 = omega arith in omega (arith, l, pow-mono m)
+
+-- ---- a word off the front
+
+module _ (n v : ℕ) (enough : 20 ≤ n) where
+  -- twenty bits and those behind them
+  split : n ≡ 20 + (n - 20)
+  split = omega arith
+
+  halves : bits n v ≡ bits 20 (v / 2 ^ (n - 20)) ++ bits (n - 20) v
+  halves = ap (λ (k : ℕ). bits k v) split ∙ bits-split 20 (n - 20) v
+
+  -- the word, as a number
+  pub front-fits : v < 2 ^ n → v / 2 ^ (n - 20) < 2 ^ 20
+  front-fits h = shr-lt 20 (n - 20) (rw split at h)
+
+  pub front-word : v < 2 ^ n → number (take 20 (bits n v)) ≡ v / 2 ^ (n - 20)
+  front-word h =
+      ap (λ (row : List ℕ). number (take 20 row)) halves
+      ∙ ap number (take-at (bits 20 (v / 2 ^ (n - 20))) (bits (n - 20) v) 20 (length-bits 20 (v / 2 ^ (n - 20))))
+      ∙ number-row 20 (v / 2 ^ (n - 20)) (front-fits h)
+
+  -- the bits behind it
+  pub front-rest : drop 20 (bits n v) ≡ bits (n - 20) v
+  front-rest = ap (drop 20) halves ∙ drop-at (bits 20 (v / 2 ^ (n - 20))) (bits (n - 20) v) 20 (length-bits 20 (v / 2 ^ (n - 20)))
+
+-- the code's divisor for the bits behind it
+pub rest-power : (k : ℕ) → k < 8 → 1 * 2 ^ k % 4294967296 ≡ 2 ^ k
+rest-power k h = let m : k ≤ 7 = omega arith in mod-eq-of-lt (omega (arith, pow-mono m)) ∙ omega arith
+
+-- ---- words and what is left
+
+-- the bits behind the last whole word
+unfoldable pub past : List ℕ → List ℕ
+past row = drop (length row / 20 * 20) row
+
+module _ (row : List ℕ) where
+  module _ (short : length row < 20) where
+    none : length row / 20 ≡ 0
+    none = omega arith
+
+    -- fewer bits than a word has are no word
+    pub whole-short : whole 20 row ≡ []
+    unfolding whole cut
+    whole-short = rw none
+
+    -- and are left
+    pub past-short : past row ≡ row
+    unfolding past
+    past-short = rw none
+
+  module _ (long : 20 ≤ length row) where
+    -- the first word, and those behind it
+    pub whole-more : whole 20 row ≡ number (take 20 row) ∷ whole 20 (drop 20 row)
+    unfolding whole cut
+    whole-more =
+        let n : length row / 20 ≡ suc (length (drop 20 row) / 20) = omega (arith, length-drop 20 row) in
+        ap (λ (m : ℕ). cut 20 m row) n
+
+    -- what is left behind the first word is left behind all
+    pub past-more : past row ≡ past (drop 20 row)
+    unfolding past
+    past-more =
+        let n : length row / 20 * 20 ≡ 20 + length (drop 20 row) / 20 * 20 = omega (arith, length-drop 20 row) in
+        ap (λ (m : ℕ). drop m row) n ∙ sym (drop-drop (length (drop 20 row) / 20 * 20) 20 row)
+
+  -- how many are left
+  pub past-length : length (past row) ≡ length row % 20
+  unfolding past
+  past-length = omega (arith, length-drop (length row / 20 * 20) row)

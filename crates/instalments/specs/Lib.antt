@@ -1,0 +1,2 @@
+pub mod Instalments
+pub mod Delivered

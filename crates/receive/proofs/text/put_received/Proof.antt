@@ -1,0 +1,20 @@
+-- `text::put_received` meets its contract: the text is that of what the end tells. Assumes nothing.
+use mathlib.Core.Path.{ap}
+use borrow.Author.Needs.{needs}
+use Rattle.instalments.specs.Instalments.{Taking}
+use Rattle.receive.specs.Receive.{textOf, received}
+use Rattle.receive.proofs.text.put_received.Statement.{statement}
+use Rattle.receive.proofs.text.put_received.Tie as tie
+
+finish-requires : tie.Need-finish-requires
+finish-requires c κs = search needs
+
+put-text-requires : tie.Need-put-text-requires
+put-text-requires c κs = search needs
+
+returns : tie.Need-returns
+unfolding received textOf
+returns c = rw (ap (λ (t : Taking). textOf (t .so)) (c .before .before .before .before .finish .ensures)) at (c .put-text .ensures)
+
+pub put-received-spec : {M : Type 1} → statement M
+put-received-spec = tie.close (tie.spec finish-requires put-text-requires returns)
