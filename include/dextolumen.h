@@ -7,7 +7,7 @@
  *     where the length is 0; nothing is read or written through it then.
  *   - The I memory, the Z memory, the record, the stream, pictures, lists and every other lent output do not overlap, and nothing else writes to them
  *     during a call.
- *   - A record comes from dextolumen_reset and the calls after it, so that nobody fills one in by hand. Any 80 bytes are a record
+ *   - A record comes from dextolumen_reset and the calls after it, so that nobody fills one in by hand. Any 92 bytes are a record
  *     all the same: one that breaks a bound is refused with DEXTOLUMEN_BAD_RECORD and left as it is. docs/REGISTERS.md has the bounds.
  */
 #ifndef DEXTOLUMEN_H
@@ -24,7 +24,7 @@ enum {
     DEXTOLUMEN_BAD_RECORD = 2,    /* the two memories or pictures differ in length, or the record breaks a bound */
     DEXTOLUMEN_NO_INIT = 3,       /* any word but INIT before the first accepted INIT */
     DEXTOLUMEN_RESERVED = 4,      /* command 7 or C hex */
-    DEXTOLUMEN_UNMODELLED = 5,    /* command 0, 9 or A hex; AUX 2 or 11 */
+    DEXTOLUMEN_UNMODELLED = 5,    /* command A hex; AUX 11 */
     DEXTOLUMEN_AWAITS_PARM = 6,   /* a parameter is awaited, and the word is neither PARM nor INIT */
     DEXTOLUMEN_NO_PARM = 7,       /* PARM with none awaited */
     DEXTOLUMEN_BAD_AUX = 8,       /* AUX above 12 */
@@ -34,7 +34,7 @@ enum {
     DEXTOLUMEN_BAD_TAIL = 12,     /* the last half byte of an odd stream is not 0 */
     DEXTOLUMEN_PAST_LAST = 13,    /* the place asked for is past the last word */
     DEXTOLUMEN_NO_ROOM = 13,      /* what is lent is too short */
-    DEXTOLUMEN_NO_REGION = 14,    /* no region is open this way */
+    DEXTOLUMEN_NO_REGION = 14,    /* PTRN or a read, and no region is open that way: none, one that is used up, or one the other way */
 };
 
 /* Calls that answer one number answer this plus the number where they refuse. */
