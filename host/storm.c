@@ -2,7 +2,8 @@
 // Whatever comes, a refused word leaves record and memories as they were and counts nothing; an accepted word changes no place outside
 // the rows in use, no more places than it says, and leaves a record that a further INIT accepts; a triangle that the section cuts passes
 // no pixel; a segment advances the line by its steps and passes no more pixels than it has, its first point with them if it has that;
-// no guard ever changes. Streams of such words, some of them damaged, end alike in one call and word by word, and so do their whole words in
+// no guard ever changes. PTRN stores at the region's pixel alone and counts nothing; reads between the words tell what stands there, and change
+// nothing but the region. Streams of such words, some of them damaged, end alike in one call and word by word, and so do their whole words in
 // instalments, cut anywhere. What no call on instalments leaves is refused. Stops at the first fault with status 1.
 // usage: storm
 #include "chance.h"
@@ -60,9 +61,9 @@ static uint64_t changed(const struct memory *a, const struct memory *b) {
     return n;
 }
 
-// ---- one word
+// ---- what is told
 
-static uint64_t thrown, told_by[14], cut, uncut, bends;
+static uint64_t thrown, told_by[DEXTOLUMEN_NO_REGION + 1], told_read[DEXTOLUMEN_NO_REGION + 1], cut, uncut, bends;
 
 _Noreturn static void fault(const char *what, uint8_t command, uint16_t data) {
     printf("storm: word %lu (command %u, data %u): %s\n", (unsigned long)thrown, command, data, what);
@@ -74,6 +75,54 @@ _Noreturn static void fault(const char *what, uint8_t command, uint16_t data) {
 static int kept_outside(const struct memory *m, const struct memory *was, size_t inside) {
     return alike(m, was, 0, GUARD) && alike(m, was, GUARD + inside, guarded(m));
 }
+
+// ---- pictures
+
+// The place of the region's pixel, or as many places as there are where it is outside the memory.
+static size_t region_place(const struct dextolumen_registers *r) {
+    size_t line = r->frame.line, rows = im.length / line;
+    if (rows > 8192) rows = 8192;
+    return r->region.x < line && r->region.y < rows ? r->region.y * line + r->region.x : im.length;
+}
+
+// PTRN's number where it is due in the memories as they were, so that they should be as they are now.
+static void store(const struct dextolumen_registers *r, uint16_t data) {
+    size_t at = region_place(r);
+    uint16_t *i = lent(&im_was) + at, *z = lent(&zm_was) + at, planes = r->modes.planes;
+    if (at == im.length) return;
+    if ((r->modes.hcontrol & 8) != 0) {
+        if ((r->modes.hcontrol & 2) != 0) *z = data;
+    } else {
+        if ((r->modes.hcontrol & 4) != 0) *i = (uint16_t)((data & planes) | (*i & ~planes));
+    }
+}
+
+// A read tells what stands at the region's pixel and changes nothing but the region, or is refused and changes nothing at all.
+static void strobe(void) {
+    held_was = held;
+    copy(&im_was, &im);
+    copy(&zm_was, &zm);
+    struct dextolumen_seen seen = dextolumen_read(&held.record, lent(&im), im.length, lent(&zm), zm.length);
+    if (seen.refusal > DEXTOLUMEN_NO_REGION) fault("a number that no read gets, just before it", 0, 0);
+    told_read[seen.refusal]++;
+    if (changed(&im, &im_was) + changed(&zm, &zm_was) != 0) fault("a read changed a place, just before it", 0, 0);
+    if (seen.refusal != DEXTOLUMEN_ACCEPTED) {
+        if (seen.pixel != 0) fault("a refused read gave a pixel, just before it", 0, 0);
+        if (memcmp(&held, &held_was, sizeof held) != 0) fault("a refused read changed the record, just before it", 0, 0);
+        return;
+    }
+    if (im.length != zm.length || held_was.record.region.way != 2) fault("a read accepted that should not be, just before it", 0, 0);
+    size_t at = region_place(&held_was.record);
+    uint16_t stood = at == im.length ? 0 : (held_was.record.modes.hcontrol & 8) != 0 ? lent(&zm)[at] : lent(&im)[at];
+    if (seen.pixel != stood) fault("a read gave another pixel, just before it", 0, 0);
+    if (memcmp(&held.record.region, &held_was.record.region, sizeof held.record.region) == 0) fault("a read left the region, just before it", 0, 0);
+    struct dextolumen_region next = held.record.region;
+    held.record.region = held_was.record.region;
+    if (memcmp(&held, &held_was, sizeof held) != 0) fault("a read changed more than the region, just before it", 0, 0);
+    held.record.region = next;
+}
+
+// ---- figures
 
 // Whether a word that is accepted completes a constant triangle while sectioning is on.
 static int is_sectioned(const struct dextolumen_registers *r, uint8_t command) {
@@ -93,13 +142,15 @@ static const char *segment_fault(const struct dextolumen_registers *was, uint16_
     return 0;
 }
 
+// ---- one word
+
 static void throw(uint8_t command, uint16_t data) {
     held_was = held;
     copy(&im_was, &im);
     copy(&zm_was, &zm);
     struct dextolumen_told told = dextolumen_step(&held.record, command, data, lent(&im), im.length, lent(&zm), zm.length);
     thrown++;
-    if (told.refusal > DEXTOLUMEN_NO_FIGURE) fault("a number that no word gets", command, data);
+    if (told.refusal > DEXTOLUMEN_NO_FIGURE && told.refusal != DEXTOLUMEN_NO_REGION) fault("a number that no word gets", command, data);
     told_by[told.refusal]++;
     if (memcmp(held.under, held_was.under, sizeof held.under) != 0 || memcmp(held.over, held_was.over, sizeof held.over) != 0)
         fault("a guard of the record changed", command, data);
@@ -114,7 +165,12 @@ static void throw(uint8_t command, uint16_t data) {
     if (rows > 8192) rows = 8192;
     if (!kept_outside(&im, &im_was, rows * line) || !kept_outside(&zm, &zm_was, rows * line))
         fault("a place outside the rows in use changed", command, data);
-    if (changed(&im, &im_was) > told.passed || changed(&zm, &zm_was) > told.passed) fault("more places changed than passed", command, data);
+    if (command == 0) {
+        store(&held_was.record, data);
+        if (told.passed != 0 || changed(&im, &im_was) + changed(&zm, &zm_was) != 0) fault("PTRN counted, or stored otherwise", command, data);
+    } else if (changed(&im, &im_was) > told.passed || changed(&zm, &zm_was) > told.passed) {
+        fault("more places changed than passed", command, data);
+    }
     if (is_sectioned(&held_was.record, command)) {
         if (held_was.record.latch.z <= held_was.record.modes.section) {
             uncut += told.passed != 0;
@@ -146,10 +202,13 @@ static uint16_t parameter(const struct dextolumen_parked *p) {
     switch (p->subcommand) {
     case 0: return (uint16_t)below(2);
     case 1: return (uint16_t)below(3);
+    case 2: return 0;
     case 3: return (uint16_t)(below(4) << 5);
     case 4: return (uint16_t)((chance() & 0x0D8E) | (below(4) ? 6 : 0));
     case 6: return (uint16_t)(p->came == 4 ? 0 : (p->came == 0 || p->came == 3) && below(4) ? below(64) : below(8193));
     case 12: return (uint16_t)(below(4) << 4);
+    case 14: // IMG's corners: x0, y0, x1, y1
+    case 15: return (uint16_t)(below(16) == 0 ? below(8192) : p->came % 2 ? below(24) : below(400));
     default: return (uint16_t)chance();
     }
 }
@@ -157,11 +216,13 @@ static uint16_t parameter(const struct dextolumen_parked *p) {
 // A word that is likely to be accepted with this record.
 static struct word fair_word(const struct dextolumen_registers *r) {
     static const uint8_t draws[] = {1, 2, 3, 3, 4, 4, 4, 4, 5, 6, 8, 11, 11};
-    static const uint8_t takes[] = {0, 1, 3, 4, 4, 4, 5, 6, 7, 8, 9, 10, 12, 12};
+    static const uint8_t takes[] = {0, 1, 2, 3, 4, 4, 4, 5, 6, 7, 8, 9, 10, 12, 12};
     if (below(12) == 0) return any_word();
     if (r->started != 1 || below(40) == 0) return (struct word){15, (uint16_t)(below(8) << 8)};
     if (r->parked.subcommand != 13) return (struct word){13, parameter(&r->parked)};
     if (below(6) == 0) return (struct word){14, takes[below(sizeof takes)]};
+    if (below(10) == 0) return (struct word){9, (uint16_t)(below(2) | below(2) << 2)};
+    if (below(r->region.way == 1 ? 2 : 40) == 0) return (struct word){0, (uint16_t)chance()};
     uint8_t command = draws[below(sizeof draws)];
     uint16_t data = (uint16_t)(command < 3 ? chance() : below(8) == 0 ? below(8192) : command == 3 ? below(24) : below(400));
     return (struct word){command, data};
@@ -222,6 +283,7 @@ static void scene(int wild) {
             spoil(&held.record);
         }
         throw(w.command, w.data);
+        if (below(held.record.region.way == 2 ? 1 : 4) == 0) strobe();
     }
 }
 
@@ -346,22 +408,28 @@ static int stream_alike(uint64_t *stopped) {
     struct dextolumen_ended one = dextolumen_run(bytes, length, lent(&im), places, lent(&zm), places);
     struct dextolumen_ended two = feed(bytes, length, lent(&im_was), places, lent(&zm_was), places);
     *stopped += one.refusal != DEXTOLUMEN_ACCEPTED;
-    told_by[one.refusal <= 13 ? one.refusal : 13]++;
+    told_by[one.refusal <= DEXTOLUMEN_NO_REGION ? one.refusal : DEXTOLUMEN_PAST_LAST]++;
     return one.refusal == two.refusal && one.index == two.index && one.sum == two.sum
         && memcmp(&one.registers, &two.registers, sizeof one.registers) == 0 && changed(&im, &im_was) + changed(&zm, &zm_was) == 0;
+}
+
+// The numbers that a word gets, and a read.
+static const uint8_t word_numbers[] = {0, 1, 2, 3, 4, 5, 6, 7, 8, 9, 10, 14}, read_numbers[] = {0, 2, 3, 6, 14};
+
+// How often each number came; each must have come.
+static int all_told(const char *what, const uint64_t *told, const uint8_t *numbers, size_t count) {
+    for (size_t k = 0; k < count; k++) {
+        printf("storm: a %s got %u: %lu\n", what, numbers[k], (unsigned long)told[numbers[k]]);
+        if (told[numbers[k]] == 0) return 0;
+    }
+    return 1;
 }
 
 int main(void) {
     held.record = dextolumen_reset();
     while (thrown < WORDS) scene(below(4) == 0);
     printf("storm: %lu words, %lu accepted\n", (unsigned long)thrown, (unsigned long)told_by[0]);
-    for (unsigned number = 1; number <= DEXTOLUMEN_NO_FIGURE; number++)
-        printf("storm: refused with %u: %lu\n", number, (unsigned long)told_by[number]);
-    for (unsigned number = 0; number <= DEXTOLUMEN_NO_FIGURE; number++)
-        if (told_by[number] == 0) {
-            printf("storm: no word got %u\n", number);
-            return 1;
-        }
+    if (!all_told("word", told_by, word_numbers, sizeof word_numbers) || !all_told("read", told_read, read_numbers, sizeof read_numbers)) return 1;
     printf("storm: %lu triangles cut, %lu drawn before the section; %lu segments whole but for the bend\n", (unsigned long)cut, (unsigned long)uncut,
         (unsigned long)bends);
     if (cut == 0 || uncut == 0 || bends == 0) return 1;

@@ -7,7 +7,7 @@
  *     where the length is 0; nothing is read or written through it then.
  *   - The I memory, the Z memory, the record, the stream, pictures, lists and every other lent output do not overlap, and nothing else writes to them
  *     during a call.
- *   - A record comes from dextolumen_reset and the calls after it, so that nobody fills one in by hand. Any 80 bytes are a record
+ *   - A record comes from dextolumen_reset and the calls after it, so that nobody fills one in by hand. Any 92 bytes are a record
  *     all the same: one that breaks a bound is refused with DEXTOLUMEN_BAD_RECORD and left as it is. docs/REGISTERS.md has the bounds.
  */
 #ifndef DEXTOLUMEN_H
@@ -24,7 +24,7 @@ enum {
     DEXTOLUMEN_BAD_RECORD = 2,    /* the two memories or pictures differ in length, or the record breaks a bound */
     DEXTOLUMEN_NO_INIT = 3,       /* any word but INIT before the first accepted INIT */
     DEXTOLUMEN_RESERVED = 4,      /* command 7 or C hex */
-    DEXTOLUMEN_UNMODELLED = 5,    /* command 0, 9 or A hex; AUX 2 or 11 */
+    DEXTOLUMEN_UNMODELLED = 5,    /* command A hex; AUX 11 */
     DEXTOLUMEN_AWAITS_PARM = 6,   /* a parameter is awaited, and the word is neither PARM nor INIT */
     DEXTOLUMEN_NO_PARM = 7,       /* PARM with none awaited */
     DEXTOLUMEN_BAD_AUX = 8,       /* AUX above 12 */
@@ -34,6 +34,7 @@ enum {
     DEXTOLUMEN_BAD_TAIL = 12,     /* the last half byte of an odd stream is not 0 */
     DEXTOLUMEN_PAST_LAST = 13,    /* the place asked for is past the last word */
     DEXTOLUMEN_NO_ROOM = 13,      /* what is lent is too short */
+    DEXTOLUMEN_NO_REGION = 14,    /* PTRN or a read, and no region is open that way: none, one that is used up, or one the other way */
 };
 
 /* Calls that answer one number answer this plus the number where they refuse. */
@@ -79,9 +80,14 @@ struct dextolumen_figure {
     uint16_t steps, dashed;
 };
 
-/* The AUX number whose parameters are awaited, 13 for none; how many have come, and those. */
+/* The AUX number whose parameters are awaited, 13 for none, 14 and 15 for IMG's; how many have come, and those. */
 struct dextolumen_parked {
     uint16_t subcommand, came, values[5];
+};
+
+/* The region of a picture: 0 none, 1 to memory, 2 from memory; the first corner's column, the second corner, and the next pixel. */
+struct dextolumen_region {
+    uint16_t way, x0, x1, y1, x, y;
 };
 
 /* All registers. `started` is 1 once an INIT was accepted. */
@@ -94,6 +100,7 @@ struct dextolumen_registers {
     struct dextolumen_latch latch;
     struct dextolumen_figure figure;
     struct dextolumen_parked parked;
+    struct dextolumen_region region;
 };
 
 /* ---- answers */
@@ -101,6 +108,12 @@ struct dextolumen_registers {
 /* The answer to a word: its number, and how many pixels passed (0 where it is refused). */
 struct dextolumen_told {
     uint64_t refusal, passed;
+};
+
+/* The answer to a read: its number, and the pixel (0 where it is refused). */
+struct dextolumen_seen {
+    uint64_t refusal;
+    uint16_t pixel;
 };
 
 /* How a run ended: its number; the index of the refused word, or how many words there are; the sum of the counts of the words before it,
@@ -142,6 +155,10 @@ struct dextolumen_registers dextolumen_reset(void);
 /* Takes a word: updates the record where it stands, and draws into the two memories. A refused word changes none of them. */
 struct dextolumen_told dextolumen_step(struct dextolumen_registers *registers, uint8_t command, uint16_t data, uint16_t *i_memory,
                                        size_t i_length, uint16_t *z_memory, size_t z_length);
+
+/* Reads the region's pixel and moves the region on, in the record where it stands. A refused read changes nothing. */
+struct dextolumen_seen dextolumen_read(struct dextolumen_registers *registers, const uint16_t *i_memory, size_t i_length,
+                                       const uint16_t *z_memory, size_t z_length);
 
 /* Runs a packed stream from reset until a word is refused; words before it keep their effect. A stream that is refused as a whole
    (BAD_LENGTH, BAD_TAIL, BAD_RECORD, in that order) ends with index and sum 0, the record after reset and both memories untouched. */
@@ -199,7 +216,7 @@ uint64_t dextolumen_copy_squares(const uint32_t *squares, size_t count, const ui
 #define DEXTOLUMEN_SIZE(type, size, align) _Static_assert(sizeof(struct type) == (size) && _Alignof(struct type) == (align), #type)
 #define DEXTOLUMEN_AT(type, field, offset) _Static_assert(offsetof(struct type, field) == (offset), #type "." #field)
 
-DEXTOLUMEN_SIZE(dextolumen_registers, 80, 2);
+DEXTOLUMEN_SIZE(dextolumen_registers, 92, 2);
 DEXTOLUMEN_AT(dextolumen_registers, started, 0);
 DEXTOLUMEN_AT(dextolumen_registers, frame.line, 2);
 DEXTOLUMEN_AT(dextolumen_registers, modes.pmode, 4);
@@ -230,6 +247,12 @@ DEXTOLUMEN_AT(dextolumen_registers, figure.dashed, 64);
 DEXTOLUMEN_AT(dextolumen_registers, parked.subcommand, 66);
 DEXTOLUMEN_AT(dextolumen_registers, parked.came, 68);
 DEXTOLUMEN_AT(dextolumen_registers, parked.values, 70);
+DEXTOLUMEN_AT(dextolumen_registers, region.way, 80);
+DEXTOLUMEN_AT(dextolumen_registers, region.x0, 82);
+DEXTOLUMEN_AT(dextolumen_registers, region.x1, 84);
+DEXTOLUMEN_AT(dextolumen_registers, region.y1, 86);
+DEXTOLUMEN_AT(dextolumen_registers, region.x, 88);
+DEXTOLUMEN_AT(dextolumen_registers, region.y, 90);
 DEXTOLUMEN_SIZE(dextolumen_vertex, 8, 2);
 DEXTOLUMEN_AT(dextolumen_vertex, x, 0);
 DEXTOLUMEN_AT(dextolumen_vertex, y, 2);
@@ -238,7 +261,10 @@ DEXTOLUMEN_AT(dextolumen_vertex, z, 6);
 DEXTOLUMEN_SIZE(dextolumen_told, 16, 8);
 DEXTOLUMEN_AT(dextolumen_told, refusal, 0);
 DEXTOLUMEN_AT(dextolumen_told, passed, 8);
-DEXTOLUMEN_SIZE(dextolumen_ended, 104, 8);
+DEXTOLUMEN_SIZE(dextolumen_seen, 16, 8);
+DEXTOLUMEN_AT(dextolumen_seen, refusal, 0);
+DEXTOLUMEN_AT(dextolumen_seen, pixel, 8);
+DEXTOLUMEN_SIZE(dextolumen_ended, 120, 8);
 DEXTOLUMEN_AT(dextolumen_ended, refusal, 0);
 DEXTOLUMEN_AT(dextolumen_ended, index, 8);
 DEXTOLUMEN_AT(dextolumen_ended, sum, 16);

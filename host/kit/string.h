@@ -3,3 +3,4 @@
 int memcmp(const void *, const void *, size_t);
 void *memcpy(void *, const void *, size_t);
 int strcmp(const char *, const char *);
+size_t strlen(const char *);

@@ -1,9 +1,12 @@
 //! What each word does: the refusals, then the effect on the registers.
 
 use crate::figures::{last_step, Figure};
+use crate::picture::Pixel;
+use crate::regions::Region;
 use crate::registers::{bit, init_line_length, Awaiting, Line, Made, Open, Registers, Vertex, Window};
 use crate::stream::Word;
 
+pub const PTRN: i64 = 0x0;
 pub const I: i64 = 0x1;
 pub const Z: i64 = 0x2;
 pub const Y: i64 = 0x3;
@@ -11,6 +14,7 @@ pub const X: i64 = 0x4;
 pub const T1X: i64 = 0x5;
 pub const T2X: i64 = 0x6;
 pub const LX: i64 = 0x8;
+pub const IMG: i64 = 0x9;
 pub const PX: i64 = 0xB;
 pub const PARM: i64 = 0xD;
 pub const AUX: i64 = 0xE;
@@ -18,6 +22,7 @@ pub const INIT: i64 = 0xF;
 
 pub const PMODE: i64 = 0;
 pub const LMODE: i64 = 1;
+pub const IMODE: i64 = 2;
 pub const ZCONTROL: i64 = 3;
 pub const HCONTROL: i64 = 4;
 pub const TPATTERN: i64 = 5;
@@ -27,6 +32,10 @@ pub const COLOR: i64 = 8;
 pub const LPATTERN: i64 = 9;
 pub const MASK: i64 = 10;
 pub const LSTATUS: i64 = 12;
+/// IMG's corners are awaited as a subcommand's parameters are; no AUX has
+/// such numbers.
+pub const CORNERS_TO_MEMORY: i64 = -1;
+pub const CORNERS_FROM_MEMORY: i64 = -2;
 
 /// The bits that HCONTROL, ZCONTROL and LSTATUS allow.
 pub const HARDWARE_BITS: i64 = 0x0D8E;
@@ -34,6 +43,8 @@ pub const DEPTH_BITS: i64 = 0x0060;
 pub const STATUS_BITS: i64 = 0x0030;
 /// LSTATUS with INV 1, END 0.
 pub const INVISIBLE: i64 = 0x0020;
+/// Those that IMG allows: bit 0 is the direction, bit 2 isn't used.
+pub const IMAGE_BITS: i64 = 0x0005;
 
 /// ZCONTROL: bit 6 is the depth test, bit 5 cuts constant triangles.
 pub const DEPTH_TEST: i64 = 0x0040;
@@ -43,11 +54,13 @@ pub const SECTIONING: i64 = 0x0020;
 pub const LARGEST_COORDINATE: i64 = 8191;
 pub const LARGEST_BORDER: i64 = 8192;
 
-/// An accepted word: the next registers, and the figure that the word
-/// completed, if there is one that offers pixels.
+/// An accepted word: the next registers, the figure that the word
+/// completed, if there is one that offers pixels, and the pixel that it
+/// transfers to memory.
 pub struct Accepted {
     pub registers: Registers,
     pub figure: Option<Figure>,
+    pub pixel: Option<Pixel>,
 }
 
 /// The answer to one word, or the number it is refused with.
@@ -62,7 +75,7 @@ pub fn step(registers: &Registers, word: Word) -> Result<Accepted, i64> {
 /// apply here: a word of a stream has 4 command bits, the two memories have
 /// the same length and the registers come from reset.
 pub fn refusal(registers: &Registers, word: Word) -> i64 {
-    (3..=10).find(|number| applies(*number, registers, word)).unwrap_or(0)
+    (3..=14).find(|number| applies(*number, registers, word)).unwrap_or(0)
 }
 
 /// Whether the row of the table with this number applies to a word,
@@ -73,14 +86,24 @@ fn applies(number: i64, registers: &Registers, word: Word) -> bool {
     match number {
         3 => command != INIT && !registers.initialised,
         4 => [0x7, 0xC].contains(&command),
-        5 => [0x0, 0x9, 0xA].contains(&command) || command == AUX && [2, 11].contains(&data),
+        5 => command == 0xA || command == AUX && data == 11,
         6 => awaited && ![PARM, INIT].contains(&command),
         7 => command == PARM && !awaited,
         // The AUX number is all 16 bits (READINGS.md, "Refusals").
         8 => command == AUX && data > 12,
         9 => !value_allowed(registers, word),
         10 => !fits_figure(registers, command),
+        14 => command == PTRN && transfer_refusal(registers, false) == 14,
         _ => false,
+    }
+}
+
+/// 14 for a transfer, to memory or from it, with no region open, with one
+/// that is used up, or against its direction.
+pub fn transfer_refusal(registers: &Registers, from_memory: bool) -> i64 {
+    match registers.region {
+        Some(region) if region.from_memory == from_memory && !region.is_used_up() => 0,
+        _ => 14,
     }
 }
 
@@ -89,6 +112,7 @@ fn value_allowed(registers: &Registers, word: Word) -> bool {
     match word.command {
         INIT => init_line_length(word.data).is_some(),
         Y | X | T1X | T2X | LX | PX => word.data <= LARGEST_COORDINATE,
+        IMG => only_bits_of(word.data, IMAGE_BITS),
         PARM => match &registers.awaiting {
             Some(awaiting) => parameter_allowed(awaiting, word.data),
             None => true,
@@ -103,6 +127,8 @@ fn parameter_allowed(awaiting: &Awaiting, data: i64) -> bool {
     match (awaiting.subcommand, awaiting.parked.len()) {
         (PMODE, _) => data <= 1,
         (LMODE, _) => data <= 2,
+        (IMODE, _) => data == 0,
+        (CORNERS_TO_MEMORY | CORNERS_FROM_MEMORY, _) => data <= LARGEST_COORDINATE,
         (ZCONTROL, _) => only_bits_of(data, DEPTH_BITS),
         (HCONTROL, _) => only_bits_of(data, HARDWARE_BITS),
         (WINDOW, 0..=3) => data <= LARGEST_BORDER,
@@ -132,6 +158,7 @@ fn fits_figure(registers: &Registers, command: i64) -> bool {
 pub fn parameter_count(subcommand: i64) -> usize {
     match subcommand {
         WINDOW => 5,
+        CORNERS_TO_MEMORY | CORNERS_FROM_MEMORY => 4,
         COLOR | LPATTERN => 2,
         _ => 1,
     }
@@ -141,12 +168,18 @@ pub fn parameter_count(subcommand: i64) -> usize {
 fn accept(mut registers: Registers, word: Word) -> Accepted {
     let data = word.data;
     let mut figure = None;
+    let mut pixel = None;
     match word.command {
         INIT => {
             let length = init_line_length(data).expect("judged before");
             registers = Registers::initial(length);
         }
         AUX => registers.awaiting = Some(Awaiting { subcommand: data, parked: Vec::new() }),
+        IMG => {
+            let corners = if bit(data, 0) { CORNERS_FROM_MEMORY } else { CORNERS_TO_MEMORY };
+            registers.awaiting = Some(Awaiting { subcommand: corners, parked: Vec::new() });
+        }
+        PTRN => pixel = take_pixel(&mut registers, data),
         PARM => take_parameter(&mut registers, data),
         I => registers.i = data,
         Z => registers.z = data,
@@ -157,7 +190,15 @@ fn accept(mut registers: Registers, word: Word) -> Accepted {
         X | PX => figure = take_vertex(&mut registers, data),
         _ => unreachable!("every other command is refused"),
     }
-    Accepted { registers, figure }
+    Accepted { registers, figure, pixel }
+}
+
+/// PTRN: the pixel that is stored, and the region moves on.
+fn take_pixel(registers: &mut Registers, value: i64) -> Option<Pixel> {
+    let region = registers.region?;
+    registers.region = Some(region.moved_on());
+    let (x, y) = region.pixel();
+    Some(Pixel { x, y, value })
 }
 
 /// LX opens a line and sets INV 0 (document 02, [5]), END 0.
@@ -202,6 +243,10 @@ fn take_effect(registers: &mut Registers, subcommand: i64, given: &[i64]) {
             registers.invisible = bit(given[0], 5);
             registers.end = bit(given[0], 4);
         }
+        // IMODE takes 0 only, and does nothing.
+        IMODE => {}
+        CORNERS_TO_MEMORY => registers.region = Some(Region::of_corners(false, given)),
+        CORNERS_FROM_MEMORY => registers.region = Some(Region::of_corners(true, given)),
         _ => unreachable!("every other subcommand is refused"),
     }
 }

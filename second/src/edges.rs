@@ -39,6 +39,8 @@ pub fn edges() -> Vec<Edge> {
     edges.extend(by_text(&SECTIONS, &format!("{}{}", BEGIN, SECTION)));
     edges.extend(by_text(&TIES, &format!("{}{}", BEGIN, TEST)));
     edges.extend(by_text(&ORDERS, BEGIN));
+    edges.extend(by_text(&PICTURES, BEGIN));
+    edges.extend(images());
     edges.extend(by_text(&WHOLE, ""));
     edges
 }
@@ -382,6 +384,66 @@ const SECTIONS: [(&str, &str); 16] = [
     ("section-fan-goes-on", "10001 2000A 30000 60000 40008 30008 40008 10002 20001 40000"),
     ("section-after-init", "10001 2000A 30000 50000 40008 30008 40000 F0000 E0004 D0006 E0000 D0001 10001 2000A 50000 40008 30008 40000"),
 ];
+
+/// Pictures (document 02, [1]), after BEGIN.
+const PICTURES: [(&str, &str); 26] = [
+    ("picture-row", "90000 D0002 D0001 D0005 D0001 00001 00002 00003 00004"),
+    ("picture-rows", "90000 D0002 D0001 D0003 D0003 00001 00002 00003 00004 00005 00006"),
+    ("picture-swapped-across", "90000 D0003 D0001 D0002 D0003 00001 00002 00003 00004 00005 00006"),
+    ("picture-swapped-up", "90000 D0002 D0003 D0003 D0001 00001 00002 00003 00004 00005 00006"),
+    ("picture-swapped-both", "90000 D0003 D0003 D0002 D0001 00001 00002 00003 00004 00005 00006"),
+    ("picture-one-pixel", "90000 D0009 D0009 D0009 D0009 00007"),
+    ("picture-used-up", "90000 D0009 D0009 D0009 D0009 00007 00008"),
+    ("picture-no-region", "00007"),
+    ("picture-against-direction", "90001 D0009 D0009 D0009 D0009 00007"),
+    ("picture-bit-2-is-not-used", "90004 D0009 D0009 D000A D0009 00007 00008"),
+    ("picture-past-the-right-border", "90000 D00FE D0001 D0101 D0002 00001 00002 00003 00004 00005 00006 00007 00008"),
+    ("picture-past-the-last-row", "90000 D0001 D0021 D0001 D001E 00001 00002 00003 00004"),
+    ("picture-far-outside", "90000 D1FFF D1FFF D1FFE D1FFF 00001 00002 00003"),
+    ("picture-outside-the-window", "E0006 D0000 D0001 D0001 D0000 D0000 90000 D0008 D0008 D0009 D0008 00007 00008"),
+    ("picture-through-transparency", "E0005 D0000 90000 D0008 D0008 D0009 D0008 00007 00008"),
+    ("picture-depth-is-not-tested", "E0003 D0040 E0004 D000E 90000 D0000 D0000 D0001 D0000 0FFFF 0FFFF E0004 D0006 10005 20009 50000 40004 30004 40000"),
+    ("picture-planes", "E000A D00F0 90000 D0000 D0000 D0001 D0000 0FFFF 01234 E000A D0F0F 90000 D0000 D0000 D0001 D0000 0A5A5 0FFFF"),
+    ("picture-in-z-ignores-planes", "E000A D0000 E0004 D000E 90000 D0000 D0000 D0001 D0000 00003 00004 E000A DFFFF E0004 D0006 10005 50000 40004 30004 40000"),
+    ("picture-in-z", "E0003 D0040 E0004 D000E 90000 D0000 D0000 D0003 D0000 00003 00004 00005 00006 E0004 D0006 10005 20005 50000 40008 30008 40000"),
+    ("picture-memory-chosen-at-each-pixel", "90000 D0000 D0000 D0003 D0000 00003 E0004 D000E 00004 E0004 D0006 00005 E0004 D000E 00006"),
+    ("picture-i-disabled", "E0004 D0002 90000 D0000 D0000 D0001 D0000 00003 00004"),
+    ("picture-z-disabled", "E0004 D000C 90000 D0000 D0000 D0001 D0000 00003 00004 E0004 D0004 10005 50000 40004 30004 40000"),
+    ("picture-over-an-open-strip", "10001 30000 50000 40009 90000 D0003 D0003 D0004 D0003 00007 00008 30009 40000"),
+    ("picture-over-an-open-line", "30000 80000 E000C D0000 90000 D0003 D0003 D0004 D0003 00007 30005 B0005 00008 B0000"),
+    ("picture-new-region-with-the-last-corner", "90000 D0000 D0000 D0003 D0000 00001 90000 D0000 D0005 D0003 D0005 00002 00003 00004 00005"),
+    ("picture-init-drops-the-region", "90000 D0000 D0000 D0003 D0000 00001 F0000 00002"),
+];
+
+/// Each bit of IMG, the limits of each corner, IMODE, and transfers and IMG
+/// while a parameter is awaited.
+fn images() -> Vec<Edge> {
+    let mut edges = Vec::new();
+    for place in 0..16 {
+        let corners = "D0001 D0001 D0002 D0001 00005 00006 00007";
+        edges.push(edge(format!("img-bit-{}", place), &format!("{}{}{}", BEGIN, word(9, 1 << place), corners)));
+    }
+    for position in 0..4 {
+        for value in [0, 8191, 8192, 65535] {
+            let mut corners = [3, 3, 3, 3];
+            corners[position] = value;
+            let parameters: String = corners.iter().map(|corner| word(0xD, *corner)).collect();
+            let name = format!("img-{}-{}", ["x0", "y0", "x1", "y1"][position], value);
+            edges.push(edge(name, &format!("{}90000 {}00005 00006", BEGIN, parameters)));
+        }
+    }
+    for value in [0, 1, 2, 65535] {
+        edges.push(edge(format!("imode-{}", value), &format!("{}E0002 {}E0002", BEGIN, word(0xD, value))));
+    }
+    for (name, words) in [
+        ("ptrn-while-corners-are-awaited", "90000 D0001 D0001 D0002 00005"),
+        ("img-while-corners-are-awaited", "90000 D0001 D0001 D0002 90000"),
+        ("five-corners", "90000 D0001 D0001 D0002 D0002 D0003"),
+    ] {
+        edges.push(edge(name.to_string(), &format!("{}{}", BEGIN, words)));
+    }
+    edges
+}
 
 /// Whole programs.
 const WHOLE: [(&str, &str); 20] = [

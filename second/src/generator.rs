@@ -1,6 +1,7 @@
 //! Random streams by seed, of several families.
 
 use crate::commands::*;
+use crate::transfers::{bad_picture, pictures, transfer_without_region};
 use crate::program::{Program, MOST_WORDS};
 use crate::random::Random;
 use crate::registers::{line_length_of, Open};
@@ -11,7 +12,8 @@ pub fn generate(seed: u64) -> Vec<u8> {
     let family = random.below(100);
     let program = Program::new(random);
     match family {
-        0..=33 => mixed(program),
+        0..=25 => mixed(program),
+        26..=33 => pictures(program),
         34..=60 => bad_word_late(program),
         61..=68 => limits(program),
         69..=78 => orders(program),
@@ -44,13 +46,14 @@ fn mixed(mut program: Program) -> Vec<u8> {
 fn bad_word_late(mut program: Program) -> Vec<u8> {
     let words = program.random.from_to(100, 900) as usize;
     program.drawing(words);
-    match program.random.below(7) {
+    match program.random.below(8) {
         0 => reserved_command(&mut program),
         1 => command_not_modelled(&mut program),
         2 => word_for_a_parameter(&mut program),
         3 => stray_parameter(&mut program),
         4 => high_subcommand(&mut program),
         5 => value_not_allowed(&mut program),
+        6 => transfer_without_region(&mut program),
         _ => point_without_figure(&mut program),
     }
     let after = program.words.len() + program.random.below(60) as usize;
@@ -67,7 +70,15 @@ fn perhaps_await(program: &mut Program) {
 
 /// A subcommand with not all of its parameters.
 fn await_parameter(program: &mut Program) {
-    let subcommand = program.random.pick(&[0, 1, 3, 4, 5, 6, 6, 6, 7, 8, 8, 9, 9, 10, 12]);
+    if program.random.once_in(6) {
+        let direction = program.random.below(2);
+        program.push(IMG, direction);
+        for _ in 0..program.random.below(4) {
+            program.push(PARM, 7);
+        }
+        return;
+    }
+    let subcommand = program.random.pick(&[0, 1, 2, 3, 4, 5, 6, 6, 6, 7, 8, 8, 9, 9, 10, 12]);
     let given = program.random.below(parameter_count(subcommand) as i64);
     let parameters: Vec<i64> = (0..given).map(|_| program.random.below(8193)).collect();
     program.subcommand(subcommand, &parameters);
@@ -82,21 +93,19 @@ fn reserved_command(program: &mut Program) {
 fn command_not_modelled(program: &mut Program) {
     perhaps_await(program);
     let any = program.random.below(65536);
-    match program.random.below(5) {
-        0 => program.push(0x0, any),
-        1 => program.push(0x9, any),
-        2 => program.push(0xA, any),
-        3 => program.push(AUX, 2),
-        _ => program.push(AUX, 11),
+    if program.random.once_in(2) {
+        program.push(0xA, any);
+    } else {
+        program.push(AUX, 11);
     }
 }
 
 /// A parameter is awaited and another word comes, good or bad by itself.
 fn word_for_a_parameter(program: &mut Program) {
     await_parameter(program);
-    let command = program.random.pick(&[I, Z, Y, X, T1X, T2X, LX, PX, AUX, AUX]);
+    let command = program.random.pick(&[PTRN, I, Z, Y, X, T1X, T2X, LX, IMG, PX, AUX, AUX]);
     let data = if command == AUX {
-        program.random.pick(&[0, 1, 3, 4, 5, 6, 7, 8, 9, 10, 12, 13, 0x0102, 65535])
+        program.random.pick(&[0, 1, 2, 3, 4, 5, 6, 7, 8, 9, 10, 12, 13, 0x0102, 65535])
     } else {
         program.random.pick(&[0, 5, 200, 8191, 8192, 9000, 65535])
     };
@@ -116,9 +125,10 @@ fn high_subcommand(program: &mut Program) {
 }
 
 fn value_not_allowed(program: &mut Program) {
-    match program.random.below(3) {
+    match program.random.below(4) {
         0 => bad_coordinate(program),
         1 => bad_init(program),
+        2 => bad_picture(program),
         _ => bad_parameter(program),
     }
 }

@@ -42,10 +42,8 @@ impl Instalments {
         let at = self.told.words as usize * 5;
         match commands::step(&self.registers, word_of_halves(&self.halves[at..at + 5])) {
             Ok(accepted) => {
+                self.told.passed = self.told.passed.wrapping_add(picture.take(&accepted));
                 self.registers = accepted.registers;
-                if let Some(figure) = accepted.figure {
-                    self.told.passed = self.told.passed.wrapping_add(picture.draw(&figure, &self.registers));
-                }
                 self.told.words += 1;
                 self.told.line_length = self.registers.line_length;
             }

@@ -18,21 +18,25 @@ mod pictures;
 mod printing;
 mod program;
 mod random;
+mod regions;
 mod registers;
 mod run;
+mod scripts;
 mod seeds;
 mod shares;
 mod situations;
 mod squares;
 mod starts;
 mod stream;
+mod strobes;
+mod transfers;
 mod vectors;
 
 use std::io::{self, Read, Write};
 use std::process::ExitCode;
 
 const USAGE: &str = "usage: second draw | receive | pack | unpack | generate SEED | seeds FIRST COUNT DIR | cuts FIRST COUNT DIR | vectors DIR | \
-    shares FIRST COUNT | mend | damages FIRST COUNT DIR | squares FIRST COUNT DIR";
+    shares FIRST COUNT | mend | damages FIRST COUNT DIR | squares FIRST COUNT DIR | answer | scripts FIRST COUNT DIR";
 
 fn main() -> ExitCode {
     let arguments: Vec<String> = std::env::args().skip(1).collect();
@@ -55,6 +59,8 @@ fn dispatch(arguments: &[&str]) -> Result<(), String> {
         ["generate", seed] => write_out(&generator::generate(number(seed)?)),
         ["seeds", first, count, directory] => seeds::write(number(first)?, number(count)?, directory),
         ["cuts", first, count, directory] => cuts::write(number(first)?, number(count)?, directory),
+        ["answer"] => answer(),
+        ["scripts", first, count, directory] => scripts::write(number(first)?, number(count)?, directory),
         ["vectors", directory] => vectors::write(directory),
         ["shares", first, count] => print_shares(number(first)?, number(count)?),
         ["mend"] => mend(),
@@ -113,11 +119,17 @@ fn receive() -> Result<(), String> {
     write_out(printing::picture_text(&recording.end(), &picture).as_bytes())
 }
 
+/// What words and reads tell.
+fn answer() -> Result<(), String> {
+    let text = String::from_utf8(read_all()?).map_err(|_| "the input is not text".to_string())?;
+    write_out(strobes::answers(&strobes::parse(&text)?).as_bytes())
+}
+
 fn print_shares(first: u64, count: u64) -> Result<(), String> {
     let shares = shares::shares(first, count);
     write_out(shares.text().as_bytes())?;
     if !shares.all_came() {
-        return Err("a refusal from 3 to 12, or a situation, never came".to_string());
+        return Err("a refusal from 3 to 12, or 14, or a situation, never came".to_string());
     }
     if !shares.starts_often() {
         return Err("visible starts or hops are rare".to_string());

@@ -90,11 +90,9 @@ pub fn drawn_skipping(bytes: &[u8]) -> String {
     let mut outcome = Outcome { words: 0, refusal: 0, passed: 0, line_length: registers.line_length };
     for word in whole_words(bytes).0 {
         if let Ok(accepted) = commands::step(&registers, word) {
+            outcome.passed = outcome.passed.wrapping_add(picture.take(&accepted));
             registers = accepted.registers;
             outcome.words += 1;
-            if let Some(figure) = accepted.figure {
-                outcome.passed = outcome.passed.wrapping_add(picture.draw(&figure, &registers));
-            }
         }
     }
     outcome.line_length = registers.line_length;

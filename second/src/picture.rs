@@ -1,5 +1,6 @@
 //! The two memories, and what a figure does to them.
 
+use crate::commands::Accepted;
 use crate::figures::{Figure, Numbers};
 use crate::registers::{bit, Registers, Window};
 use std::cmp::Ordering;
@@ -24,6 +25,14 @@ pub struct Picture {
 pub struct Ties {
     pub with_start: u64,
     pub with_drawn: u64,
+}
+
+/// A pixel of a picture that goes to memory.
+#[derive(Clone, Copy, Debug, PartialEq, Eq)]
+pub struct Pixel {
+    pub x: i64,
+    pub y: i64,
+    pub value: i64,
 }
 
 impl Picture {
@@ -56,6 +65,43 @@ impl Picture {
             }
         }
         passed
+    }
+
+    /// What an accepted word does to the picture: it draws the figure that it
+    /// completes, or stores a pixel. Tells how many pixels passed.
+    pub fn take(&mut self, accepted: &Accepted) -> u64 {
+        if let Some(pixel) = &accepted.pixel {
+            self.store(pixel, &accepted.registers);
+        }
+        accepted.figure.as_ref().map_or(0, |figure| self.draw(figure, &accepted.registers))
+    }
+
+    /// Where a pixel stands, if it is inside the memory.
+    fn place(&self, x: i64, y: i64, line_length: i64) -> Option<usize> {
+        let inside = x < line_length && y < self.rows(line_length);
+        inside.then_some((y * line_length + x) as usize)
+    }
+
+    /// A pixel of a picture is stored by the write enables and, in I, by the
+    /// planes; neither window nor depth test is asked.
+    pub fn store(&mut self, pixel: &Pixel, registers: &Registers) {
+        let Some(place) = self.place(pixel.x, pixel.y, registers.line_length) else { return };
+        if registers.pictures_are_depths() {
+            if registers.z_enabled() {
+                self.z[place] = pixel.value;
+            }
+        } else if registers.i_enabled() {
+            self.i[place] = in_planes(self.i[place], pixel.value, registers.planes);
+        }
+    }
+
+    /// The number at a pixel of a picture; 0 outside the memory.
+    pub fn read(&self, x: i64, y: i64, registers: &Registers) -> i64 {
+        match self.place(x, y, registers.line_length) {
+            None => 0,
+            Some(place) if registers.pictures_are_depths() => self.z[place],
+            Some(place) => self.i[place],
+        }
     }
 
     /// Offers one pixel, which is inside the memory, and stores it if it

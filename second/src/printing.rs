@@ -18,7 +18,7 @@ pub fn drawing(bytes: &[u8]) -> String {
 
 /// What is printed of a run and the picture that it left.
 pub fn picture_text(outcome: &Outcome, picture: &Picture) -> String {
-    first_line(outcome) + &lit_places(outcome, picture)
+    first_line(outcome) + &lit_places(outcome.line_length, picture)
 }
 
 /// What running the bytes gives, or nothing if they are too many.
@@ -38,12 +38,12 @@ fn first_line(outcome: &Outcome) -> String {
 /// Each place with I not 0, as x, y, I, Z, places rising. All places are
 /// looked at, also those outside the rows in use (READINGS.md, "Drawing
 /// program").
-fn lit_places(outcome: &Outcome, picture: &Picture) -> String {
+pub fn lit_places(line_length: i64, picture: &Picture) -> String {
     let mut lines = String::new();
     for (place, i) in picture.i.iter().enumerate() {
         if *i != 0 {
-            let x = place as i64 % outcome.line_length;
-            let y = place as i64 / outcome.line_length;
+            let x = place as i64 % line_length;
+            let y = place as i64 / line_length;
             lines += &format!("{} {} {} {}\n", x, y, i, picture.z[place]);
         }
     }

@@ -2,6 +2,7 @@
 //! registers they leave, so that the generator knows what fits next.
 
 use crate::commands::*;
+use crate::transfers::picture;
 use crate::random::Random;
 use crate::registers::{Line, Open, Registers};
 use crate::stream::{pack_words, Word};
@@ -71,6 +72,11 @@ impl Program {
         pack_words(&self.words)
     }
 
+    /// How many pixels the open region has left.
+    pub fn pixels_left(&self) -> i64 {
+        self.registers.region.map_or(0, |region| region.pixels_left())
+    }
+
     fn is_full_of_figures(&self) -> bool {
         self.figures >= MOST_FIGURES
     }
@@ -108,7 +114,8 @@ impl Program {
         }
     }
 
-    /// HCONTROL, mostly with both enables on; the other bits play no part.
+    /// HCONTROL, mostly with both enables on; of the other bits only bit 3,
+    /// the memory of pictures, plays a part.
     fn enables(&mut self) {
         let others = self.random.below(65536) & HARDWARE_BITS & !6;
         let enables = self.random.pick(&[6, 6, 6, 6, 6, 6, 6, 6, 4, 4, 2, 0]);
@@ -239,7 +246,7 @@ impl Program {
     }
 
     /// An intensity or a colour; mostly not 0, as only such places print.
-    fn intensity(&mut self) -> i64 {
+    pub fn intensity(&mut self) -> i64 {
         match self.random.below(12) {
             0 => self.random.below(65536),
             1 => self.random.pick(&[0, 1, 65534, 65535]),
@@ -479,11 +486,11 @@ impl Program {
     }
 
     /// A piece of a drawing.
-    fn piece(&mut self) {
+    pub fn piece(&mut self) {
         if self.is_full_of_figures() {
             return self.quiet_piece();
         }
-        match self.random.below(60) {
+        match self.random.below(63) {
             0 => self.opening(),
             1..=3 => self.uncover(),
             4..=17 => self.setting(),
@@ -492,6 +499,7 @@ impl Program {
             44..=50 => self.polyline(),
             51..=54 => self.bending_line(),
             55..=57 => self.outlined_face(),
+            58..=60 => picture(self),
             _ => self.quiet_piece(),
         }
     }

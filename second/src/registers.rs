@@ -1,5 +1,7 @@
 //! The registers, and what reset and INIT make of them.
 
+use crate::regions::Region;
+
 /// A vertex: the X data with the I, Z and Y registers of its moment. A PX
 /// vertex freezes them too (READINGS.md, "Registers").
 #[derive(Clone, Copy, Debug, PartialEq, Eq)]
@@ -83,6 +85,8 @@ pub struct Registers {
     pub end: bool,
     pub open: Open,
     pub awaiting: Option<Awaiting>,
+    /// The region that IMG opened, also when it is used up.
+    pub region: Option<Region>,
 }
 
 impl Registers {
@@ -112,6 +116,7 @@ impl Registers {
             end: false,
             open: Open::Nothing,
             awaiting: None,
+            region: None,
         }
     }
 
@@ -128,6 +133,12 @@ impl Registers {
     /// HCONTROL bit 1.
     pub fn z_enabled(&self) -> bool {
         bit(self.hardware, 1)
+    }
+
+    /// HCONTROL bit 3: pictures go to and from Z, and not I. It is read at
+    /// each transfer.
+    pub fn pictures_are_depths(&self) -> bool {
+        bit(self.hardware, 3)
     }
 
     /// The vertex that an X, T1X, T2X, LX or PX with this data makes.

@@ -28,10 +28,8 @@ pub fn run(bytes: &[u8], picture: &mut Picture) -> Outcome {
     for word in words {
         match commands::step(&registers, word) {
             Ok(accepted) => {
+                outcome.passed = outcome.passed.wrapping_add(picture.take(&accepted));
                 registers = accepted.registers;
-                if let Some(figure) = accepted.figure {
-                    outcome.passed = outcome.passed.wrapping_add(picture.draw(&figure, &registers));
-                }
                 outcome.words += 1;
             }
             Err(refusal) => {

@@ -7,7 +7,7 @@ use crate::situations::Situations;
 use crate::starts::starts;
 
 /// The refusals that the drawing program can print.
-const REFUSALS: [i64; 11] = [0, 3, 4, 5, 6, 7, 8, 9, 10, 11, 12];
+const REFUSALS: [i64; 12] = [0, 3, 4, 5, 6, 7, 8, 9, 10, 11, 12, 14];
 
 pub struct Shares {
     pub refusals: Vec<(i64, u64)>,
@@ -69,7 +69,7 @@ impl Shares {
         rows + &format!("too long streams {}\n", self.too_long) + &starts + &ties + &self.situations.text()
     }
 
-    /// Whether each refusal from 3 to 12 came, and each situation.
+    /// Whether each refusal from 3 to 12, and 14, came, and each situation.
     pub fn all_came(&self) -> bool {
         self.refusals.iter().all(|row| row.0 == 0 || row.1 > 0) && self.situations.all_came()
     }

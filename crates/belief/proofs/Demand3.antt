@@ -6,14 +6,16 @@ use Prim.Native.Nat.{ℕ}
 use native.Mathlib.Nat.{zero-add}
 use lib.Dec.{eqb}
 use lib.ListN.{length}
-use borrow.Author.Tests.{eq-eqb, ne-eqb}
+use mathlib.Core.Bool.{not}
+use borrow.Author.Tests.{eq-eqb, ne-eqb, not-true}
 use Rattle.stream.specs.Format.{unpackOf}
 use Rattle.registers.specs.declared.Registers.{Registers}
 use Rattle.registers.specs.declared.word.Word.{Word}
 use Rattle.registers.specs.Record.{resetOf}
 use Rattle.registers.specs.Word.{wordOf}
 use Rattle.registers.specs.Next.{completedBy}
-use Rattle.registers.proofs.Truth.{chosen}
+use Rattle.registers.specs.Refusal.{isPtrn}
+use Rattle.registers.proofs.Truth.{both, chosen}
 use Rattle.machine.specs.Run.{Outcome, Ran}
 use Rattle.machine.specs.Machine.{Memories, memories, stepOf}
 use Rattle.machine.specs.Touched.{cellIn}
@@ -23,8 +25,8 @@ use Rattle.machine.proofs.Offers.{all-cell, Took, run-taken, taken-member, cell
 use Rattle.chip.specs.Chip.{chip}
 use Rattle.chip.specs.Stream.{wordsOf, flawIn, flawOf, running}
 use Rattle.chip.specs.Demands.{Ended}
-use Rattle.chip.proofs.Laws.{inside}
-use Rattle.belief.specs.Belief.{wordsTaken, offersOf, isSupposed, Believed, Believable, AfterCalls, Demand3}
+use Rattle.chip.proofs.Laws.{inside, word-unstored}
+use Rattle.belief.specs.Belief.{wordsTaken, offersOf, isSupposed, isBelievable, Believed, Believable, AfterCalls, Demand3}
 use Rattle.belief.proofs.Numbers.{Narrow, words-narrow, Small, reset-small, after-small, completed-small}
 use Rattle.belief.proofs.Ends.{lands, lands-believed}
 use Rattle.belief.proofs.Lands.{supposed-lands}
@@ -34,8 +36,9 @@ words-believed : (ws : List Word) (m : Memories) → ((w : Word) → List·Mem�
 words-believed ws m narrow suppose at =
     lands-believed _ (cellIn m at) _
     (all-cell chip inside at ws resetOf m
-    ∙ cells-as chip (length (m .i)) (length (m .z)) at lands Small Narrow (λ r w. isSupposed r (completedBy r w)) (λ r w s h. after-small r s w h)
-    (λ r w s e on. supposed-lands _ r (completedBy r w) (completed-small (length (m .i)) (length (m .z)) r w s e) on)
+    ∙ cells-as chip (length (m .i)) (length (m .z)) at lands Small Narrow isBelievable (λ r w s h. after-small r s w h)
+    (λ r w s e on. supposed-lands _ r (completedBy r w) (completed-small (length (m .i)) (length (m .z)) r w s e) (both (not (isPtrn w)) (isSupposed r (completedBy r w)) on .1))
+    (λ r w e on. word-unstored _ r w (not-true _ (both (not (isPtrn w)) (isSupposed r (completedBy r w)) on .0)))
     ws resetOf (cellIn m at) reset-small narrow suppose)
 
 -- a packed stream takes as many words as its index tells, and leaves what all of them leave

@@ -14,11 +14,11 @@ use Rattle.registers.specs.declared.Registers.{Registers}
 use Rattle.registers.specs.declared.Latch.{Latch}
 use Rattle.registers.specs.declared.Figure.{Figure}
 use Rattle.registers.specs.declared.word.Word.{Word}
-use Rattle.registers.specs.declared.word.Word.the-variants.{Init, Aux, Parm, At, Reserved, Unmodelled, Unknown}
+use Rattle.registers.specs.declared.word.Word.the-variants.{Init, Aux, Parm, At, Img, Ptrn, Reserved, Unmodelled, Unknown}
 use Rattle.registers.specs.declared.word.Coordinate.{Coordinate}
 use Rattle.registers.specs.declared.word.Coordinate.the-variants.{I, Z, Y, X, T1x, T2x, Lx, Px}
 use Rattle.registers.specs.declared.subcommand.Subcommand.{Subcommand}
-use Rattle.registers.specs.declared.subcommand.Subcommand.the-variants.{Nothing, Pmode, Lmode, Zcontrol, Hcontrol, Tpattern, Window, Section, Color, Lpattern, Mask, Lstatus}
+use Rattle.registers.specs.declared.subcommand.Subcommand.the-variants.{Nothing, Pmode, Lmode, Zcontrol, Hcontrol, Tpattern, Window, Section, Color, Lpattern, Mask, Lstatus, Imode, Load, Save}
 use Rattle.registers.specs.declared.shape.Shape.{Shape}
 use Rattle.registers.specs.declared.shape.Shape.the-variants.{Closed, Strip, Fan, Line}
 use Rattle.registers.specs.Lines.{codeIn, lineOf}
@@ -40,6 +40,8 @@ Narrow (Init d) = Unit {0}
 Narrow (Aux n) = Unit {0}
 Narrow (Parm v) = Unit {0}
 Narrow (At c n) = n ≤ 65535
+Narrow (Img d) = Unit {0}
+Narrow (Ptrn v) = Unit {0}
 Narrow Reserved = Unit {0}
 Narrow Unmodelled = Unit {0}
 Narrow Unknown = Unit {0}
@@ -96,6 +98,9 @@ effect-latch r Color l = refl
 effect-latch r Lpattern l = refl
 effect-latch r Mask l = refl
 effect-latch r Lstatus l = refl
+effect-latch r Imode l = refl
+effect-latch r Load l = refl
+effect-latch r Save l = refl
 
 grown-kept : (shape : Shape) (end dashed : Bool) (f : Figure) (v : Vertex) → Kept f → Numbers 65535 v → Kept (grownOf shape end dashed f v)
 unfolding grownOf
@@ -143,6 +148,8 @@ module _ (r : Registers) (s : Small r) where
   after-small (Aux n) h = record { i = s .i; z = s .z; figure = s .figure }
   after-small (Parm v) h = parm-small v
   after-small (At c n) h = coordinate-small c n h
+  after-small (Img d) h = record { i = s .i; z = s .z; figure = s .figure }
+  after-small (Ptrn v) h = record { i = s .i; z = s .z; figure = s .figure }
   after-small Reserved h = s
   after-small Unmodelled h = s
   after-small Unknown h = s

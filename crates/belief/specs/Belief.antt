@@ -1,8 +1,8 @@
--- What an operator believes of the picture (the order, demand 3): after a run of words from reset over the same two memories each place has
--- the least of its starting depth and all depths that the words offered there, with the intensity of the last line that offered it or, where
--- none did, of the offer that brought it.
+-- What an operator believes of the picture (the order, demand 3, for runs without PTRN): after a run of words from reset over the same two
+-- memories each place has the least of its starting depth and all depths that the words offered there, with the intensity of the last line
+-- that offered it or, where none did, of the offer that brought it.
 use mathlib.Core.Path.{_≡_}
-use mathlib.Core.Bool.{Bool, true, cond, _&&_}
+use mathlib.Core.Bool.{Bool, true, cond, not, _&&_}
 use mathlib.Core.List.{List, [], _∷_, map}
 use Prim.Native.Nat.{ℕ, _/_, _%_, min}
 use lib.Dec.{ltb, eqb}
@@ -18,6 +18,7 @@ use Rattle.registers.specs.declared.shape.Completed.the-variants.{Nothing, Tria
 use Rattle.registers.specs.Record.{resetOf}
 use Rattle.registers.specs.Word.{wordOf}
 use Rattle.registers.specs.Next.{completedBy, penOf}
+use Rattle.registers.specs.Refusal.{isPtrn}
 use Rattle.machine.specs.Machine.{Memories, memories, stepOf}
 use Rattle.machine.specs.Touched.{cellIn}
 use Rattle.machine.specs.Offers.{allOf, offersAt, takenOf, eachIn}
@@ -48,9 +49,13 @@ isSupposed r Nothing = true
 isSupposed r (Triangle a b c) = isAllOn (penOf r)
 isSupposed r (Segment a b) = eqb (r .modes .lmode) 2 && isAllOn (penOf r)
 
+-- of a word: it is not PTRN, and so it is of what it completes
+abbrev pub isBelievable : Registers → Word → Bool
+isBelievable r w = not (isPtrn w) && isSupposed r (completedBy r w)
+
 -- of each accepted word from reset
 abbrev pub supposed : ℕ → ℕ → List Word → Bool
-supposed ni nz ws = eachIn chip (λ r w. isSupposed r (completedBy r w)) ni nz resetOf ws
+supposed ni nz ws = eachIn chip isBelievable ni nz resetOf ws
 
 -- ---- what is believed
 

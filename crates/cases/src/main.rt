@@ -1,7 +1,8 @@
-// Document 01's examples that are run, refusals that are easy to trip on, and the sheet's 2-D example. Each row is some words from reset,
-// as hexadecimal command and data, and the number that the last of them should be given, or how many of its pixels should pass. Its line
-// tells the number that the chip gives as well: the stored output is met only where the two agree in every row.
+// Document 01's examples that are run, refusals that are easy to trip on, as document 02 changes them, and the sheet's 2-D example. Each row is
+// some words from reset, as hexadecimal command and data, and the number that the last of them should be given, or how many of its pixels should
+// pass. Its line tells the number that the chip gives as well: the stored output is met only where the two agree in every row.
 mod answer;
+mod pictures;
 mod row;
 
 use row::passed;
@@ -60,7 +61,7 @@ fn awaited() {
     row(b"AUX 11 there", &[0xF0000, 0xE0001, 0xE000B], 5);
     row(b"command 7 there", &[0xF0000, 0xE0001, 0x70000], 4);
     row(b"command C there", &[0xF0000, 0xE0001, 0xC0000], 4);
-    row(b"command 0 there", &[0xF0000, 0xE0001, 0x00000], 5);
+    row(b"command 0 there", &[0xF0000, 0xE0001, 0x00000], 6);
     row(b"Y 8192 there", &[0xF0000, 0xE0001, 0x32000], 6);
     row(b"INIT there", &[0xF0000, 0xE0001, 0xF0000], 0);
     row(
@@ -197,4 +198,5 @@ fn main() {
     cold();
     memories();
     starts();
+    pictures::rows();
 }

@@ -1,7 +1,7 @@
 -- What words and runs keep: bounds, places where nothing is drawn, the Z memory under lines of the modes 0 and 1, and both memories while the
 -- enables are off; and that no triangle divides for its pixels. Assumes nothing.
 use mathlib.Core.Path.{_≡_, refl, sym, ap, _∙_, subst}
-use mathlib.Core.Bool.{true, false, _&&_}
+use mathlib.Core.Bool.{true, false, _&&_, true≢false}
 use mathlib.Core.List.{List, [], List·Memᴰ, List·Memᴰ·not-nil}
 use Prim.Native.Nat.{ℕ, zero, suc, _+_, _*_, _%_, _^_, _≤_, _<_}
 use native.Mathlib.Nat.{mul-le-mul}
@@ -12,7 +12,9 @@ use borrow.Author.Tests.{leb-true}
 use Rattle.picture.specs.declared.Vertex.{Vertex}
 use Rattle.picture.specs.Offer.{Offer, offered}
 use Rattle.picture.specs.Picture.{isDeep, Picture, picture, drawn}
+use Rattle.picture.specs.Store.{Store}
 use Rattle.picture.proofs.Fold.{drawn-nil}
+use Rattle.picture.proofs.Stores.{filled-passed, within-inside}
 use Rattle.picture.proofs.Places.{rows-low}
 use Rattle.picture.proofs.Members.{Member, offered-at}
 use Rattle.triangle.specs.Offers.{kindOf as triangleKind, cornersOf}
@@ -23,7 +25,7 @@ use Rattle.line.specs.Segment.{larger}
 use Rattle.line.proofs.Members.{kindOf, segment-member, segment-counts}
 use Rattle.registers.specs.declared.Registers.{Registers}
 use Rattle.registers.specs.declared.word.Word.{Word}
-use Rattle.registers.specs.declared.word.Word.the-variants.{Init, Aux, Parm, At, Reserved, Unmodelled, Unknown}
+use Rattle.registers.specs.declared.word.Word.the-variants.{Init, Aux, Parm, At, Img, Ptrn, Reserved, Unmodelled, Unknown}
 use Rattle.registers.specs.declared.word.Coordinate.{Coordinate}
 use Rattle.registers.specs.declared.word.Coordinate.the-variants.{I, Z, Y, X, T1x, T2x, Lx, Px}
 use Rattle.registers.specs.declared.shape.Completed.{Completed}
@@ -34,7 +36,7 @@ use Rattle.registers.specs.Record.{isOn, invBit, iBit, zBit, resetOf}
 use Rattle.registers.specs.Figure.{shapeOf, vertexOf, completes, vertexCompletes}
 use Rattle.registers.specs.Next.{awaited, coordinateCompletes, after, completedBy, penOf}
 use Rattle.registers.specs.Bounds.{frameFits, inBounds}
-use Rattle.registers.specs.Refusal.{isInit, isParm, refusalOf}
+use Rattle.registers.specs.Refusal.{isInit, isParm, isPtrn, refusalOf}
 use Rattle.registers.proofs.Truth.{both, chosen}
 use Rattle.registers.proofs.Kept.{parts, reset-kept, after-kept}
 use Rattle.registers.proofs.Refusals.{accepted-when}
@@ -48,7 +50,7 @@ use Rattle.machine.proofs.Steps.{step-either}
 use Rattle.machine.specs.Touched.{cellIn}
 use Rattle.machine.proofs.Touched.{step-above, run-above}
 use Rattle.machine.proofs.Kept.{step-shallow, run-off, run-invariant}
-use Rattle.chip.specs.Chip.{modeOf, isConstant, styleOf, wholeOffers, isCut, figureOffers, chip}
+use Rattle.chip.specs.Chip.{modeOf, isConstant, styleOf, wholeOffers, isCut, figureOffers, wordStores, chip}
 use Rattle.chip.proofs.Figures.{offers-held}
 
 -- ---- bounds
@@ -87,9 +89,35 @@ whole-offered rows r (Segment a b) o u = segment-offer rows r a b o u .is-offere
 pub figure-offered : (rows : ℕ) (r : Registers) (f : Completed) (o : Offer) → List·Memᴰ o (figureOffers rows r f) → offered (penOf r) rows o ≡ true
 figure-offered rows r f o u = whole-offered rows r f o (offers-held rows r f o u)
 
--- every pixel that the chip offers has x below the line length, and lies in a row in use
+-- only PTRN stores besides
+pub word-unstored : (rows : ℕ) (r : Registers) (w : Word) → isPtrn w ≡ false → wordStores rows r w ≡ []
+unfolding wordStores
+word-unstored rows r (Init d) e = refl
+word-unstored rows r (Aux n) e = refl
+word-unstored rows r (Parm v) e = refl
+word-unstored rows r (At c n) e = refl
+word-unstored rows r (Img d) e = refl
+word-unstored rows r (Ptrn v) e = absurd (true≢false e)
+word-unstored rows r Reserved e = refl
+word-unstored rows r Unmodelled e = refl
+word-unstored rows r Unknown e = refl
+
+-- and that inside the memory
+word-inside : (rows : ℕ) (r : Registers) (w : Word) (s : Store) → List·Memᴰ s (wordStores rows r w) → (s .x < r .frame .line) × (s .y < rows)
+unfolding wordStores
+word-inside rows r (Init d) s u = absurd (List·Memᴰ·not-nil u)
+word-inside rows r (Aux n) s u = absurd (List·Memᴰ·not-nil u)
+word-inside rows r (Parm v) s u = absurd (List·Memᴰ·not-nil u)
+word-inside rows r (At c n) s u = absurd (List·Memᴰ·not-nil u)
+word-inside rows r (Img d) s u = absurd (List·Memᴰ·not-nil u)
+word-inside rows r (Ptrn v) s u = within-inside (penOf r) rows _ s u
+word-inside rows r Reserved s u = absurd (List·Memᴰ·not-nil u)
+word-inside rows r Unmodelled s u = absurd (List·Memᴰ·not-nil u)
+word-inside rows r Unknown s u = absurd (List·Memᴰ·not-nil u)
+
+-- every pixel that the chip offers or stores has x below the line length, and lies in a row in use
 pub inside : Inside chip
-inside = record { at = λ rows r w o u. offered-at (penOf r) rows o (figure-offered rows r (completedBy r w) o u) }
+inside = record { at = λ rows r w o u. offered-at (penOf r) rows o (figure-offered rows r (completedBy r w) o u); stores = word-inside }
 
 -- a word leaves both numbers at every place from the rows in use times the line length on
 pub step-beyond : (r : Registers) (w : Word) (m : Memories) (at : ℕ) → rowsIn chip r m * r .frame .line ≤ at → cellIn (stepOf chip r w m .memories) at ≡ cellIn m at
@@ -121,6 +149,8 @@ module _ (P : Completed → Type 0) (r : Registers) (none : P Nothing) (vertex-c
   word-completes (Aux n) = none
   word-completes (Parm v) = none
   word-completes (At c n) = coordinate-completes c n
+  word-completes (Img d) = none
+  word-completes (Ptrn v) = none
   word-completes Reserved = none
   word-completes Unmodelled = none
   word-completes Unknown = none
@@ -143,13 +173,16 @@ flat-mode (suc (suc n)) h = absurd (omega arith)
 flat-segment : (rows : ℕ) (r : Registers) → r .modes .lmode ≤ 1 → (a b : Vertex) (o : Offer) → List·Memᴰ o (figureOffers rows r (Segment a b)) → isDeep (o .kind) ≡ false
 flat-segment rows r h a b o u = ap isDeep (segment-offer rows r a b o (offers-held rows r (Segment a b) o u) .of-kind) ∙ flat-mode (r .modes .lmode) h
 
--- with a line open in line mode 0 or 1 every word leaves the Z memory whole
-pub flat-lines : (r : Registers) (w : Word) (m : Memories) → shapeOf (r .figure .shape) ≡ Line → r .modes .lmode ≤ 1 → stepOf chip r w m .memories .z ≡ m .z
+-- with a line open in line mode 0 or 1 every word but PTRN leaves the Z memory whole
+pub flat-lines : (r : Registers) (w : Word) (m : Memories) → shapeOf (r .figure .shape) ≡ Line → r .modes .lmode ≤ 1 → isPtrn w ≡ false
+    → stepOf chip r w m .memories .z ≡ m .z
 unfolding figureOffers wholeOffers isCut
-flat-lines r w m line flat =
-    step-shallow chip r w m
-    (line-completes (λ f. (o : Offer) → List·Memᴰ o (figureOffers (rowsIn chip r m) r f) → isDeep (o .kind) ≡ false) r line
-    (λ o u. absurd (List·Memᴰ·not-nil u)) (flat-segment (rowsIn chip r m) r flat) w)
+flat-lines r w m line flat other =
+    step-shallow chip r w m (
+      (line-completes (λ f. (o : Offer) → List·Memᴰ o (figureOffers (rowsIn chip r m) r f) → isDeep (o .kind) ≡ false) r line
+          (λ o u. absurd (List·Memᴰ·not-nil u)) (flat-segment (rowsIn chip r m) r flat) w),
+      λ s u. absurd (List·Memᴰ·not-nil (rw (word-unstored (rowsIn chip r m) r w other) at u)),
+    )
 
 -- ---- while the enables are off
 
@@ -175,6 +208,8 @@ disabled-after r (Init d) off unset = init-disables r d
 disabled-after r (Aux n) off unset = disabled-kept r (Aux n) off unset refl
 disabled-after r (Parm v) off unset = disabled-kept r (Parm v) off unset refl
 disabled-after r (At c n) off unset = disabled-kept r (At c n) off unset refl
+disabled-after r (Img d) off unset = disabled-kept r (Img d) off unset refl
+disabled-after r (Ptrn v) off unset = disabled-kept r (Ptrn v) off unset refl
 disabled-after r Reserved off unset = disabled-kept r Reserved off unset refl
 disabled-after r Unmodelled off unset = disabled-kept r Unmodelled off unset refl
 disabled-after r Unknown off unset = disabled-kept r Unknown off unset refl
@@ -223,10 +258,19 @@ count-low r w m =
     let fits = accepted-when (length (m .i)) (length (m .z)) r w .0 e in
     omega (
       arith,
+      filled-passed (penOf r) (wordStores (rowsIn chip r m) r w) (drawn (penOf r) (figureOffers (rowsIn chip r m) r (completedBy r w)) (picture (m .i) (m .z) 0)),
       figure-counts (rowsIn chip r m) r (completedBy r w) (picture (m .i) (m .z) 0) (completed-near (length (m .i)) (length (m .z)) r w e)
           (rows-low (r .frame) (length (m .i)) (length (m .z))) (line-low r (fits .sound)),
     ))
     (λ e. omega arith)
+
+-- PTRN's count is 0
+pub ptrn-counts : (r : Registers) (v : ℕ) (m : Memories) → stepOf chip r (Ptrn v) m .passed ≡ 0
+unfolding completedBy figureOffers wholeOffers isCut
+ptrn-counts r v m =
+    step-either chip r (Ptrn v) m (λ o. o .passed ≡ 0)
+    (λ e. filled-passed (penOf r) (wordStores (rowsIn chip r m) r (Ptrn v)) (drawn (penOf r) [] (picture (m .i) (m .z) 0)) ∙ ap (λ (p : Picture). p .passed) (drawn-nil (penOf r) (picture (m .i) (m .z) 0)))
+    (λ e. refl)
 
 -- ---- divisions
 

@@ -1,8 +1,10 @@
 pub mod Figures
 pub mod Words
+pub mod Pixels
 pub mod Streams
 pub mod Demands
 pub mod Laws
 pub mod Section
 pub mod Dashes
 pub mod Settled
+pub mod Reading

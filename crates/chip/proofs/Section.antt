@@ -1,14 +1,17 @@
 -- What SECTION changes of a word: where no figure is cut the offers are those of before, and a cut triangle offers nothing. Assumes nothing.
 use mathlib.Core.Path.{_≡_, refl}
-use mathlib.Core.Bool.{Bool, true, false, _&&_}
+use mathlib.Core.Bool.{Bool, true, false, _&&_, false≢true}
+use mathlib.Core.List.{[]}
 use Prim.Native.Nat.{ℕ, _≤_}
 use lib.Dec.{ltb}
 use borrow.Author.Tests.{le-ltb}
 use Rattle.picture.specs.declared.Vertex.{Vertex}
 use Rattle.picture.specs.Picture.{picture}
 use Rattle.picture.proofs.Fold.{drawn-nil}
+use Rattle.picture.proofs.Stores.{filled-nil}
 use Rattle.registers.specs.declared.Registers.{Registers}
 use Rattle.registers.specs.declared.word.Word.{Word}
+use Rattle.registers.specs.declared.word.Word.the-variants.{Init, Aux, Parm, At, Img, Ptrn, Reserved, Unmodelled, Unknown}
 use Rattle.registers.specs.declared.shape.Shape.{Shape}
 use Rattle.registers.specs.declared.shape.Shape.the-variants.{Closed, Strip, Fan, Line}
 use Rattle.registers.specs.declared.shape.Completed.{Completed}
@@ -16,12 +19,13 @@ use Rattle.registers.specs.declared.shape.Completed.the-variants.{Nothing, Tria
 use Rattle.registers.specs.Record.{isOn, sectionBit, invBit}
 use Rattle.registers.specs.Figure.{shapeOf, vertexOf, isPair, completes}
 use Rattle.registers.specs.Next.{completedBy, penOf}
+use Rattle.registers.specs.Refusal.{isPtrn}
 use Rattle.registers.proofs.Truth.{chosen}
-use Rattle.machine.specs.Machine.{Memories, stepOf}
+use Rattle.machine.specs.Machine.{Memories, rowsIn, stepOf}
 use Rattle.machine.proofs.Steps.{step-accepted, step-refused, step-either}
 use Rattle.chip.specs.Chip.{isConstant, isCut, figureOffers, chip}
 use Rattle.chip.specs.Section.{uncut, AsBefore, Sectioned}
-use Rattle.chip.proofs.Laws.{word-completes, line-completes}
+use Rattle.chip.proofs.Laws.{word-unstored, word-completes, line-completes}
 
 -- ---- which figures are cut
 
@@ -81,12 +85,28 @@ module _ (r : Registers) (w : Word) (m : Memories) where
   unfolding stepOf figureOffers
   as-before e = rw e
 
-  -- one that completes a cut figure passes nothing and changes no place
+  -- one that completes a cut figure is not PTRN, which completes none
+  cut-other : (w : Word) → isCut r (completedBy r w) ≡ true → isPtrn w ≡ false
+  unfolding completedBy isCut
+  cut-other (Init d) e = refl
+  cut-other (Aux n) e = refl
+  cut-other (Parm v) e = refl
+  cut-other (At c n) e = refl
+  cut-other (Img d) e = refl
+  cut-other (Ptrn v) e = absurd (false≢true e)
+  cut-other Reserved e = refl
+  cut-other Unmodelled e = refl
+  cut-other Unknown e = refl
+
+  -- and passes nothing and changes no place
   pub cut-still : isCut r (completedBy r w) ≡ true → (stepOf chip r w m .passed ≡ 0) × (stepOf chip r w m .memories ≡ m)
   unfolding figureOffers
   cut-still e =
       step-either chip r w m (λ o. (o .passed ≡ 0) × (o .memories ≡ m))
-      (λ k. rw (e, drawn-nil (penOf r) (picture (m .i) (m .z) 0)) (refl, refl)) (λ k. (refl, refl))
+      (λ k.
+      rw (e, drawn-nil (penOf r) (picture (m .i) (m .z) 0), word-unstored (rowsIn chip r m) r w (cut-other w e), filled-nil (penOf r) (picture (m .i) (m .z) 0))
+      (refl, refl))
+      (λ k. (refl, refl))
 
   -- a word's number and the registers after it do not look at what is cut
   still-completed : (stepOf chip r w m .refusal ≡ stepOf uncut r w m .refusal) × (stepOf chip r w m .registers ≡ stepOf uncut r w m .registers)

@@ -1,10 +1,12 @@
--- The chip: a machine whose words, registers and refusals are those of `registers`, and which offers what triangles and segments offer.
+-- The chip: a machine whose words, registers and refusals are those of `registers`, and which offers what triangles and segments offer
+-- and stores the pixels of pictures.
 use Prim.Native.Nat.{ℕ, _+_, _*_}
 use mathlib.Core.Bool.{Bool, false, cond, _&&_}
 use mathlib.Core.List.{List, [], _∷_}
 use lib.ListN.{getD}
 use lib.Dec.{ltb, eqb}
 use Rattle.picture.specs.Offer.{Offer}
+use Rattle.picture.specs.Store.{Store, pixelFor, within}
 use Rattle.triangle.specs.Offers.{triangleOffers}
 use Rattle.line.specs.declared.Mode.{Mode}
 use Rattle.line.specs.declared.Mode.the-variants.{Zero, One, Two}
@@ -12,10 +14,11 @@ use Rattle.line.specs.declared.Style.{Style}
 use Rattle.line.specs.Segment.{segmentOffers}
 use Rattle.registers.specs.declared.Registers.{Registers}
 use Rattle.registers.specs.declared.word.Word.{Word}
+use Rattle.registers.specs.declared.word.Word.the-variants.{Init, Aux, Parm, At, Img, Ptrn, Reserved, Unmodelled, Unknown}
 use Rattle.registers.specs.declared.shape.Completed.{Completed}
 use Rattle.registers.specs.declared.shape.Completed.the-variants.{Nothing, Triangle, Segment}
 use Rattle.registers.specs.Record.{isOn, sectionBit, resetOf}
-use Rattle.registers.specs.Next.{after, completedBy, penOf}
+use Rattle.registers.specs.Next.{after, completedBy, penOf, isDeepPicture}
 use Rattle.registers.specs.Refusal.{refusalOf}
 use Rattle.machine.specs.Machine.{Machine}
 
@@ -56,6 +59,22 @@ isCut r (Segment a b) = false
 unfoldable pub figureOffers : ℕ → Registers → Completed → List Offer
 figureOffers rows r f = cond (isCut r f) [] (wholeOffers rows r f)
 
+-- a number for the region's pixel, in Z or in I, where so many rows are in use
+abbrev pub pictureStores : ℕ → Registers → ℕ → List Store
+pictureStores rows r v = within (penOf r) rows (pixelFor (isDeepPicture r) (r .region .x) (r .region .y) v)
+
+-- what a word stores besides: PTRN its number
+unfoldable pub wordStores : ℕ → Registers → Word → List Store
+wordStores rows r (Init d) = []
+wordStores rows r (Aux n) = []
+wordStores rows r (Parm v) = []
+wordStores rows r (At c n) = []
+wordStores rows r (Img d) = []
+wordStores rows r (Ptrn v) = pictureStores rows r v
+wordStores rows r Reserved = []
+wordStores rows r Unmodelled = []
+wordStores rows r Unknown = []
+
 abbrev pub chip : Machine
 chip =
     record {
@@ -66,4 +85,5 @@ chip =
       next = after;
       pen = penOf;
       offers = λ rows r w. figureOffers rows r (completedBy r w);
+      stores = wordStores;
     }

@@ -8,6 +8,7 @@ use Prim.Native.Nat.{ℕ, _%_, _^_, _≤_}
 use lib.ListN.{length, getD, take}
 use Rattle.picture.specs.Place.{rowsOf}
 use Rattle.picture.specs.Picture.{picture, drawn}
+use Rattle.picture.specs.Store.{filled}
 use Rattle.stream.specs.Format.{fit, unpackOf, packOf}
 use Rattle.stream.specs.Calls.{checked, over, told, sizeOf, packing, unpacking}
 use Rattle.stream.specs.declared.Coded.{Coded}
@@ -20,8 +21,8 @@ use Rattle.registers.specs.Refusal.{refusalOf}
 use Rattle.machine.specs.Run.{outcome, ran, runOf}
 use Rattle.machine.specs.Along.{Stopped}
 use Rattle.machine.specs.Machine.{memories, stepOf}
-use Rattle.machine.specs.Touched.{touchedBy, touchedOf}
-use Rattle.chip.specs.Chip.{figureOffers, chip}
+use Rattle.machine.specs.Touched.{passedBy, touchedBy, passedOf, touchedOf}
+use Rattle.chip.specs.Chip.{figureOffers, wordStores, chip}
 use Rattle.chip.specs.Stream.{wordsOf, flawOf, running}
 
 -- ---- outcomes
@@ -87,15 +88,16 @@ pub record Demand1 : Type 0 where
 pub record Accepts (r : Registers) (command d : ℕ) (i z : List ℕ) (o : Stepped r command d i z) : Type 0 where
   pub registers : o .registers ≡ after r (decode command d)
   pub drawing : picture (o .i-left) (o .z-left) (o .passed)
-      ≡ drawn (penOf r) (figureOffers (rowsOf (r .frame) (length i) (length z)) r (completedBy r (decode command d))) (picture i z 0)
-  pub count : o .passed ≡ length (touchedBy chip r (decode command d) (memories i z))
+      ≡ filled (penOf r) (wordStores (rowsOf (r .frame) (length i) (length z)) r (decode command d))
+      (drawn (penOf r) (figureOffers (rowsOf (r .frame) (length i) (length z)) r (completedBy r (decode command d))) (picture i z 0))
+  pub count : o .passed ≡ length (passedBy chip r (decode command d) (memories i z))
   pub untouched : (at : ℕ) → (List·Memᴰ at (touchedBy chip r (decode command d) (memories i z)) → ⊥) → SameAt at i z (o .i-left) (o .z-left)
 
 -- a recording that is good, over memories of one length, is its words one after the other from reset
 pub record Runs (bytes i z : List ℕ) (o : Ended bytes i z) : Type 0 where
   pub words : ran (o .refusal) (o .index) (o .sum) (o .registers) (memories (o .i-left) (o .z-left))
       ≡ runOf (stepOf chip) resetOf (wordsOf bytes) (memories i z)
-  pub sum : o .sum ≡ length (touchedOf chip (wordsOf bytes) (memories i z)) % 2 ^ 64
+  pub sum : o .sum ≡ length (passedOf chip (wordsOf bytes) (memories i z)) % 2 ^ 64
   pub untouched : (at : ℕ) → (List·Memᴰ at (touchedOf chip (wordsOf bytes) (memories i z)) → ⊥) → SameAt at i z (o .i-left) (o .z-left)
 
 pub record Demand2 : Type 0 where

@@ -2,4 +2,5 @@ pub mod Chip
 pub mod Section
 pub mod Dashes
 pub mod Stream
+pub mod Read
 pub mod Demands

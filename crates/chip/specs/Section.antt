@@ -10,7 +10,7 @@ use Rattle.registers.specs.Figure.{shapeOf}
 use Rattle.registers.specs.Next.{after, completedBy, penOf}
 use Rattle.registers.specs.Refusal.{refusalOf}
 use Rattle.machine.specs.Machine.{Machine, Memories, stepOf}
-use Rattle.chip.specs.Chip.{isConstant, wholeOffers, isCut, chip}
+use Rattle.chip.specs.Chip.{isConstant, wholeOffers, isCut, wordStores, chip}
 
 -- the chip as it was before: the same but that no figure is cut
 abbrev pub uncut : Machine
@@ -23,6 +23,7 @@ uncut =
       next = after;
       pen = penOf;
       offers = λ rows r w. wholeOffers rows r (completedBy r w);
+      stores = wordStores;
     }
 
 -- a word does what it did before

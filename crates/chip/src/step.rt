@@ -5,6 +5,7 @@ ghost use Rattle.machine.specs.Machine.{memories, stepOf};
 ghost use Rattle.registers.specs.Word.{decode};
 ghost use Rattle.chip.specs.Chip.{chip};
 use crate::draw::draw;
+use crate::transfer::load;
 use registers::Registers;
 use registers::word::Word;
 use registers::word::decoded;
@@ -49,6 +50,11 @@ pub fn step(r: Registers, command: u8, data: u16, im: &mut [u16], zm: &mut [u16]
                 passed: passed,
                 registers: next,
             }
+        }
+        Word::Img(d) => quiet(0, r.img(d)),
+        Word::Ptrn(v) => {
+            load(r, v, im, zm);
+            quiet(0, r.transferred())
         }
         // these are refused
         Word::Reserved => quiet(0, r),

@@ -6,6 +6,8 @@ use Prim.Native.Nat.{ℕ}
 use Rattle.registers.specs.declared.Registers.{Registers}
 use Rattle.machine.specs.Run.{Outcome, outcome, Ran, ran}
 use Rattle.machine.specs.Machine.{Memories, memories}
+use Rattle.chip.specs.declared.transfer.Reading.{Reading}
+use Rattle.chip.specs.Read.{readAs}
 
 -- of a word, on a record where it stands or by value: any two outcomes that the promise allows have the same number, count, record and
 -- memories
@@ -19,6 +21,16 @@ step-settled p q =
       ap (λ (a : Outcome Registers Memories). a .registers) same,
       ap (λ (a : Outcome Registers Memories). a .memories .i) same,
       ap (λ (a : Outcome Registers Memories). a .memories .z) same,
+    )
+
+-- of a read, on a record where it stands or by value: the number, the pixel and the record
+pub read-settled : {value : Reading} {number number′ pixel pixel′ : ℕ} {r r′ : Registers} → readAs number pixel r ≡ value → readAs number′ pixel′ r′ ≡ value
+    → (number ≡ number′) × (pixel ≡ pixel′) × (r ≡ r′)
+read-settled p q =
+    let same = p ∙ sym q in (
+      ap (λ (a : Reading). a .refusal) same,
+      ap (λ (a : Reading). a .pixel) same,
+      ap (λ (a : Reading). a .registers) same,
     )
 
 -- of a packed stream: the number, the index, the sum, the record and the memories

@@ -1,5 +1,5 @@
-// Entries for the host program in C: the record after reset, one word on the record where it stands, and a packed stream, whole or in
-// instalments. Their results are those of the calls they make, by the same definitions. mend.rt has the entry for damaged recordings,
+// Entries for the host program in C: the record after reset, one word or one read on the record where it stands, and a packed stream, whole
+// or in instalments. Their results are those of the calls they make, by the same definitions. mend.rt has the entry for damaged recordings,
 // include/dextolumen.h the C side.
 pub mod mend;
 
@@ -10,9 +10,11 @@ ghost use Rattle.machine.specs.Run.{outcome, ran};
 ghost use Rattle.machine.specs.Machine.{memories, stepOf};
 ghost use Rattle.chip.specs.Chip.{chip};
 ghost use Rattle.chip.specs.Stream.{running};
+ghost use Rattle.chip.specs.Read.{readAs, reading};
 ghost use Rattle.instalments.specs.Instalments.{taking, fresh, feeding, ending};
 use chip::run::run;
 use chip::step::step;
+use chip::transfer::read;
 use instalments::Intake;
 use instalments::begin;
 use instalments::feed;
@@ -61,6 +63,27 @@ pub extern "C" fn dextolumen_step(
     Told {
         refusal: a.refusal,
         passed: a.passed,
+    }
+}
+
+// The answer to a read: the number that refuses it, 0 for accepted, and the pixel. The next registers are in the record.
+#[repr(C)]
+pub struct Seen {
+    pub refusal: u64,
+    pub pixel: u16,
+}
+
+// Reads the region's pixel and updates the record where it stands, or refuses and leaves the record as it was.
+#[no_mangle]
+pub extern "C" fn dextolumen_read(registers: &mut Registers, im: &[u16], zm: &[u16]) -> Seen
+    ensures { λ a. ⌜ readAs (a .refusal) (a .pixel) (now (registers .exit)) ≡ reading (now (registers .entry)) (memories (now (im .entry)) (now (zm .entry))) ⌝ }
+{
+    let a = read(*registers, im, zm);
+    let moved = a.registers;
+    *registers = moved;
+    Seen {
+        refusal: a.refusal,
+        pixel: a.pixel,
     }
 }
 

@@ -7,6 +7,10 @@ use lib.ListN.{length}
 use Rattle.picture.specs.Place.{rowsOf}
 use Rattle.picture.specs.Picture.{picture}
 use Rattle.picture.proofs.Fold.{drawn-i, drawn-z}
+use Rattle.picture.proofs.Stores.{filled-i, filled-z, filled-leaves-i, filled-leaves-z}
+use mathlib.Core.Bool.{Bool, true, false, _&&_}
+use Rattle.picture.specs.Store.{Store}
+use mathlib.Core.List.{List·Memᴰ}
 use Rattle.picture.proofs.Passed.{drawn-leaves-i, drawn-leaves-z, drawn-shallow}
 use Rattle.machine.specs.Run.{Outcome, Ran, runFrom}
 use Rattle.machine.specs.Machine.{Machine, Memories, memories, rowsIn, drawing, numberOf, stepOf}
@@ -14,6 +18,10 @@ use Rattle.machine.specs.Along.{Along}
 use Rattle.machine.specs.Promises.{OffI, OffZ, Off, Shallow}
 use Rattle.machine.proofs.Runs.{always-along, run-keeps, run-leaves}
 use Rattle.machine.proofs.Steps.{step-accepted, step-either, step-number}
+
+off : (b : Bool) → b && false ≡ false
+off true = refl
+off false = refl
 
 -- ---- a word
 
@@ -25,19 +33,19 @@ module _ (M : Machine) (r : M .Registers) (w : M .Word) (m : Memories) where
 
   -- a word keeps the length of the I memory
   pub step-length-i : length (stepOf M r w m .memories .i) ≡ length (m .i)
-  step-length-i = step-leaves (λ (c : Memories). length (c .i)) (λ e. drawn-i (M .pen r) (M .offers (rowsIn M r m) r w) (picture (m .i) (m .z) 0))
+  step-length-i = step-leaves (λ (c : Memories). length (c .i)) (λ e. filled-i (M .pen r) (M .stores (rowsIn M r m) r w) _ ∙ drawn-i (M .pen r) (M .offers (rowsIn M r m) r w) (picture (m .i) (m .z) 0))
 
   -- and of the Z memory
   pub step-length-z : length (stepOf M r w m .memories .z) ≡ length (m .z)
-  step-length-z = step-leaves (λ (c : Memories). length (c .z)) (λ e. drawn-z (M .pen r) (M .offers (rowsIn M r m) r w) (picture (m .i) (m .z) 0))
+  step-length-z = step-leaves (λ (c : Memories). length (c .z)) (λ e. filled-z (M .pen r) (M .stores (rowsIn M r m) r w) _ ∙ drawn-z (M .pen r) (M .offers (rowsIn M r m) r w) (picture (m .i) (m .z) 0))
 
   -- with the I enable off it leaves the I memory whole
   pub step-off-i : OffI M r w m → stepOf M r w m .memories .i ≡ m .i
-  step-off-i h = step-leaves (λ (c : Memories). c .i) (λ e. drawn-leaves-i (M .pen r) (M .offers (rowsIn M r m) r w) (picture (m .i) (m .z) 0) h)
+  step-off-i h = step-leaves (λ (c : Memories). c .i) (λ e. filled-leaves-i (M .pen r) (M .stores (rowsIn M r m) r w) _ h ∙ drawn-leaves-i (M .pen r) (M .offers (rowsIn M r m) r w) (picture (m .i) (m .z) 0) h)
 
   -- with the Z enable off it leaves the Z memory whole
   pub step-off-z : OffZ M r w m → stepOf M r w m .memories .z ≡ m .z
-  step-off-z h = step-leaves (λ (c : Memories). c .z) (λ e. drawn-leaves-z (M .pen r) (M .offers (rowsIn M r m) r w) (picture (m .i) (m .z) 0) h)
+  step-off-z h = step-leaves (λ (c : Memories). c .z) (λ e. filled-leaves-z (M .pen r) (M .stores (rowsIn M r m) r w) _ (λ s u. rw h (off (s .deep))) ∙ drawn-leaves-z (M .pen r) (M .offers (rowsIn M r m) r w) (picture (m .i) (m .z) 0) h)
 
   -- with both off it leaves both
   pub step-off : Off M r w m → stepOf M r w m .memories ≡ m
@@ -45,7 +53,7 @@ module _ (M : Machine) (r : M .Registers) (w : M .Word) (m : Memories) where
 
   -- a word that offers nothing with depth leaves the Z memory whole
   pub step-shallow : Shallow M r w m → stepOf M r w m .memories .z ≡ m .z
-  step-shallow h = step-leaves (λ (c : Memories). c .z) (λ e. drawn-shallow (M .pen r) (M .offers (rowsIn M r m) r w) (picture (m .i) (m .z) 0) h)
+  step-shallow h = step-leaves (λ (c : Memories). c .z) (λ e. filled-leaves-z (M .pen r) (M .stores (rowsIn M r m) r w) _ (λ s u. rw (h .1 s u)) ∙ drawn-shallow (M .pen r) (M .offers (rowsIn M r m) r w) (picture (m .i) (m .z) 0) (h .0))
 
 -- ---- a run
 

@@ -11,7 +11,10 @@ use lib.ListN.{length}
 use borrow.Author.Tests.{eq-eqb, ne-eqb}
 use Rattle.picture.specs.Place.{placeOf, rowsOf}
 use Rattle.picture.specs.Offer.{Offer}
-use Rattle.picture.specs.Picture.{picture}
+use Rattle.picture.specs.Picture.{picture, drawn}
+use Rattle.picture.specs.Store.{Store, site, afterStore, storesAt}
+use Rattle.picture.proofs.Stores.{filled-cell}
+use Rattle.picture.proofs.Fold.{drawn-i, drawn-z}
 use Rattle.picture.specs.Cell.{Cell, after, there}
 use Rattle.picture.proofs.Places.{both, inside-of, place-below}
 use Rattle.picture.proofs.Cells.{drawn-cell, there-member}
@@ -19,7 +22,7 @@ use Rattle.machine.specs.Run.{Ran, ran, runFrom}
 use Rattle.machine.specs.Machine.{Machine, Memories, rowsIn, numberOf, stepOf}
 use Rattle.machine.specs.Touched.{cellIn}
 use Rattle.machine.specs.Promises.{Inside}
-use Rattle.machine.specs.Offers.{state, allOf, nextIn, offersIn, offersThere, registersIn, offersAt, cellAfter, takenOf, eachIn}
+use Rattle.machine.specs.Offers.{state, allOf, nextIn, offersIn, offersThere, storesIn, storesThere, cellBy, registersIn, offersAt, cellAfter, takenOf, eachIn}
 use Rattle.machine.proofs.Runs.{zero-or-not, stays, advance-accepted, advance-refused}
 use Rattle.machine.proofs.Steps.{step-either, step-number}
 use Rattle.machine.proofs.Kept.{step-length-i, step-length-z}
@@ -38,6 +41,11 @@ module _ (M : Machine) (ni nz : ℕ) (r : M .Registers) (w : M .Word) where
     unfolding offersIn
     offers-accepted = rw (eq-eqb _ _ e)
 
+    -- and stores what the machine says
+    pub stores-accepted : storesIn M ni nz r w ≡ M .stores (rowsOf (M .pen r .frame) ni nz) r w
+    unfolding storesIn
+    stores-accepted = rw (eq-eqb _ _ e)
+
   module _ (e : M .refusal ni nz r w ≢ 0) where
     -- a refused word leaves the registers
     pub next-refused : nextIn M ni nz r w ≡ r
@@ -48,6 +56,11 @@ module _ (M : Machine) (ni nz : ℕ) (r : M .Registers) (w : M .Word) where
     pub offers-refused : offersIn M ni nz r w ≡ []
     unfolding offersIn
     offers-refused = rw (ne-eqb _ _ e)
+
+    -- and stores nothing
+    pub stores-refused : storesIn M ni nz r w ≡ []
+    unfolding storesIn
+    stores-refused = rw (ne-eqb _ _ e)
 
   -- what every accepted word keeps of the registers, a word keeps
   pub next-keeps : (P : M .Registers → Type 0) → (M .refusal ni nz r w ≡ 0 → P (M .next r w)) → P r → P (nextIn M ni nz r w)
@@ -68,20 +81,31 @@ module _ (M : Machine) (r : M .Registers) (w : M .Word) (m : Memories) where
       let k = inside .at (rowsIn M r m) r w o u in
       place-below (M .pen r .frame) (length (m .i)) (length (m .z)) (o .x) (o .y) (inside-of (M .pen r .frame) (rowsIn M r m) (o .x) (o .y) (k .0) (k .1))
 
-  -- and what a word leaves at a place is what its offers there leave
+  store-below : Inside M → (s : Store) → List·Memᴰ s (M .stores (rowsIn M r m) r w) → (site (M .pen r) s < length (m .i)) × (site (M .pen r) s < length (m .z))
+  store-below inside s u =
+      let k = inside .stores (rowsIn M r m) r w s u in
+      place-below (M .pen r .frame) (length (m .i)) (length (m .z)) (s .x) (s .y) (inside-of (M .pen r .frame) (rowsIn M r m) (s .x) (s .y) (k .0) (k .1))
+
+  -- and what a word leaves at a place is what its offers and its stores there leave
   pub step-cell : Inside M → (at : ℕ)
-      → cellIn (stepOf M r w m .memories) at ≡ foldl (after (M .pen r)) (cellIn m at) (offersThere M (length (m .i)) (length (m .z)) at r w)
-  unfolding there
+      → cellIn (stepOf M r w m .memories) at ≡ cellBy M (length (m .i)) (length (m .z)) at r w (cellIn m at)
+  unfolding there storesAt
   step-cell inside at =
-      step-either M r w m (λ o. cellIn (o .memories) at ≡ left (offersIn M (length (m .i)) (length (m .z)) r w))
+      step-either M r w m (λ o. cellIn (o .memories) at ≡ left (offersIn M (length (m .i)) (length (m .z)) r w) (storesIn M (length (m .i)) (length (m .z)) r w))
       (λ e.
-      drawn-cell (M .pen r) (M .offers (rowsIn M r m) r w) (picture (m .i) (m .z) 0) at
-      (λ o u same. subst (λ (k : ℕ). (k < length (m .i)) × (k < length (m .z))) same (offer-below inside o u))
-      ∙ ap left (sym (offers-accepted M _ _ r w e)))
-      (λ e. ap left (sym (offers-refused M _ _ r w e)))
+      let p = drawn (M .pen r) (M .offers (rowsIn M r m) r w) (picture (m .i) (m .z) 0) in
+      filled-cell (M .pen r) (M .stores (rowsIn M r m) r w) p at
+      (λ s u same.
+      let k = subst (λ (k : ℕ). (k < length (m .i)) × (k < length (m .z))) same (store-below inside s u) in
+      (rw (drawn-i (M .pen r) (M .offers (rowsIn M r m) r w) (picture (m .i) (m .z) 0)) (k .0), rw (drawn-z (M .pen r) (M .offers (rowsIn M r m) r w) (picture (m .i) (m .z) 0)) (k .1)))
+      ∙ ap (λ (c : Cell). foldl (afterStore (M .pen r)) c (storesAt (M .pen r) at (M .stores (rowsIn M r m) r w)))
+      (drawn-cell (M .pen r) (M .offers (rowsIn M r m) r w) (picture (m .i) (m .z) 0) at
+      (λ o u same. subst (λ (k : ℕ). (k < length (m .i)) × (k < length (m .z))) same (offer-below inside o u)))
+      ∙ ap₂ left (sym (offers-accepted M _ _ r w e)) (sym (stores-accepted M _ _ r w e)))
+      (λ e. ap₂ left (sym (offers-refused M _ _ r w e)) (sym (stores-refused M _ _ r w e)))
     where
-      left : List Offer → Cell
-      left os = foldl (after (M .pen r)) (cellIn m at) (there (M .pen r .frame) at os)
+      left : List Offer → List Store → Cell
+      left os ss = foldl (afterStore (M .pen r)) (foldl (after (M .pen r)) (cellIn m at) (there (M .pen r .frame) at os)) (storesAt (M .pen r) at ss)
 
 -- ---- all of some words
 
@@ -160,6 +184,7 @@ module _ (M : Machine) (ni nz at : ℕ) (does : Cell → Offer → Cell) (P : M 
     (keeps : (r : M .Registers) (w : M .Word) → P r → Q w → P (M .next r w))
     (each : (r : M .Registers) (w : M .Word) → P r → M .refusal ni nz r w ≡ 0 → test r w ≡ true → (o : Offer) → List·Memᴰ o (M .offers (rowsOf (M .pen r .frame) ni nz) r w)
     → (c : Cell) → after (M .pen r) c o ≡ does c o)
+    (none : (r : M .Registers) (w : M .Word) → M .refusal ni nz r w ≡ 0 → test r w ≡ true → M .stores (rowsOf (M .pen r .frame) ni nz) r w ≡ [])
   where
     word-as : (r : M .Registers) (w : M .Word) → P r → cond (eqb (M .refusal ni nz r w) 0) (test r w) true ≡ true → (c : Cell)
         → foldl (after (M .pen r)) c (offersThere M ni nz at r w) ≡ foldl does c (offersThere M ni nz at r w)
@@ -171,7 +196,16 @@ module _ (M : Machine) (ni nz at : ℕ) (does : Cell → Offer → Cell) (P : M 
         (λ e. each r w p e (rw (eq-eqb _ _ e) at t) o (rw (offers-accepted M ni nz r w e) at v) c)
         (λ e. absurd (List·Memᴰ·not-nil (rw (offers-refused M ni nz r w e) at v))))
 
-    -- if each accepted word passes a test under which its offers do what `does` says, the offers at a place do it one after the other
+    unstored : (r : M .Registers) (w : M .Word) → cond (eqb (M .refusal ni nz r w) 0) (test r w) true ≡ true → storesIn M ni nz r w ≡ []
+    unstored r w t =
+        zero-or-not (M .refusal ni nz r w) (λ e. stores-accepted M ni nz r w e ∙ none r w e (rw (eq-eqb _ _ e) at t)) (λ e. stores-refused M ni nz r w e)
+
+    by-offers : (r : M .Registers) (w : M .Word) (c : Cell) → cond (eqb (M .refusal ni nz r w) 0) (test r w) true ≡ true
+        → cellBy M ni nz at r w c ≡ foldl (after (M .pen r)) c (offersThere M ni nz at r w)
+    unfolding storesAt
+    by-offers r w c t = ap (λ (ss : List Store). foldl (afterStore (M .pen r)) (foldl (after (M .pen r)) c (offersThere M ni nz at r w)) (storesAt (M .pen r) at ss)) (unstored r w t)
+
+    -- if each accepted word stores nothing besides, and passes a test under which its offers do what `does` says, the offers at a place do it one after the other
     pub cells-as : (ws : List (M .Word)) (r : M .Registers) (c : Cell) → P r → ((w : M .Word) → List·Memᴰ w ws → Q w) → eachIn M test ni nz r ws ≡ true
         → cellAfter M ni nz at r ws c ≡ foldl does c (offersAt M ni nz at r ws)
     unfolding cellAfter offersAt eachIn
@@ -180,6 +214,6 @@ module _ (M : Machine) (ni nz at : ℕ) (does : Cell → Offer → Cell) (P : M 
         let q = qs w (List·Memᴰ·head refl) in
         let k = both (cond (eqb (M .refusal ni nz r w) 0) (test r w) true) (eachIn M test ni nz (nextIn M ni nz r w) ws) t in
         let next = nextIn M ni nz r w in
-        cells-as ws next (foldl (after (M .pen r)) c (offersThere M ni nz at r w)) (next-keeps M ni nz r w P (λ e. keeps r w p q) p) (λ v u. qs v (List·Memᴰ·tail u)) (k .1)
-        ∙ ap (λ (d : Cell). foldl does d (offersAt M ni nz at next ws)) (word-as r w p (k .0) c)
+        cells-as ws next (cellBy M ni nz at r w c) (next-keeps M ni nz r w P (λ e. keeps r w p q) p) (λ v u. qs v (List·Memᴰ·tail u)) (k .1)
+        ∙ ap (λ (d : Cell). foldl does d (offersAt M ni nz at next ws)) (by-offers r w c (k .0) ∙ word-as r w p (k .0) c)
         ∙ sym (foldl-append does c (offersThere M ni nz at r w) (offersAt M ni nz at next ws))

@@ -8,6 +8,7 @@ use Rattle.picture.specs.declared.Pen.{Pen}
 use Rattle.picture.specs.Place.{rowsOf}
 use Rattle.picture.specs.Offer.{Offer}
 use Rattle.picture.specs.Picture.{Picture, picture, drawn}
+use Rattle.picture.specs.Store.{Store, filled}
 use Rattle.machine.specs.Run.{Outcome, outcome, Step}
 
 pub record Machine : Type 1 where
@@ -21,6 +22,8 @@ pub record Machine : Type 1 where
   -- how it draws, and what it offers where so many rows are in use
   pub pen : Registers → Pen
   pub offers : ℕ → Registers → Word → List Offer
+  -- and what it stores besides, unasked and uncounted
+  pub stores : ℕ → Registers → Word → List Store
 
 -- the two lent memories
 pub record Memories : Type 0 where
@@ -36,7 +39,7 @@ rowsIn M r m = rowsOf (M .pen r .frame) (length (m .i)) (length (m .z))
 
 -- what an accepted word draws
 abbrev pub drawing : (M : Machine) → M .Registers → M .Word → Memories → Picture
-drawing M r w m = drawn (M .pen r) (M .offers (rowsIn M r m) r w) (picture (m .i) (m .z) 0)
+drawing M r w m = filled (M .pen r) (M .stores (rowsIn M r m) r w) (drawn (M .pen r) (M .offers (rowsIn M r m) r w) (picture (m .i) (m .z) 0))
 
 -- accepted: the next registers, what was drawn, and how many pixels passed
 abbrev pub accepted : {R : Type 0} → R → Picture → Outcome R Memories

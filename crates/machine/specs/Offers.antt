@@ -7,6 +7,7 @@ use lib.Dec.{eqb}
 use Rattle.picture.specs.Place.{rowsOf}
 use Rattle.picture.specs.Offer.{Offer}
 use Rattle.picture.specs.Cell.{Cell, after, there}
+use Rattle.picture.specs.Store.{Store, afterStore, storesAt}
 use Rattle.machine.specs.Run.{Step}
 use Rattle.machine.specs.Machine.{Machine}
 
@@ -42,6 +43,17 @@ offersIn M ni nz r w = cond (eqb (M .refusal ni nz r w) 0) (M .offers (rowsOf (M
 abbrev pub offersThere : (M : Machine) → ℕ → ℕ → ℕ → M .Registers → M .Word → List Offer
 offersThere M ni nz at r w = there (M .pen r .frame) at (offersIn M ni nz r w)
 
+-- what it stores besides, and at a place
+unfoldable pub storesIn : (M : Machine) → ℕ → ℕ → M .Registers → M .Word → List Store
+storesIn M ni nz r w = cond (eqb (M .refusal ni nz r w) 0) (M .stores (rowsOf (M .pen r .frame) ni nz) r w) []
+
+abbrev pub storesThere : (M : Machine) → ℕ → ℕ → ℕ → M .Registers → M .Word → List Store
+storesThere M ni nz at r w = storesAt (M .pen r) at (storesIn M ni nz r w)
+
+-- what a word leaves of the two numbers at a place
+abbrev pub cellBy : (M : Machine) → ℕ → ℕ → ℕ → M .Registers → M .Word → Cell → Cell
+cellBy M ni nz at r w c = foldl (afterStore (M .pen r)) (foldl (after (M .pen r)) c (offersThere M ni nz at r w)) (storesThere M ni nz at r w)
+
 -- ---- some words
 
 -- the registers after them
@@ -56,7 +68,7 @@ offersAt M ni nz at r (w ∷ ws) = offersThere M ni nz at r w ++ offersAt M ni n
 -- the two numbers at a place after them, where c stood
 unfoldable pub cellAfter : (M : Machine) → ℕ → ℕ → ℕ → M .Registers → List (M .Word) → Cell → Cell
 cellAfter M ni nz at r [] c = c
-cellAfter M ni nz at r (w ∷ ws) c = cellAfter M ni nz at (nextIn M ni nz r w) ws (foldl (after (M .pen r)) c (offersThere M ni nz at r w))
+cellAfter M ni nz at r (w ∷ ws) c = cellAfter M ni nz at (nextIn M ni nz r w) ws (cellBy M ni nz at r w c)
 
 -- those before the first that is refused
 unfoldable pub takenOf : (M : Machine) → ℕ → ℕ → M .Registers → List (M .Word) → List (M .Word)

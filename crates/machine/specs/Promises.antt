@@ -4,12 +4,14 @@ use mathlib.Core.Bool.{false}
 use mathlib.Core.List.{List·Memᴰ}
 use Prim.Native.Nat.{ℕ, _*_, _≤_, _<_}
 use Rattle.picture.specs.Offer.{Offer}
+use Rattle.picture.specs.Store.{Store}
 use Rattle.picture.specs.Picture.{isDeep}
 use Rattle.machine.specs.Machine.{Machine, Memories, rowsIn}
 
 -- every pixel that a machine offers lies in a column of the line and in a row in use
 pub record Inside (M : Machine) : Type 0 where
   pub at : (rows : ℕ) (r : M .Registers) (w : M .Word) (o : Offer) → List·Memᴰ o (M .offers rows r w) → (o .x < M .pen r .frame .line) × (o .y < rows)
+  pub stores : (rows : ℕ) (r : M .Registers) (w : M .Word) (s : Store) → List·Memᴰ s (M .stores rows r w) → (s .x < M .pen r .frame .line) × (s .y < rows)
 
 -- a place above the rows in use
 abbrev pub Above : (M : Machine) → ℕ → M .Registers → M .Word → Memories → Type 0
@@ -26,6 +28,8 @@ OffZ M r w m = M .pen r .zenable ≡ false
 abbrev pub Off : (M : Machine) → M .Registers → M .Word → Memories → Type 0
 Off M r w m = OffI M r w m × OffZ M r w m
 
--- a word offers nothing of a kind with depth
+-- a word offers nothing of a kind with depth, and stores none
 abbrev pub Shallow : (M : Machine) → M .Registers → M .Word → Memories → Type 0
-Shallow M r w m = (o : Offer) → List·Memᴰ o (M .offers (rowsIn M r m) r w) → isDeep (o .kind) ≡ false
+Shallow M r w m =
+    ((o : Offer) → List·Memᴰ o (M .offers (rowsIn M r m) r w) → isDeep (o .kind) ≡ false)
+    × ((s : Store) → List·Memᴰ s (M .stores (rowsIn M r m) r w) → s .deep ≡ false)

@@ -1,11 +1,12 @@
 -- Where the pixels pass of a word and of a run, and what stands at a place.
 use mathlib.Core.Bool.{cond}
-use mathlib.Core.List.{List, [], _∷_, _++_}
+use mathlib.Core.List.{List, [], _∷_, _++_, map}
 use Prim.Native.Nat.{ℕ}
 use lib.Dec.{eqb}
 use Rattle.picture.specs.Picture.{picture}
 use Rattle.picture.specs.Cell.{Cell, cellAt}
 use Rattle.picture.specs.Passed.{passedAt}
+use Rattle.picture.specs.Store.{site}
 use Rattle.machine.specs.Run.{Ran, ran, advance}
 use Rattle.machine.specs.Machine.{Machine, Memories, rowsIn, numberOf, stepOf}
 
@@ -14,17 +15,35 @@ abbrev pub cellIn : Memories → ℕ → Cell
 cellIn m at = cellAt (picture (m .i) (m .z) 0) at
 
 -- the places of the pixels that a word passes, in drawing order: none where it is refused
-unfoldable pub touchedBy : (M : Machine) → M .Registers → M .Word → Memories → List ℕ
-touchedBy M r w m = cond (eqb (numberOf M r w m) 0) (passedAt (M .pen r) (M .offers (rowsIn M r m) r w) (picture (m .i) (m .z) 0)) []
+unfoldable pub passedBy : (M : Machine) → M .Registers → M .Word → Memories → List ℕ
+passedBy M r w m = cond (eqb (numberOf M r w m) 0) (passedAt (M .pen r) (M .offers (rowsIn M r m) r w) (picture (m .i) (m .z) 0)) []
+
+-- those of the pixels that it stores besides
+unfoldable pub storedBy : (M : Machine) → M .Registers → M .Word → Memories → List ℕ
+storedBy M r w m = cond (eqb (numberOf M r w m) 0) (map (site (M .pen r)) (M .stores (rowsIn M r m) r w)) []
+
+-- all places that it may change
+abbrev pub touchedBy : (M : Machine) → M .Registers → M .Word → Memories → List ℕ
+touchedBy M r w m = passedBy M r w m ++ storedBy M r w m
 
 -- those of one word more, unless one was refused
 unfoldable pub touchedNext : (M : Machine) → Ran (M .Registers) Memories → M .Word → List ℕ
 touchedNext M a w = cond (eqb (a .refusal) 0) (touchedBy M (a .registers) w (a .memories)) []
 
+unfoldable pub passedNext : (M : Machine) → Ran (M .Registers) Memories → M .Word → List ℕ
+passedNext M a w = cond (eqb (a .refusal) 0) (passedBy M (a .registers) w (a .memories)) []
+
 -- those of some words, from there on
 unfoldable pub touchedFrom : (M : Machine) → Ran (M .Registers) Memories → List (M .Word) → List ℕ
 touchedFrom M a [] = []
 touchedFrom M a (w ∷ ws) = touchedNext M a w ++ touchedFrom M (advance (stepOf M) a w) ws
+
+unfoldable pub passedFrom : (M : Machine) → Ran (M .Registers) Memories → List (M .Word) → List ℕ
+passedFrom M a [] = []
+passedFrom M a (w ∷ ws) = passedNext M a w ++ passedFrom M (advance (stepOf M) a w) ws
+
+abbrev pub passedOf : (M : Machine) → List (M .Word) → Memories → List ℕ
+passedOf M ws m = passedFrom M (ran 0 0 0 (M .reset) m) ws
 
 -- those of some words from reset
 abbrev pub touchedOf : (M : Machine) → List (M .Word) → Memories → List ℕ

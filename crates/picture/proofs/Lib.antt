@@ -7,3 +7,6 @@ pub mod Rows
 pub mod Members
 pub mod Passed
 pub mod Settled
+pub mod Stores
+pub mod Planes
+pub mod Pictures

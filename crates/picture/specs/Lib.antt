@@ -5,3 +5,4 @@ pub mod Cell
 pub mod Passed
 pub mod Draw
 pub mod Loops
+pub mod Store

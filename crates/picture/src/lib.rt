@@ -3,6 +3,7 @@
 pub mod draw;
 mod pixel;
 pub mod place;
+pub mod transfer;
 
 // Where pixels lie: the line length.
 #[repr(C)]

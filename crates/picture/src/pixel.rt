@@ -128,7 +128,7 @@ fn is_passed(pen: Pen, kind: Kind, at: usize, z: u16, zm: &[u16]) -> bool
 }
 
 // The passed number I, stored at a place.
-fn store_i(pen: Pen, at: usize, i: u16, im: &mut [u16])
+pub(crate) fn store_i(pen: Pen, at: usize, i: u16, im: &mut [u16])
     requires { ⌜ at < length (now im) ⌝ }
     ensures { λ _. ⌜ now (im .exit) ≡ set (now (im .entry)) at (newI pen i (getD (now (im .entry)) at 0)) ⌝ }
 {

@@ -11,7 +11,7 @@ use Rattle.registers.specs.declared.word.Word.{Word}
 use Rattle.registers.specs.declared.word.Word.the-variants.{Unknown}
 use Rattle.registers.specs.declared.Registers.{Registers}
 use Rattle.registers.specs.Word.{commands, decode}
-use Rattle.registers.specs.Refusal.{isInit, isParm, isUnknown, isReserved, isUnmodelled, isAbove, refusalOf}
+use Rattle.registers.specs.Refusal.{isInit, isParm, isUnknown, isReserved, isUnmodelled, isAbove, isPtrn, refusalOf}
 use Rattle.registers.proofs.Table.{everywhere}
 use Rattle.registers.proofs.Refusals.{given-1}
 
@@ -22,9 +22,10 @@ record Answers : Type 0 where
   parm : Bool
   unmodelled : Bool
   above : Bool
+  ptrn : Bool
 
 abbrev ofWord : Word → Answers
-ofWord w = record { unknown = isUnknown w; reserved = isReserved w; init = isInit w; parm = isParm w; unmodelled = isUnmodelled w; above = isAbove w }
+ofWord w = record { unknown = isUnknown w; reserved = isReserved w; init = isInit w; parm = isParm w; unmodelled = isUnmodelled w; above = isAbove w; ptrn = isPtrn w }
 
 module _ (d : ℕ) where
   abbrev ofCommand : ℕ → Answers
@@ -34,15 +35,16 @@ module _ (d : ℕ) where
         reserved = eqb c 7 || eqb c 12;
         init = eqb c 15;
         parm = eqb c 13;
-        unmodelled = eqb c 0 || eqb c 9 || eqb c 10 || (eqb c 14 && (eqb d 2 || eqb d 11));
+        unmodelled = eqb c 10 || (eqb c 14 && eqb d 11);
         above = eqb c 14 && ltb 12 d;
+        ptrn = eqb c 0;
       }
 
   past : (c : ℕ) → 16 ≤ c → ofWord Unknown ≡ ofCommand c
   past c h =
       let differs : (k : ℕ) → T (ltb k 16) → eqb c k ≡ false = λ k l. ne-eqb c k (λ e. absurd (omega (arith, h, ltb→lt k 16 l, e))) in
       let up : 15 < c = omega (arith, h) in
-      rw (lt-ltb 15 c up, differs 0 tt, differs 7 tt, differs 9 tt, differs 10 tt, differs 12 tt, differs 13 tt, differs 14 tt, differs 15 tt)
+      rw (lt-ltb 15 c up, differs 0 tt, differs 7 tt, differs 10 tt, differs 12 tt, differs 13 tt, differs 14 tt, differs 15 tt)
 
   told : (c : ℕ) → ofWord (decode c d) ≡ ofCommand c
   unfolding decode
@@ -67,13 +69,17 @@ module _ (c d : ℕ) where
   pub decode-parm : isParm (decode c d) ≡ eqb c 13
   decode-parm = ap (λ (a : Answers). a .parm) (told d c)
 
-  -- 0, 9 and A hex are not modelled, nor are AUX 2 and 11
-  pub decode-unmodelled : isUnmodelled (decode c d) ≡ eqb c 0 || eqb c 9 || eqb c 10 || (eqb c 14 && (eqb d 2 || eqb d 11))
+  -- A hex is not modelled, nor is AUX 11
+  pub decode-unmodelled : isUnmodelled (decode c d) ≡ eqb c 10 || (eqb c 14 && eqb d 11)
   decode-unmodelled = ap (λ (a : Answers). a .unmodelled) (told d c)
 
   -- AUX with data above 12 is AUX above 12
   pub decode-above : isAbove (decode c d) ≡ eqb c 14 && ltb 12 d
   decode-above = ap (λ (a : Answers). a .above) (told d c)
+
+  -- 0 is PTRN
+  pub decode-ptrn : isPtrn (decode c d) ≡ eqb c 0
+  decode-ptrn = ap (λ (a : Answers). a .ptrn) (told d c)
 
   -- 1 is given exactly when the command is above 15
   pub refusal-1 : (ni nz : ℕ) (r : Registers) → (refusalOf ni nz r (decode c d) ≡ 1) ↔ (15 < c)

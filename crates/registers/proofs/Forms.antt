@@ -1,38 +1,40 @@
 -- What words leave in the record: what is no longer parked or open is cleared; INIT turns both write enables off, and HCONTROL alone turns
 -- one on; LX starts a line visible. And the vertices of what a word completes. Assumes nothing.
 use mathlib.Core.Path.{_≡_, refl, sym, ap, ap₂, _∙_, subst}
-use mathlib.Core.Bool.{Bool, true, false, cond, true≢false}
+use mathlib.Core.Bool.{Bool, true, false, cond, not, _&&_, true≢false}
 use mathlib.Core.List.{List}
-use Prim.Native.Nat.{ℕ, _+_, _≤_, _<_}
+use Prim.Native.Nat.{ℕ, _+_, _%_, _≤_, _<_}
 use native.Mathlib.Omega.{arith}
 use lib.Dec.{ltb, eqb}
 use lib.Seq.{getD-set-other}
-use borrow.Author.Tests.{ltb-true, ltb-false, leb-true, eqb-true}
+use borrow.Author.Tests.{ltb-true, ltb-false, leb-true, eqb-true, not-false}
 use Rattle.picture.specs.declared.Vertex.{Vertex}
 use Rattle.registers.specs.declared.word.Word.{Word}
-use Rattle.registers.specs.declared.word.Word.the-variants.{Init, Aux, Parm, At, Reserved, Unmodelled, Unknown}
+use Rattle.registers.specs.declared.word.Word.the-variants.{Init, Aux, Parm, At, Img, Ptrn, Reserved, Unmodelled, Unknown}
 use Rattle.registers.specs.declared.word.Coordinate.{Coordinate}
 use Rattle.registers.specs.declared.word.Coordinate.the-variants.{I, Z, Y, X, T1x, T2x, Lx, Px}
 use Rattle.registers.specs.declared.subcommand.Subcommand.{Subcommand}
-use Rattle.registers.specs.declared.subcommand.Subcommand.the-variants.{Nothing, Pmode, Lmode, Zcontrol, Hcontrol, Tpattern, Window as Win, Section, Color, Lpattern, Mask, Lstatus}
+use Rattle.registers.specs.declared.subcommand.Subcommand.the-variants.{Nothing, Pmode, Lmode, Zcontrol, Hcontrol, Tpattern, Window as Win, Section, Color, Lpattern, Mask, Lstatus, Imode, Load, Save}
 use Rattle.registers.specs.declared.shape.Shape.{Shape}
 use Rattle.registers.specs.declared.shape.Shape.the-variants.{Closed, Strip, Fan, Line}
 use Rattle.registers.specs.declared.shape.Completed.{Completed}
 use Rattle.registers.specs.declared.shape.Completed.the-variants.{Nothing as None, Triangle, Segment}
 use Rattle.registers.specs.declared.Figure.{Figure}
 use Rattle.registers.specs.declared.Parked.{Parked}
+use Rattle.registers.specs.declared.Region.{Region}
 use Rattle.registers.specs.declared.Registers.{Registers}
-use Rattle.registers.specs.Record.{noVertex, opened, noFigure, invBit, endBit, isOn, awaiting, nothingAwaited, settings, resetOf, withParked}
+use Rattle.registers.specs.Record.{noVertex, opened, noFigure, invBit, endBit, isOn, awaiting, nothingAwaited, regionOf, noRegion, settings, resetOf, withParked}
+use Rattle.registers.specs.Region.{isOpen, nextPixel}
 use Rattle.registers.specs.Subcommand.{subcommandOf, wants}
 use Rattle.registers.specs.Figure.{shapeOf, vertexOf, isPair, paired, advanced, grownOf, completes, figureAfter, vertexCompletes}
-use Rattle.registers.specs.Next.{value, awaited, joinedOf, counted, effectOf, parmOf, coordinateOf, coordinateCompletes, after, completedBy, penOf}
+use Rattle.registers.specs.Next.{value, awaited, joinedOf, counted, effectOf, parmOf, coordinateOf, coordinateCompletes, imgNumber, transferredOf, after, completedBy, penOf}
 use Rattle.registers.specs.Allowed.{isCoordinate, coordinateAllowed, allowed}
 use Rattle.registers.specs.Bounds.{vertexFits}
-use Rattle.registers.specs.Refusal.{isInit, isParm, isAbove, refusalOf, next}
+use Rattle.registers.specs.Refusal.{isInit, isParm, isAbove, isPtrn, refusalOf, next, readRefusalOf}
 use Rattle.registers.proofs.Truth.{both, chosen}
 use Rattle.registers.proofs.Table.{everywhere}
 use Rattle.registers.proofs.Parking.{parm-more, parm-last}
-use Rattle.registers.proofs.Refusals.{accepted-when}
+use Rattle.registers.proofs.Refusals.{accepted-when, read-when}
 use Rattle.registers.proofs.Kept.{parts, vertices, vertex-fits}
 
 -- ---- parameters are parked until the last has come
@@ -65,6 +67,11 @@ module _ (r : Registers) (d : ℕ) where
   pub init-clears : after r (Init d) .parked ≡ nothingAwaited
   unfolding after settings
   init-clears = refl
+
+  -- no region is open
+  pub init-drops : after r (Init d) .region ≡ noRegion
+  unfolding after settings
+  init-drops = refl
 
   -- the I enable is off
   pub init-ienable : penOf (after r (Init d)) .ienable ≡ false
@@ -138,10 +145,15 @@ pub record TidyFigure (f : Figure) : Type 0 where
   pub single : isPair f ≡ false → f .second ≡ noVertex
   pub still : (f .shape ≡ 3 → ⊥) → (f .steps ≡ 0) × (f .dashed ≡ 0)
 
--- a record with both
+-- a region that is not open has no pixels
+pub record TidyRegion (g : Region) : Type 0 where
+  pub none : g .way ≡ 0 → g ≡ noRegion
+
+-- a record with all three
 pub record Tidy (r : Registers) : Type 0 where
   pub parked : TidyParked (r .parked)
   pub figure : TidyFigure (r .figure)
+  pub region : TidyRegion (r .region)
 
 tidy-awaiting : (n : ℕ) → (n ≡ 13 → awaiting n ≡ nothingAwaited) → TidyParked (awaiting n)
 tidy-awaiting n e =
@@ -158,6 +170,12 @@ tidy-open shape v ne = record { closed = λ e. absurd (ne e); single = λ e. ref
 
 tidy-pair : (shape : ℕ) (a b : Vertex) → (shape ≡ 0 → ⊥) → TidyFigure (paired shape a b)
 tidy-pair shape a b ne = record { closed = λ e. absurd (ne e); single = λ e. absurd (true≢false e); still = λ e. (refl, refl) }
+
+tidy-dropped : TidyRegion noRegion
+tidy-dropped = record { none = λ e. refl }
+
+tidy-corners : (way x0 y0 x1 y1 : ℕ) → (way ≡ 0 → ⊥) → TidyRegion (regionOf way x0 y0 x1 y1)
+tidy-corners way x0 y0 x1 y1 ne = record { none = λ e. absurd (ne e) }
 
 tidy-advanced : (dashed : Bool) (f : Figure) (v : Vertex) → TidyFigure (advanced dashed f v)
 tidy-advanced dashed f v = record { closed = λ e. absurd (omega (arith, e)); single = λ e. refl; still = λ e. absurd (e refl) }
@@ -192,46 +210,86 @@ effect-figure r Color l = refl
 effect-figure r Lpattern l = refl
 effect-figure r Mask l = refl
 effect-figure r Lstatus l = refl
+effect-figure r Imode l = refl
+effect-figure r Load l = refl
+effect-figure r Save l = refl
+
+-- and only IMG's a region
+effect-region : (r : Registers) (s : Subcommand) (l : List ℕ) → TidyRegion (r .region) → TidyRegion (effectOf r s l .region)
+unfolding effectOf
+effect-region r Nothing l t = t
+effect-region r Pmode l t = t
+effect-region r Lmode l t = t
+effect-region r Zcontrol l t = t
+effect-region r Hcontrol l t = t
+effect-region r Tpattern l t = t
+effect-region r Win l t = t
+effect-region r Section l t = t
+effect-region r Color l t = t
+effect-region r Lpattern l t = t
+effect-region r Mask l t = t
+effect-region r Lstatus l t = t
+effect-region r Imode l t = t
+effect-region r Load l t = tidy-corners 1 _ _ _ _ (λ e. omega (arith, e))
+effect-region r Save l t = tidy-corners 2 _ _ _ _ (λ e. omega (arith, e))
+
+-- a transfer moves an open region on, or drops it
+tidy-pixel : (g : Region) → (g .way ≡ 0 → ⊥) → TidyRegion (nextPixel g)
+unfolding nextPixel
+tidy-pixel g ne =
+    chosen TidyRegion (eqb (g .x) (g .x1)) _ _
+    (λ t. chosen TidyRegion (eqb (g .y) (g .y1)) _ _ (λ u. tidy-dropped) (λ u. record { none = λ e. absurd (ne e) })) (λ t. record { none = λ e. absurd (ne e) })
 
 module _ (r : Registers) (t : Tidy r) where
   tidy-coordinate : (c : Coordinate) (n : ℕ) → Tidy (coordinateOf r c n)
   unfolding coordinateOf
-  tidy-coordinate I n = record { parked = t .parked; figure = t .figure }
-  tidy-coordinate Z n = record { parked = t .parked; figure = t .figure }
-  tidy-coordinate Y n = record { parked = t .parked; figure = t .figure }
-  tidy-coordinate X n = record { parked = t .parked; figure = tidy-grown (shapeOf (r .figure .shape)) _ _ (r .figure) (vertexOf r n) (t .figure) }
-  tidy-coordinate T1x n = record { parked = t .parked; figure = tidy-open 1 (vertexOf r n) (λ e. omega (arith, e)) }
-  tidy-coordinate T2x n = record { parked = t .parked; figure = tidy-open 2 (vertexOf r n) (λ e. omega (arith, e)) }
-  tidy-coordinate Lx n = record { parked = t .parked; figure = tidy-open 3 (vertexOf r n) (λ e. omega (arith, e)) }
-  tidy-coordinate Px n = record { parked = t .parked; figure = tidy-grown (shapeOf (r .figure .shape)) _ _ (r .figure) (vertexOf r n) (t .figure) }
+  tidy-coordinate I n = record { parked = t .parked; figure = t .figure; region = t .region }
+  tidy-coordinate Z n = record { parked = t .parked; figure = t .figure; region = t .region }
+  tidy-coordinate Y n = record { parked = t .parked; figure = t .figure; region = t .region }
+  tidy-coordinate X n = record { parked = t .parked; figure = tidy-grown (shapeOf (r .figure .shape)) _ _ (r .figure) (vertexOf r n) (t .figure); region = t .region }
+  tidy-coordinate T1x n = record { parked = t .parked; figure = tidy-open 1 (vertexOf r n) (λ e. omega (arith, e)); region = t .region }
+  tidy-coordinate T2x n = record { parked = t .parked; figure = tidy-open 2 (vertexOf r n) (λ e. omega (arith, e)); region = t .region }
+  tidy-coordinate Lx n = record { parked = t .parked; figure = tidy-open 3 (vertexOf r n) (λ e. omega (arith, e)); region = t .region }
+  tidy-coordinate Px n = record { parked = t .parked; figure = tidy-grown (shapeOf (r .figure .shape)) _ _ (r .figure) (vertexOf r n) (t .figure); region = t .region }
 
   tidy-parm : (v : ℕ) → Tidy (parmOf r v)
   unfolding parmOf
   tidy-parm v =
       chosen Tidy (ltb (r .parked .came + 1) (wants (awaited r))) _ _
-      (λ e. record { parked = tidy-counted (r .parked) v (ltb-true _ _ e) (t .parked); figure = t .figure })
-      (λ e. record { parked = tidy-nothing; figure = subst TidyFigure (sym (effect-figure r (awaited r) _)) (t .figure) })
+      (λ e. record { parked = tidy-counted (r .parked) v (ltb-true _ _ e) (t .parked); figure = t .figure; region = t .region })
+      (λ e. record { parked = tidy-nothing; figure = subst TidyFigure (sym (effect-figure r (awaited r) _)) (t .figure); region = effect-region r (awaited r) _ (t .region) })
 
-  tidy-after : (w : Word) → isAbove w ≡ false → Tidy (after r w)
+  transferred-tidy : (way : ℕ) → (way ≡ 0 → ⊥) → isOpen way r ≡ true → Tidy (transferredOf r)
+  transferred-tidy way ne o =
+      record { parked = t .parked; figure = t .figure; region = tidy-pixel (r .region) (λ e. ne (sym (eqb-true _ _ o) ∙ e)) }
+
+  tidy-after : (w : Word) → isAbove w ≡ false → isPtrn w && not (isOpen 1 r) ≡ false → Tidy (after r w)
   unfolding after settings
-  tidy-after (Init d) a = record { parked = tidy-nothing; figure = tidy-none }
-  tidy-after (Aux n) a = record { parked = tidy-awaiting n (λ e. absurd (omega (arith, e, ltb-false 12 n a))); figure = t .figure }
-  tidy-after (Parm v) a = tidy-parm v
-  tidy-after (At c n) a = tidy-coordinate c n
-  tidy-after Reserved a = t
-  tidy-after Unmodelled a = t
-  tidy-after Unknown a = t
+  tidy-after (Init d) a g = record { parked = tidy-nothing; figure = tidy-none; region = tidy-dropped }
+  tidy-after (Aux n) a g = record { parked = tidy-awaiting n (λ e. absurd (omega (arith, e, ltb-false 12 n a))); figure = t .figure; region = t .region }
+  tidy-after (Parm v) a g = tidy-parm v
+  tidy-after (At c n) a g = tidy-coordinate c n
+  tidy-after (Img d) a g = record { parked = tidy-awaiting (imgNumber d) (λ e. absurd (omega (arith, e))); figure = t .figure; region = t .region }
+  tidy-after (Ptrn v) a g = transferred-tidy 1 (λ e. omega (arith, e)) (not-false _ g)
+  tidy-after Reserved a g = t
+  tidy-after Unmodelled a g = t
+  tidy-after Unknown a g = t
 
   -- words keep a record tidy
   pub next-tidy : (ni nz : ℕ) (w : Word) → Tidy (next ni nz r w)
   unfolding next
   next-tidy ni nz w =
-      chosen Tidy (eqb (refusalOf ni nz r w) 0) (after r w) r (λ e. tidy-after w (accepted-when ni nz r w .0 (eqb-true _ _ e) .listed)) (λ e. t)
+      chosen Tidy (eqb (refusalOf ni nz r w) 0) (after r w) r
+      (λ e. let a = accepted-when ni nz r w .0 (eqb-true _ _ e) in tidy-after w (a .listed) (a .placed)) (λ e. t)
+
+  -- and so does the read call
+  pub read-tidy : (ni nz : ℕ) → readRefusalOf ni nz r ≡ 0 → Tidy (transferredOf r)
+  read-tidy ni nz e = transferred-tidy 2 (λ q. omega (arith, q)) (read-when ni nz r .0 e .outward)
 
 -- and reset leaves a tidy one
 pub reset-tidy : Tidy resetOf
 unfolding settings
-reset-tidy = record { parked = tidy-nothing; figure = tidy-none }
+reset-tidy = record { parked = tidy-nothing; figure = tidy-none; region = tidy-dropped }
 
 -- ---- the write enables
 
@@ -249,6 +307,9 @@ effect-hcontrol r Color l h = refl
 effect-hcontrol r Lpattern l h = refl
 effect-hcontrol r Mask l h = refl
 effect-hcontrol r Lstatus l h = refl
+effect-hcontrol r Imode l h = refl
+effect-hcontrol r Load l h = refl
+effect-hcontrol r Save l h = refl
 
 coordinate-hcontrol : (r : Registers) (c : Coordinate) (n : ℕ) → coordinateOf r c n .modes .hcontrol ≡ r .modes .hcontrol
 unfolding coordinateOf
@@ -274,6 +335,8 @@ hcontrol-alone r (Init d) h i = absurd (true≢false i)
 hcontrol-alone r (Aux n) h i = refl
 hcontrol-alone r (Parm v) h i = parm-hcontrol r v (h refl)
 hcontrol-alone r (At c n) h i = coordinate-hcontrol r c n
+hcontrol-alone r (Img d) h i = refl
+hcontrol-alone r (Ptrn v) h i = refl
 hcontrol-alone r Reserved h i = refl
 hcontrol-alone r Unmodelled h i = refl
 hcontrol-alone r Unknown h i = refl
@@ -323,6 +386,8 @@ module _ (P : Vertex → Type 0) (r : Registers) (first : P (r .figure .first)) 
     word-has (Aux n) h = tt
     word-has (Parm v) h = tt
     word-has (At c n) h = coordinate-has c n h
+    word-has (Img d) h = tt
+    word-has (Ptrn v) h = tt
     word-has Reserved h = tt
     word-has Unmodelled h = tt
     word-has Unknown h = tt

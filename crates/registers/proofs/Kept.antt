@@ -1,20 +1,20 @@
--- No record that reset and words leave breaks a bound (document 01, number 2). Reset and INIT set what is in bounds; any other accepted word
+-- No record that reset, words and reads leave breaks a bound (document 01, number 2). Reset and INIT set what is in bounds; any other accepted word
 -- replaces one part of the record, by values that were allowed. Assumes nothing.
 use mathlib.Core.Path.{_≡_, refl, sym, _∙_}
-use mathlib.Core.Bool.{Bool, true, false, not, _||_, or-true, false≢true}
+use mathlib.Core.Bool.{Bool, true, false, not, _||_, or-true, false≢true, true≢false}
 use mathlib.Core.List.{List, [], _∷_}
-use Prim.Native.Nat.{ℕ, zero, suc, _+_, _-_, _≤_, _<_}
+use Prim.Native.Nat.{ℕ, zero, suc, _+_, _-_, _≤_, _<_, _%_}
 use native.Mathlib.Omega.{arith}
 use lib.Dec.{leb, ltb, eqb, leb·zero}
 use lib.ListN.{set}
-use borrow.Author.Tests.{lt-ltb, ltb-true, le-leb, leb-true, eq-eqb, ne-eqb, eqb-true, eqb-false, not-true}
+use borrow.Author.Tests.{lt-ltb, ltb-true, ltb-false, le-leb, leb-true, eq-eqb, ne-eqb, eqb-true, eqb-false, not-true}
 use Rattle.picture.specs.declared.Vertex.{Vertex}
 use Rattle.registers.specs.declared.word.Word.{Word}
-use Rattle.registers.specs.declared.word.Word.the-variants.{Init, Aux, Parm, At, Reserved, Unmodelled, Unknown}
+use Rattle.registers.specs.declared.word.Word.the-variants.{Init, Aux, Parm, At, Img, Ptrn, Reserved, Unmodelled, Unknown}
 use Rattle.registers.specs.declared.word.Coordinate.{Coordinate}
 use Rattle.registers.specs.declared.word.Coordinate.the-variants.{I, Z, Y, X, T1x, T2x, Lx, Px}
 use Rattle.registers.specs.declared.subcommand.Subcommand.{Subcommand}
-use Rattle.registers.specs.declared.subcommand.Subcommand.the-variants.{Nothing, Pmode, Lmode, Zcontrol, Hcontrol, Tpattern, Window as Win, Section, Color, Lpattern, Mask, Lstatus}
+use Rattle.registers.specs.declared.subcommand.Subcommand.the-variants.{Nothing, Pmode, Lmode, Zcontrol, Hcontrol, Tpattern, Window as Win, Section, Color, Lpattern, Mask, Lstatus, Imode, Load, Save}
 use Rattle.registers.specs.declared.shape.Shape.{Shape}
 use Rattle.registers.specs.declared.shape.Shape.the-variants.{Closed, Strip, Fan, Line}
 use Rattle.registers.specs.declared.Modes.{Modes}
@@ -23,19 +23,21 @@ use Rattle.registers.specs.declared.Dash.{Dash}
 use Rattle.registers.specs.declared.Latch.{Latch}
 use Rattle.registers.specs.declared.Figure.{Figure}
 use Rattle.registers.specs.declared.Parked.{Parked}
+use Rattle.registers.specs.declared.Region.{Region}
 use Rattle.registers.specs.declared.Registers.{Registers}
 use Rattle.registers.specs.Lines.{chipsIn, unitIn, pageIn, codeIn, lineOf}
-use Rattle.registers.specs.Record.{noVertex, opened, frameOf, awaiting, nothingAwaited, window, settings, resetOf, initOf, withPmode, withLmode, withZcontrol, withHcontrol, withLstatus, withTransparency, withPlanes, withSection, withModes, withWindow, withDash, withLatch, withFigure, withParked}
+use Rattle.registers.specs.Record.{noVertex, opened, frameOf, awaiting, nothingAwaited, regionOf, noRegion, window, settings, resetOf, initOf, withPmode, withLmode, withZcontrol, withHcontrol, withLstatus, withTransparency, withPlanes, withSection, withModes, withWindow, withDash, withLatch, withFigure, withParked, withRegion}
+use Rattle.registers.specs.Region.{toward, moved, nextPixel}
 use Rattle.registers.specs.Subcommand.{subcommands, subcommandOf, wants}
 use Rattle.registers.specs.Figure.{shapeOf, vertexOf, isPair, advanced, grownOf, figureAfter}
-use Rattle.registers.specs.Next.{value, awaited, joinedOf, counted, effectOf, parmOf, coordinateOf, after}
+use Rattle.registers.specs.Next.{value, awaited, joinedOf, counted, effectOf, parmOf, coordinateOf, imgNumber, transferredOf, after}
 use Rattle.registers.specs.Allowed.{isCoordinate, isBorder, onlyBits, zcontrolBits, hcontrolBits, lstatusBits, initAllowed, parameterAllowed, coordinateAllowed, allowed}
-use Rattle.registers.specs.Bounds.{frameFits, modesFit, windowFits, vertexFits, figureFits, valuesFit, parkedFits, inBounds}
-use Rattle.registers.specs.Refusal.{isUnmodelled, isAbove, isUnfit, refusalOf, next}
+use Rattle.registers.specs.Bounds.{frameFits, modesFit, windowFits, vertexFits, figureFits, valueFits, valuesFit, parkedFits, regionFits, inBounds}
+use Rattle.registers.specs.Refusal.{isUnmodelled, isAbove, isUnfit, refusalOf, next, readRefusalOf}
 use Rattle.registers.proofs.Truth.{and-both, All, chain-all, all-chain, chosen}
 use Rattle.registers.proofs.Table.{everywhere}
 use Rattle.registers.proofs.Lengths.{line-fits}
-use Rattle.registers.proofs.Refusals.{Accepted, accepted-when, given-2}
+use Rattle.registers.proofs.Refusals.{Accepted, accepted-when, given-2, read-when, read-2}
 
 -- ---- the bounds, part by part
 
@@ -47,10 +49,11 @@ pub record Sound (r : Registers) : Type 0 where
   pub y : isCoordinate (r .latch .y) ≡ true
   pub figure : figureFits (r .figure) ≡ true
   pub parked : parkedFits (r .parked) ≡ true
+  pub region : regionFits (r .region) ≡ true
 
 module _ (r : Registers) where
   abbrev tests : List Bool
-  tests = frameFits (r .frame) ∷ modesFit (r .modes) ∷ windowFits (r .window) ∷ isCoordinate (r .latch .y) ∷ figureFits (r .figure) ∷ parkedFits (r .parked) ∷ []
+  tests = frameFits (r .frame) ∷ modesFit (r .modes) ∷ windowFits (r .window) ∷ isCoordinate (r .latch .y) ∷ figureFits (r .figure) ∷ parkedFits (r .parked) ∷ regionFits (r .region) ∷ []
 
   -- a record in bounds has each part in bounds
   pub parts : inBounds r ≡ true → Sound r
@@ -65,32 +68,36 @@ module _ (r : Registers) where
         y = q .1 .1 .1 .1 .0;
         figure = q .1 .1 .1 .1 .1 .0;
         parked = q .1 .1 .1 .1 .1 .1 .0;
+        region = q .1 .1 .1 .1 .1 .1 .1 .0;
       }
 
   -- and a record of parts in bounds is in bounds
   pub whole : Sound r → inBounds r ≡ true
   unfolding inBounds
-  whole s = all-chain (leb (r .started) 1) tests (s .started, (s .frame, (s .modes, (s .window, (s .y, (s .figure, (s .parked, tt)))))))
+  whole s = all-chain (leb (r .started) 1) tests (s .started, (s .frame, (s .modes, (s .window, (s .y, (s .figure, (s .parked, (s .region, tt))))))))
 
 -- a part is replaced
 module _ {r : Registers} (s : Sound r) where
   sound-modes : (m : Modes) → modesFit m ≡ true → Sound (withModes r m)
-  sound-modes m h = record { started = s .started; frame = s .frame; modes = h; window = s .window; y = s .y; figure = s .figure; parked = s .parked }
+  sound-modes m h = record { started = s .started; frame = s .frame; modes = h; window = s .window; y = s .y; figure = s .figure; parked = s .parked; region = s .region }
 
   sound-window : (w : Window) → windowFits w ≡ true → Sound (withWindow r w)
-  sound-window w h = record { started = s .started; frame = s .frame; modes = s .modes; window = h; y = s .y; figure = s .figure; parked = s .parked }
+  sound-window w h = record { started = s .started; frame = s .frame; modes = s .modes; window = h; y = s .y; figure = s .figure; parked = s .parked; region = s .region }
 
   sound-dash : (d : Dash) → Sound (withDash r d)
-  sound-dash d = record { started = s .started; frame = s .frame; modes = s .modes; window = s .window; y = s .y; figure = s .figure; parked = s .parked }
+  sound-dash d = record { started = s .started; frame = s .frame; modes = s .modes; window = s .window; y = s .y; figure = s .figure; parked = s .parked; region = s .region }
 
   sound-latch : (l : Latch) → isCoordinate (l .y) ≡ true → Sound (withLatch r l)
-  sound-latch l h = record { started = s .started; frame = s .frame; modes = s .modes; window = s .window; y = h; figure = s .figure; parked = s .parked }
+  sound-latch l h = record { started = s .started; frame = s .frame; modes = s .modes; window = s .window; y = h; figure = s .figure; parked = s .parked; region = s .region }
 
   sound-figure : (f : Figure) → figureFits f ≡ true → Sound (withFigure r f)
-  sound-figure f h = record { started = s .started; frame = s .frame; modes = s .modes; window = s .window; y = s .y; figure = h; parked = s .parked }
+  sound-figure f h = record { started = s .started; frame = s .frame; modes = s .modes; window = s .window; y = s .y; figure = h; parked = s .parked; region = s .region }
 
   sound-parked : (p : Parked) → parkedFits p ≡ true → Sound (withParked r p)
-  sound-parked p h = record { started = s .started; frame = s .frame; modes = s .modes; window = s .window; y = s .y; figure = s .figure; parked = h }
+  sound-parked p h = record { started = s .started; frame = s .frame; modes = s .modes; window = s .window; y = s .y; figure = s .figure; parked = h; region = s .region }
+
+  sound-region : (g : Region) → regionFits g ≡ true → Sound (withRegion r g)
+  sound-region g h = record { started = s .started; frame = s .frame; modes = s .modes; window = s .window; y = s .y; figure = s .figure; parked = s .parked; region = h }
 
 -- ---- the modes, one of them replaced
 
@@ -133,25 +140,56 @@ module _ (m : Modes) (h : modesFit m ≡ true) where
 
 -- ---- parameters
 
--- a subcommand is WINDOW, or no value that is parked for it is bounded
-unless-window : (P : Subcommand → Type 0) → P Win → ((s : Subcommand) → ((l : List ℕ) → valuesFit s l ≡ true) → P s) → (s : Subcommand) → P s
+-- a parameter that is allowed may be parked
+value-fits : (s : Subcommand) (k v : ℕ) → parameterAllowed s k v ≡ true → valueFits s v ≡ true
+value-fits Nothing k v a = refl
+value-fits Pmode k v a = refl
+value-fits Lmode k v a = refl
+value-fits Zcontrol k v a = refl
+value-fits Hcontrol k v a = refl
+value-fits Tpattern k v a = refl
+value-fits Win k v a = chosen (λ (b : Bool). b ≡ true → isBorder v ≡ true) (ltb k 4) (isBorder v) (eqb v 0) (λ t e. e) (λ t e. rw (eqb-true v 0 e)) a
+value-fits Section k v a = refl
+value-fits Color k v a = refl
+value-fits Lpattern k v a = refl
+value-fits Mask k v a = refl
+value-fits Lstatus k v a = refl
+value-fits Imode k v a = refl
+value-fits Load k v a = a
+value-fits Save k v a = a
+
+-- and so may 0
+zero-fits : (s : Subcommand) → valueFits s 0 ≡ true
+zero-fits Nothing = refl
+zero-fits Pmode = refl
+zero-fits Lmode = refl
+zero-fits Zcontrol = refl
+zero-fits Hcontrol = refl
+zero-fits Tpattern = refl
+zero-fits Win = refl
+zero-fits Section = refl
+zero-fits Color = refl
+zero-fits Lpattern = refl
+zero-fits Mask = refl
+zero-fits Lstatus = refl
+zero-fits Imode = refl
+zero-fits Load = refl
+zero-fits Save = refl
+
+-- the four values that are bounded, one by one
+abbrev others : Subcommand → List ℕ → List Bool
+others s l = valueFits s (value l 1) ∷ valueFits s (value l 2) ∷ valueFits s (value l 3) ∷ []
+
+each-fits : (s : Subcommand) (l : List ℕ) → valuesFit s l ≡ true → All (valueFits s (value l 0) ∷ others s l)
 unfolding valuesFit
-unless-window P w f Nothing = f Nothing (λ l. refl)
-unless-window P w f Pmode = f Pmode (λ l. refl)
-unless-window P w f Lmode = f Lmode (λ l. refl)
-unless-window P w f Zcontrol = f Zcontrol (λ l. refl)
-unless-window P w f Hcontrol = f Hcontrol (λ l. refl)
-unless-window P w f Tpattern = f Tpattern (λ l. refl)
-unless-window P w f Win = w
-unless-window P w f Section = f Section (λ l. refl)
-unless-window P w f Color = f Color (λ l. refl)
-unless-window P w f Lpattern = f Lpattern (λ l. refl)
-unless-window P w f Mask = f Mask (λ l. refl)
-unless-window P w f Lstatus = f Lstatus (λ l. refl)
+each-fits s l = chain-all (valueFits s (value l 0)) (others s l)
+
+all-fit : (s : Subcommand) (l : List ℕ) → All (valueFits s (value l 0) ∷ others s l) → valuesFit s l ≡ true
+unfolding valuesFit
+all-fit s l = all-chain (valueFits s (value l 0)) (others s l)
 
 zeros-fit : (s : Subcommand) → valuesFit s (0 ∷ 0 ∷ 0 ∷ 0 ∷ 0 ∷ []) ≡ true
-unfolding valuesFit
-zeros-fit = unless-window (λ s. valuesFit s (0 ∷ 0 ∷ 0 ∷ 0 ∷ 0 ∷ []) ≡ true) refl (λ s f. f _)
+zeros-fit s = let z = zero-fits s in all-fit s _ (z, (z, (z, (z, tt))))
 
 -- what is so of a new value and of those that were there is so of all
 set-keeps : (P : ℕ → Bool) (l : List ℕ) (i v k : ℕ) → P v ≡ true → P (value l k) ≡ true → P (value (set l i v) k) ≡ true
@@ -161,24 +199,13 @@ set-keeps P (x ∷ xs) zero v (suc k) p q = q
 set-keeps P (x ∷ xs) (suc i) v zero p q = q
 set-keeps P (x ∷ xs) (suc i) v (suc k) p q = set-keeps P xs i v k p q
 
-border : (k v : ℕ) → parameterAllowed Win k v ≡ true → isBorder v ≡ true
-border k v = chosen (λ (b : Bool). b ≡ true → isBorder v ≡ true) (ltb k 4) (isBorder v) (eqb v 0) (λ t e. e) (λ t e. rw (eqb-true v 0 e))
-
-abbrev borders : List ℕ → List Bool
-borders l = isBorder (value l 1) ∷ isBorder (value l 2) ∷ isBorder (value l 3) ∷ []
-
-borders-set : (l : List ℕ) (k v : ℕ) → parameterAllowed Win k v ≡ true → valuesFit Win l ≡ true → valuesFit Win (set l k v) ≡ true
-unfolding valuesFit
-borders-set l k v a e =
-    let q = chain-all (isBorder (value l 0)) (borders l) e in
-    let b = border k v a in
-    all-chain (isBorder (value (set l k v) 0)) (borders (set l k v))
-    (set-keeps isBorder l k v 0 b (q .0), (set-keeps isBorder l k v 1 b (q .1 .0), (set-keeps isBorder l k v 2 b (q .1 .1 .0), (set-keeps isBorder l k v 3 b (q .1 .1 .1 .0), tt))))
-
 -- an allowed parameter beside those that are parked
 values-set : (s : Subcommand) (l : List ℕ) (k v : ℕ) → parameterAllowed s k v ≡ true → valuesFit s l ≡ true → valuesFit s (set l k v) ≡ true
-values-set s l k v =
-    unless-window (λ (t : Subcommand). parameterAllowed t k v ≡ true → valuesFit t l ≡ true → valuesFit t (set l k v) ≡ true) (borders-set l k v) (λ t f a e. f _) s
+values-set s l k v a e =
+    let q = each-fits s l e in
+    let b = value-fits s k v a in
+    let keep : (n : ℕ) → valueFits s (value l n) ≡ true → valueFits s (value (set l k v) n) ≡ true = λ n p. set-keeps (valueFits s) l k v n b p in
+    all-fit s (set l k v) (keep 0 (q .0), (keep 1 (q .1 .0), (keep 2 (q .1 .1 .0), (keep 3 (q .1 .1 .1 .0), tt))))
 
 -- a first parameter is the only one
 alone : (P : ℕ → Bool) (l : List ℕ) (k v : ℕ) → k ≡ 0 → P 0 ≡ true → P v ≡ true → P (value (set l k v) 0) ≡ true
@@ -189,23 +216,33 @@ alone P (x ∷ xs) (suc k) v e z p = absurd (omega (arith, e))
 -- once the last has come the first is such as the subcommand allows
 first-allowed : (s : Subcommand) (l : List ℕ) (k v : ℕ) → k ≤ wants s - 1 → valuesFit s (set l k v) ≡ true → parameterAllowed s k v ≡ true
     → parameterAllowed s 0 (value (set l k v) 0) ≡ true
-unfolding valuesFit
 first-allowed Nothing l k v h f a = refl
 first-allowed Pmode l k v h f a = alone (parameterAllowed Pmode 0) l k v (omega (arith, h)) refl a
 first-allowed Lmode l k v h f a = alone (parameterAllowed Lmode 0) l k v (omega (arith, h)) refl a
 first-allowed Zcontrol l k v h f a = alone (parameterAllowed Zcontrol 0) l k v (omega (arith, h)) refl a
 first-allowed Hcontrol l k v h f a = alone (parameterAllowed Hcontrol 0) l k v (omega (arith, h)) refl a
 first-allowed Tpattern l k v h f a = refl
-first-allowed Win l k v h f a = chain-all (isBorder (value (set l k v) 0)) (borders (set l k v)) f .0
+first-allowed Win l k v h f a = each-fits Win (set l k v) f .0
 first-allowed Section l k v h f a = refl
 first-allowed Color l k v h f a = refl
 first-allowed Lpattern l k v h f a = refl
 first-allowed Mask l k v h f a = refl
 first-allowed Lstatus l k v h f a = alone (parameterAllowed Lstatus 0) l k v (omega (arith, h)) refl a
+first-allowed Imode l k v h f a = alone (parameterAllowed Imode 0) l k v (omega (arith, h)) refl a
+first-allowed Load l k v h f a = each-fits Load (set l k v) f .0
+first-allowed Save l k v h f a = each-fits Save (set l k v) f .0
 
 borders-fit : (l : List ℕ) → valuesFit Win l ≡ true → windowFits (window (value l 0) (value l 1) (value l 2) (value l 3)) ≡ true
 unfolding valuesFit windowFits
 borders-fit l f = f
+
+-- corners make a region, whatever its way
+corners-fit : (way x0 y0 x1 y1 : ℕ) → leb way 2 ≡ true → All (isCoordinate x0 ∷ isCoordinate y0 ∷ isCoordinate x1 ∷ isCoordinate y1 ∷ [])
+    → regionFits (regionOf way x0 y0 x1 y1) ≡ true
+unfolding regionFits
+corners-fit way x0 y0 x1 y1 w q =
+    all-chain (leb way 2) (isCoordinate x0 ∷ isCoordinate x1 ∷ isCoordinate y1 ∷ isCoordinate x0 ∷ isCoordinate y0 ∷ [])
+    (w, (q .0, (q .1 .1 .0, (q .1 .1 .1 .0, (q .0, (q .1 .0, tt))))))
 
 effect-sound : (r : Registers) (s : Subcommand) (l : List ℕ) → Sound r → parameterAllowed s 0 (value l 0) ≡ true → valuesFit s l ≡ true → Sound (effectOf r s l)
 unfolding effectOf
@@ -221,16 +258,25 @@ effect-sound r Color l h a f = sound-dash h _
 effect-sound r Lpattern l h a f = sound-dash h _
 effect-sound r Mask l h a f = sound-modes h _ (planes-fits (r .modes) (h .modes) (value l 0))
 effect-sound r Lstatus l h a f = sound-modes h _ (lstatus-fits (r .modes) (h .modes) (value l 0) a)
+effect-sound r Imode l h a f = h
+effect-sound r Load l h a f = sound-region h _ (corners-fit 1 _ _ _ _ refl (each-fits Load l f))
+effect-sound r Save l h a f = sound-region h _ (corners-fit 2 _ _ _ _ refl (each-fits Save l f))
 
 -- ---- what is awaited
 
--- AUX has a subcommand with parameters just where it is modelled and at most 12
-pub aux-takes : (n : ℕ) → ltb 0 (wants (subcommandOf n)) ≡ not (isUnmodelled (Aux n) || isAbove (Aux n))
+-- AUX up to 12 has a subcommand with parameters just where it is modelled
+pub aux-takes : (n : ℕ) → isAbove (Aux n) ≡ false → ltb 0 (wants (subcommandOf n)) ≡ not (isUnmodelled (Aux n))
 unfolding subcommandOf
 aux-takes =
-    everywhere (λ n s. ltb 0 (wants s) ≡ not (isUnmodelled (Aux n) || isAbove (Aux n))) Nothing subcommands
-    (refl, (refl, (refl, (refl, (refl, (refl, (refl, (refl, (refl, (refl, (refl, (refl, (refl, tt)))))))))))))
-    (λ n h. let p : 12 < n = omega (arith, h) in rw (lt-ltb 12 n p, or-true))
+    everywhere (λ n s. isAbove (Aux n) ≡ false → ltb 0 (wants s) ≡ not (isUnmodelled (Aux n))) Nothing subcommands
+    (same, (same, (same, (same, (same, (same, (same, (same, (same, (same, (same, (same, (same, (never, (never, (never, tt))))))))))))))))
+    (λ n h a. absurd (omega (arith, h, ltb-false 12 n a)))
+  where
+    same : {a b : Bool} → a ≡ false → b ≡ b
+    same e = refl
+
+    never : {b c : Bool} → true ≡ false → b ≡ c
+    never e = absurd (true≢false e)
 
 -- no parameter has come
 awaiting-fits : (n : ℕ) → eqb n 13 || ltb 0 (wants (subcommandOf n)) ≡ true → parkedFits (awaiting n) ≡ true
@@ -243,8 +289,18 @@ nothing-fits = awaiting-fits 13 refl
 
 aux-fits : (n : ℕ) → isUnmodelled (Aux n) ≡ false → isAbove (Aux n) ≡ false → parkedFits (awaiting n) ≡ true
 aux-fits n m a =
-    let takes : ltb 0 (wants (subcommandOf n)) ≡ true = rw (aux-takes n, m, a) in
+    let takes : ltb 0 (wants (subcommandOf n)) ≡ true = rw (aux-takes n a, m) in
     awaiting-fits n (rw (takes, or-true))
+
+-- IMG's parameters, to memory and from memory
+img-fits : (d : ℕ) → parkedFits (awaiting (imgNumber d)) ≡ true
+unfolding subcommandOf
+img-fits d = go (d % 2) (omega arith)
+  where
+    go : (k : ℕ) → k < 2 → parkedFits (awaiting (14 + k)) ≡ true
+    go zero h = awaiting-fits 14 refl
+    go (suc zero) h = awaiting-fits 15 refl
+    go (suc (suc k)) h = absurd (omega (arith, h))
 
 -- one more has come
 module _ (p : Parked) (h : parkedFits p ≡ true) (v : ℕ) (a : parameterAllowed (subcommandOf (p .subcommand)) (p .came) v ≡ true) where
@@ -331,11 +387,44 @@ module _ (r : Registers) (s : Sound r) where
   coordinate-sound Lx n h = sound-figure (sound-modes s _ (lstatus-fits (r .modes) (s .modes) 0 refl)) _ (open-fits 3 (vertexOf r n) refl (vertex-fits n h))
   coordinate-sound Px n h = grown-sound n h
 
+-- ---- regions
+
+-- a step towards a coordinate stays among coordinates
+toward-fits : (a b : ℕ) → isCoordinate a ≡ true → isCoordinate b ≡ true → isCoordinate (toward a b) ≡ true
+unfolding toward
+toward-fits a b h k =
+    let p : a ≤ 8191 = leb-true a 8191 h in
+    let q : b ≤ 8191 = leb-true b 8191 k in
+    chosen (λ (n : ℕ). isCoordinate n ≡ true) (ltb a b) (a + 1) (a - 1)
+    (λ t. let l : a + 1 ≤ 8191 = omega (arith, ltb-true a b t, q) in le-leb _ _ l) (λ t. let l : a - 1 ≤ 8191 = omega (arith, p) in le-leb _ _ l)
+
+region-tests : Region → List Bool
+region-tests g = isCoordinate (g .x0) ∷ isCoordinate (g .x1) ∷ isCoordinate (g .y1) ∷ isCoordinate (g .x) ∷ isCoordinate (g .y) ∷ []
+
+no-region : regionFits noRegion ≡ true
+unfolding regionFits
+no-region = refl
+
+-- a transfer keeps a region within its bounds
+pixel-fits : (g : Region) → regionFits g ≡ true → regionFits (nextPixel g) ≡ true
+unfolding regionFits nextPixel region-tests
+pixel-fits g h =
+    let q = chain-all (leb (g .way) 2) (region-tests g) h in
+    let away : (x y : ℕ) → isCoordinate x ≡ true → isCoordinate y ≡ true → regionFits (moved g x y) ≡ true = λ x y k l.
+    all-chain (leb (g .way) 2) (region-tests (moved g x y)) (q .0, (q .1 .0, (q .1 .1 .0, (q .1 .1 .1 .0, (k, (l, tt)))))) in
+    chosen (λ (k : Region). regionFits k ≡ true) (eqb (g .x) (g .x1)) _ _
+    (λ t. chosen (λ (k : Region). regionFits k ≡ true) (eqb (g .y) (g .y1)) _ _ (λ u. refl)
+    (λ u. away (g .x0) (toward (g .y) (g .y1)) (q .1 .0) (toward-fits (g .y) (g .y1) (q .1 .1 .1 .1 .1 .0) (q .1 .1 .1 .0))))
+    (λ t. away (toward (g .x) (g .x1)) (g .y) (toward-fits (g .x) (g .x1) (q .1 .1 .1 .1 .0) (q .1 .1 .0)) (q .1 .1 .1 .1 .1 .0))
+
+transferred-sound : (r : Registers) → Sound r → Sound (transferredOf r)
+transferred-sound r s = sound-region s _ (pixel-fits (r .region) (s .region))
+
 -- ---- reset and INIT
 
 settings-sound : (started line : ℕ) → leb started 1 ≡ true → frameFits (frameOf line) ≡ true → Sound (settings started (frameOf line))
 unfolding settings modesFit windowFits
-settings-sound started line s f = record { started = s; frame = f; modes = refl; window = refl; y = refl; figure = open-fits 0 noVertex refl no-vertex; parked = nothing-fits }
+settings-sound started line s f = record { started = s; frame = f; modes = refl; window = refl; y = refl; figure = open-fits 0 noVertex refl no-vertex; parked = nothing-fits; region = no-region }
 
 init-sound : (r : Registers) (d : ℕ) → initAllowed d ≡ true → Sound (initOf r d)
 unfolding initAllowed
@@ -357,6 +446,8 @@ module _ (ni nz : ℕ) (r : Registers) where
   after-sound (Aux n) a = sound-parked (parts r (a .sound)) _ (aux-fits n (a .modelled) (a .listed))
   after-sound (Parm v) a = parm-sound r v (parts r (a .sound)) (a .valued)
   after-sound (At c n) a = coordinate-sound r (parts r (a .sound)) c n (a .valued)
+  after-sound (Img d) a = sound-parked (parts r (a .sound)) _ (img-fits d)
+  after-sound (Ptrn v) a = transferred-sound r (parts r (a .sound))
   after-sound Reserved a = parts r (a .sound)
   after-sound Unmodelled a = parts r (a .sound)
   after-sound Unknown a = parts r (a .sound)
@@ -384,6 +475,19 @@ module _ (ni nz : ℕ) (r : Registers) where
 -- over memories of one length a record that breaks no bound never gets 2
 pub kept-fit : (n : ℕ) (r : Registers) (w : Word) → inBounds r ≡ true → refusalOf n n r w ≡ 2 → ⊥
 kept-fit n r w h e = false≢true (sym fit ∙ given-2 n n r w .0 e .0)
+  where
+    fit : isUnfit n n r ≡ false
+    fit = rw (eq-eqb n n refl, h)
+
+-- ---- the read call
+
+-- an accepted read leaves a record that breaks no bound
+pub read-kept : (ni nz : ℕ) (r : Registers) → readRefusalOf ni nz r ≡ 0 → inBounds (transferredOf r) ≡ true
+read-kept ni nz r e = whole (transferredOf r) (transferred-sound r (parts r (read-when ni nz r .0 e .sound)))
+
+-- over memories of one length a record that breaks no bound never gets 2
+pub read-fit : (n : ℕ) (r : Registers) → inBounds r ≡ true → readRefusalOf n n r ≡ 2 → ⊥
+read-fit n r h e = false≢true (sym fit ∙ read-2 n n r .0 e)
   where
     fit : isUnfit n n r ≡ false
     fit = rw (eq-eqb n n refl, h)

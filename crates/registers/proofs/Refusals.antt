@@ -1,4 +1,4 @@
--- The numbers 1 to 10, row by row of document 01's table ("Numbers that come back"): a number is given exactly when its row applies and no
+-- The numbers 1 to 10 and 14, row by row of document 01's table ("Numbers that come back"): a number is given exactly when its row applies and no
 -- row above it does, and a word is accepted exactly when none applies. Assumes nothing.
 use mathlib.Core.Path.{_≡_, refl}
 use mathlib.Core.Bool.{Bool, true, false, not, _&&_, _||_, false≢true, true≢false}
@@ -13,7 +13,8 @@ use Rattle.registers.specs.declared.word.Word.{Word}
 use Rattle.registers.specs.declared.Registers.{Registers}
 use Rattle.registers.specs.Allowed.{allowed, fits}
 use Rattle.registers.specs.Bounds.{inBounds}
-use Rattle.registers.specs.Refusal.{isInit, isParm, isUnknown, isReserved, isUnmodelled, isAbove, isCold, awaits, table, lowest, isUnfit, refusalOf}
+use Rattle.registers.specs.Refusal.{isInit, isParm, isUnknown, isReserved, isUnmodelled, isAbove, isPtrn, isCold, awaits, table, lowest, isUnfit, refusalOf, readTable, readRefusalOf}
+use Rattle.registers.specs.Region.{isOpen}
 use Rattle.registers.proofs.Truth.{neither}
 
 -- ---- the lowest number that applies
@@ -90,6 +91,7 @@ pub record Accepted (ni nz : ℕ) (r : Registers) (w : Word) : Type 0 where
   pub listed : isAbove w ≡ false
   pub valued : allowed r w ≡ true
   pub fitting : fits r w ≡ true
+  pub placed : isPtrn w && not (isOpen 1 r) ≡ false
 
 module _ (ni nz : ℕ) (r : Registers) (w : Word) where
   -- none of the numbers 1 to k applies
@@ -117,7 +119,7 @@ module _ (ni nz : ℕ) (r : Registers) (w : Word) where
   pub given-4 : (refusalOf ni nz r w ≡ 4) ↔ ((isReserved w ≡ true) × Past 3)
   given-4 = given 3
 
-  -- 5 is given exactly when the command is 0, 9 or A hex or the word is AUX 2 or 11, and none of 1 to 4 applies
+  -- 5 is given exactly when the command is A hex or the word is AUX 11, and none of 1 to 4 applies
   pub given-5 : (refusalOf ni nz r w ≡ 5) ↔ ((isUnmodelled w ≡ true) × Past 4)
   given-5 = given 4
 
@@ -141,14 +143,28 @@ module _ (ni nz : ℕ) (r : Registers) (w : Word) where
   pub given-10 : (refusalOf ni nz r w ≡ 10) ↔ ((not (fits r w) ≡ true) × Past 9)
   given-10 = given 9
 
+  -- 11, 12 and 13 refuse no word
+  pub given-11 : refusalOf ni nz r w ≡ 11 → ⊥
+  given-11 e = false≢true (given 10 .0 e .0)
+
+  pub given-12 : refusalOf ni nz r w ≡ 12 → ⊥
+  given-12 e = false≢true (given 11 .0 e .0)
+
+  pub given-13 : refusalOf ni nz r w ≡ 13 → ⊥
+  given-13 e = false≢true (given 12 .0 e .0)
+
+  -- 14 is given exactly when the word is PTRN and no region is open to memory, and none of 1 to 10 applies
+  pub given-14 : (refusalOf ni nz r w ≡ 14) ↔ ((isPtrn w && not (isOpen 1 r) ≡ true) × Past 13)
+  given-14 = given 13
+
   -- no other number is given
-  pub given-most : refusalOf ni nz r w ≤ 10
+  pub given-most : refusalOf ni nz r w ≤ 14
   unfolding refusalOf
   given-most = lowest-most 0 (table (isUnfit ni nz r) r w)
 
-  accepted-rows : Accepted ni nz r w → Past 10
+  accepted-rows : Accepted ni nz r w → Past 14
   accepted-rows a =
-      (a .known, (fit, (a .begun, (a .assigned, (a .modelled, (a .expected, (a .wanted, (a .listed, (valued, (fitting, tt))))))))))
+      (a .known, (fit, (a .begun, (a .assigned, (a .modelled, (a .expected, (a .wanted, (a .listed, (valued, (fitting, (refl, (refl, (refl, (a .placed, tt))))))))))))))
     where
       fit : isUnfit ni nz r ≡ false
       fit = rw (eq-eqb ni nz (a .same), a .sound)
@@ -159,7 +175,7 @@ module _ (ni nz : ℕ) (r : Registers) (w : Word) where
       fitting : not (fits r w) ≡ false
       fitting = rw (a .fitting)
 
-  rows-accepted : Past 10 → Accepted ni nz r w
+  rows-accepted : Past 14 → Accepted ni nz r w
   rows-accepted q =
       let fit = neither (not (eqb ni nz)) (not (inBounds r)) (q .1 .0) in
       let rest = q .1 .1 .1 .1 .1 .1 in
@@ -175,6 +191,7 @@ module _ (ni nz : ℕ) (r : Registers) (w : Word) where
         listed = rest .1 .0;
         valued = not-false _ (rest .1 .1 .0);
         fitting = not-false _ (rest .1 .1 .1 .0);
+        placed = rest .1 .1 .1 .1 .1 .1 .1 .0;
       }
 
   -- 0 is given exactly when no row applies
@@ -182,3 +199,63 @@ module _ (ni nz : ℕ) (r : Registers) (w : Word) where
   unfolding refusalOf
   accepted-when =
       (λ e. rows-accepted (lowest-none 0 (table (isUnfit ni nz r) r w) .0 e), λ a. lowest-none 0 (table (isUnfit ni nz r) r w) .1 (accepted-rows a))
+
+-- ---- the read call
+
+-- an accepted read: no row applies
+pub record Readable (ni nz : ℕ) (r : Registers) : Type 0 where
+  pub same : ni ≡ nz
+  pub sound : inBounds r ≡ true
+  pub begun : isCold r ≡ false
+  pub idle : awaits r ≡ false
+  pub outward : isOpen 2 r ≡ true
+
+module _ (ni nz : ℕ) (r : Registers) where
+  abbrev rows : List Bool
+  rows = readTable (isUnfit ni nz r) r
+
+  -- the number of a row is given exactly when that row is the first that applies
+  pub read-given : (k : ℕ) → (readRefusalOf ni nz r ≡ 2 + k) ↔ First k rows
+  unfolding readRefusalOf
+  read-given k = lowest-first 1 rows k
+
+  -- 2 is given exactly when the two memories differ in length or the record breaks a bound
+  pub read-2 : (readRefusalOf ni nz r ≡ 2) ↔ (not (eqb ni nz) || not (inBounds r) ≡ true)
+  read-2 = (λ e. read-given 0 .0 e .0, λ t. read-given 0 .1 (t, tt))
+
+  -- 3 exactly when no INIT was accepted yet, and 2 does not apply
+  pub read-3 : (readRefusalOf ni nz r ≡ 3) ↔ ((isCold r ≡ true) × Clear 1 rows)
+  read-3 = read-given 1
+
+  -- 6 exactly when a parameter is awaited, and neither 2 nor 3 applies
+  pub read-6 : (readRefusalOf ni nz r ≡ 6) ↔ ((awaits r ≡ true) × Clear 4 rows)
+  read-6 = read-given 4
+
+  -- 14 exactly when no region is open from memory, and none of 2, 3 and 6 applies
+  pub read-14 : (readRefusalOf ni nz r ≡ 14) ↔ ((not (isOpen 2 r) ≡ true) × Clear 12 rows)
+  read-14 = read-given 12
+
+  readable : Clear 13 rows → Readable ni nz r
+  readable q =
+      let fit = neither (not (eqb ni nz)) (not (inBounds r)) (q .0) in
+      record {
+        same = eqb-true ni nz (not-false _ (fit .0));
+        sound = not-false _ (fit .1);
+        begun = q .1 .0;
+        idle = q .1 .1 .1 .1 .0;
+        outward = not-false _ (q .1 .1 .1 .1 .1 .1 .1 .1 .1 .1 .1 .1 .0);
+      }
+
+  read-clear : Readable ni nz r → Clear 13 rows
+  read-clear a = (fit, (a .begun, (refl, (refl, (a .idle, (refl, (refl, (refl, (refl, (refl, (refl, (refl, (outward, tt)))))))))))))
+    where
+      fit : isUnfit ni nz r ≡ false
+      fit = rw (eq-eqb ni nz (a .same), a .sound)
+
+      outward : not (isOpen 2 r) ≡ false
+      outward = rw (a .outward)
+
+  -- 0 exactly when no row applies
+  pub read-when : (readRefusalOf ni nz r ≡ 0) ↔ Readable ni nz r
+  unfolding readRefusalOf
+  read-when = (λ e. readable (lowest-none 1 rows .0 e), λ a. lowest-none 1 rows .1 (read-clear a))

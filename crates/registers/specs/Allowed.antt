@@ -4,11 +4,11 @@ use mathlib.Core.Bool.{Bool, true, false, cond, not, _&&_}
 use lib.Dec.{leb, ltb, eqb}
 use lib.Bits.{bitAnd}
 use Rattle.registers.specs.declared.word.Word.{Word}
-use Rattle.registers.specs.declared.word.Word.the-variants.{Init, Aux, Parm, At, Reserved, Unmodelled, Unknown}
+use Rattle.registers.specs.declared.word.Word.the-variants.{Init, Aux, Parm, At, Img, Ptrn, Reserved, Unmodelled, Unknown}
 use Rattle.registers.specs.declared.word.Coordinate.{Coordinate}
 use Rattle.registers.specs.declared.word.Coordinate.the-variants.{I, Z, Y, X, T1x, T2x, Lx, Px}
 use Rattle.registers.specs.declared.subcommand.Subcommand.{Subcommand}
-use Rattle.registers.specs.declared.subcommand.Subcommand.the-variants.{Nothing, Pmode, Lmode, Zcontrol, Hcontrol, Tpattern, Window as Win, Section, Color, Lpattern, Mask, Lstatus}
+use Rattle.registers.specs.declared.subcommand.Subcommand.the-variants.{Nothing, Pmode, Lmode, Zcontrol, Hcontrol, Tpattern, Window as Win, Section, Color, Lpattern, Mask, Lstatus, Imode, Load, Save}
 use Rattle.registers.specs.declared.shape.Shape.{Shape}
 use Rattle.registers.specs.declared.shape.Shape.the-variants.{Closed, Strip, Fan, Line}
 use Rattle.registers.specs.declared.Registers.{Registers}
@@ -37,6 +37,10 @@ hcontrolBits = 0x0D8E
 abbrev pub lstatusBits : ℕ
 lstatusBits = 0x0030
 
+-- those that IMG may have: bit 0 its direction, bit 2 not used
+abbrev pub imgBits : ℕ
+imgBits = 0x0005
+
 -- INIT: chips and unit 0, page code at most 7, the line code one that is listed
 unfoldable pub initAllowed : ℕ → Bool
 initAllowed d = eqb (chipsIn d) 0 && eqb (unitIn d) 0 && leb (pageIn d) 7 && not (eqb (lineOf (codeIn d)) 0)
@@ -55,6 +59,9 @@ parameterAllowed Color k v = true
 parameterAllowed Lpattern k v = true
 parameterAllowed Mask k v = true
 parameterAllowed Lstatus k v = onlyBits lstatusBits v
+parameterAllowed Imode k v = eqb v 0
+parameterAllowed Load k v = isCoordinate v
+parameterAllowed Save k v = isCoordinate v
 
 -- I and Z are any numbers; Y, X, T1X, T2X, LX and PX take coordinates
 abbrev pub coordinateAllowed : Coordinate → ℕ → Bool
@@ -72,6 +79,8 @@ allowed r (Init d) = initAllowed d
 allowed r (Aux n) = true
 allowed r (Parm v) = parameterAllowed (awaited r) (r .parked .came) v
 allowed r (At c n) = coordinateAllowed c n
+allowed r (Img d) = onlyBits imgBits d
+allowed r (Ptrn v) = true
 allowed r Reserved = true
 allowed r Unmodelled = true
 allowed r Unknown = true
@@ -104,6 +113,8 @@ fits r (Init d) = true
 fits r (Aux n) = true
 fits r (Parm v) = true
 fits r (At c n) = coordinateFits c (shapeOf (r .figure .shape)) (r .modes .lmode)
+fits r (Img d) = true
+fits r (Ptrn v) = true
 fits r Reserved = true
 fits r Unmodelled = true
 fits r Unknown = true

@@ -9,9 +9,10 @@ use Rattle.registers.specs.declared.Modes.{Modes}
 use Rattle.registers.specs.declared.Window.{Window}
 use Rattle.registers.specs.declared.Figure.{Figure}
 use Rattle.registers.specs.declared.Parked.{Parked}
+use Rattle.registers.specs.declared.Region.{Region}
 use Rattle.registers.specs.declared.Registers.{Registers}
 use Rattle.registers.specs.declared.subcommand.Subcommand.{Subcommand}
-use Rattle.registers.specs.declared.subcommand.Subcommand.the-variants.{Nothing, Pmode, Lmode, Zcontrol, Hcontrol, Tpattern, Window as Win, Section, Color, Lpattern, Mask, Lstatus}
+use Rattle.registers.specs.declared.subcommand.Subcommand.the-variants.{Nothing, Pmode, Lmode, Zcontrol, Hcontrol, Tpattern, Window as Win, Section, Color, Lpattern, Mask, Lstatus, Imode, Load, Save}
 use Rattle.registers.specs.Subcommand.{subcommandOf, wants}
 use Rattle.registers.specs.Next.{value}
 use Rattle.registers.specs.Allowed.{isCoordinate, isBorder, onlyBits, zcontrolBits, hcontrolBits, lstatusBits}
@@ -33,27 +34,38 @@ vertexFits v = isCoordinate (v .x) && isCoordinate (v .y)
 unfoldable pub figureFits : Figure → Bool
 figureFits f = leb (f .shape) 3 && leb (f .pair) 1 && vertexFits (f .first) && vertexFits (f .second) && leb (f .steps) 31 && leb (f .dashed) 1
 
--- borders that are parked while WINDOW is awaited
-unfoldable pub valuesFit : Subcommand → List ℕ → Bool
-valuesFit Nothing p = true
-valuesFit Pmode p = true
-valuesFit Lmode p = true
-valuesFit Zcontrol p = true
-valuesFit Hcontrol p = true
-valuesFit Tpattern p = true
-valuesFit Win p = isBorder (value p 0) && isBorder (value p 1) && isBorder (value p 2) && isBorder (value p 3)
-valuesFit Section p = true
-valuesFit Color p = true
-valuesFit Lpattern p = true
-valuesFit Mask p = true
-valuesFit Lstatus p = true
+-- a value that is parked while a subcommand is awaited: WINDOW has borders, IMG coordinates
+abbrev pub valueFits : Subcommand → ℕ → Bool
+valueFits Nothing v = true
+valueFits Pmode v = true
+valueFits Lmode v = true
+valueFits Zcontrol v = true
+valueFits Hcontrol v = true
+valueFits Tpattern v = true
+valueFits Win v = isBorder v
+valueFits Section v = true
+valueFits Color v = true
+valueFits Lpattern v = true
+valueFits Mask v = true
+valueFits Lstatus v = true
+valueFits Imode v = true
+valueFits Load v = isCoordinate v
+valueFits Save v = isCoordinate v
 
--- a subcommand that takes parameters is awaited, or 13 for none; fewer have come than it takes
+-- the first four of them; a fifth is only judged
+unfoldable pub valuesFit : Subcommand → List ℕ → Bool
+valuesFit s p = valueFits s (value p 0) && valueFits s (value p 1) && valueFits s (value p 2) && valueFits s (value p 3)
+
+-- a number that takes parameters is awaited, or 13 for none; fewer have come than it takes
 unfoldable pub parkedFits : Parked → Bool
 parkedFits p =
     (eqb (p .subcommand) 13 || ltb 0 (wants (subcommandOf (p .subcommand))))
     && leb (p .came) (wants (subcommandOf (p .subcommand)) - 1)
     && valuesFit (subcommandOf (p .subcommand)) (p .values)
+
+-- the region's way is 0, 1 or 2, and it has coordinates
+unfoldable pub regionFits : Region → Bool
+regionFits g = leb (g .way) 2 && isCoordinate (g .x0) && isCoordinate (g .x1) && isCoordinate (g .y1) && isCoordinate (g .x) && isCoordinate (g .y)
 
 unfoldable pub inBounds : Registers → Bool
 inBounds r =
@@ -64,3 +76,4 @@ inBounds r =
     && isCoordinate (r .latch .y)
     && figureFits (r .figure)
     && parkedFits (r .parked)
+    && regionFits (r .region)

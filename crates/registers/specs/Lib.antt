@@ -2,6 +2,7 @@ pub mod Word
 pub mod Lines
 pub mod Subcommand
 pub mod Record
+pub mod Region
 pub mod Figure
 pub mod Next
 pub mod Allowed

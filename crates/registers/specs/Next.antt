@@ -1,21 +1,22 @@
 -- The record after an accepted word, and the figure that the word completes (document 01, "Registers" and "Figures").
-use Prim.Native.Nat.{ℕ, _+_}
-use mathlib.Core.Bool.{cond}
+use Prim.Native.Nat.{ℕ, _+_, _%_}
+use mathlib.Core.Bool.{Bool, cond}
 use mathlib.Core.List.{List}
 use lib.Dec.{ltb}
 use lib.ListN.{getD, set}
 use Rattle.picture.specs.declared.Pen.{Pen}
 use Rattle.registers.specs.declared.word.Word.{Word}
-use Rattle.registers.specs.declared.word.Word.the-variants.{Init, Aux, Parm, At, Reserved, Unmodelled, Unknown}
+use Rattle.registers.specs.declared.word.Word.the-variants.{Init, Aux, Parm, At, Img, Ptrn, Reserved, Unmodelled, Unknown}
 use Rattle.registers.specs.declared.word.Coordinate.{Coordinate}
 use Rattle.registers.specs.declared.word.Coordinate.the-variants.{I, Z, Y, X, T1x, T2x, Lx, Px}
 use Rattle.registers.specs.declared.subcommand.Subcommand.{Subcommand}
-use Rattle.registers.specs.declared.subcommand.Subcommand.the-variants.{Nothing, Pmode, Lmode, Zcontrol, Hcontrol, Tpattern, Window as Win, Section, Color, Lpattern, Mask, Lstatus}
+use Rattle.registers.specs.declared.subcommand.Subcommand.the-variants.{Nothing, Pmode, Lmode, Zcontrol, Hcontrol, Tpattern, Window as Win, Section, Color, Lpattern, Mask, Lstatus, Imode, Load, Save}
 use Rattle.registers.specs.declared.Parked.{Parked}
 use Rattle.registers.specs.declared.Registers.{Registers}
 use Rattle.registers.specs.declared.shape.Completed.{Completed}
 use Rattle.registers.specs.declared.shape.Completed.the-variants.{Nothing as None}
-use Rattle.registers.specs.Record.{isOn, depthBit, iBit, zBit, awaiting, nothingAwaited, opened, withPmode, withLmode, withZcontrol, withHcontrol, withLstatus, withTransparency, withPlanes, withSection, latch, window, dash, withModes, withWindow, withDash, withLatch, withFigure, withParked, initOf}
+use Rattle.registers.specs.Record.{isOn, depthBit, iBit, zBit, pictureBit, awaiting, nothingAwaited, opened, regionOf, withPmode, withLmode, withZcontrol, withHcontrol, withLstatus, withTransparency, withPlanes, withSection, latch, window, dash, withModes, withWindow, withDash, withLatch, withFigure, withParked, withRegion, initOf}
+use Rattle.registers.specs.Region.{nextPixel}
 use Rattle.registers.specs.Subcommand.{subcommandOf, wants}
 use Rattle.registers.specs.Figure.{vertexOf, figureAfter, vertexCompletes}
 
@@ -39,6 +40,9 @@ effectOf r Color p = withDash r (dash (value p 0) (value p 1) (r .dash .high) (r
 effectOf r Lpattern p = withDash r (dash (r .dash .foreground) (r .dash .background) (value p 0) (value p 1))
 effectOf r Mask p = withModes r (withPlanes (r .modes) (value p 0))
 effectOf r Lstatus p = withModes r (withLstatus (r .modes) (value p 0))
+effectOf r Imode p = r
+effectOf r Load p = withRegion r (regionOf 1 (value p 0) (value p 1) (value p 2) (value p 3))
+effectOf r Save p = withRegion r (regionOf 2 (value p 0) (value p 1) (value p 2) (value p 3))
 
 -- the subcommand whose parameters are awaited
 abbrev pub awaited : Registers → Subcommand
@@ -90,6 +94,20 @@ coordinateCompletes r T2x n = None
 coordinateCompletes r Lx n = None
 coordinateCompletes r Px n = vertexCompletes r n
 
+-- ---- pictures
+
+-- the number under which IMG's parameters are awaited: by bit 0 of its data to memory, or from memory
+abbrev pub imgNumber : ℕ → ℕ
+imgNumber d = 14 + d % 2
+
+-- pictures go to and from Z, and not I
+abbrev pub isDeepPicture : Registers → Bool
+isDeepPicture r = isOn pictureBit (r .modes .hcontrol)
+
+-- a pixel was transferred
+abbrev pub transferredOf : Registers → Registers
+transferredOf r = withRegion r (nextPixel (r .region))
+
 -- ---- words
 
 -- the record after an accepted word; the last three are never accepted
@@ -98,6 +116,8 @@ after r (Init d) = initOf r d
 after r (Aux n) = withParked r (awaiting n)
 after r (Parm v) = parmOf r v
 after r (At c n) = coordinateOf r c n
+after r (Img d) = withParked r (awaiting (imgNumber d))
+after r (Ptrn v) = transferredOf r
 after r Reserved = r
 after r Unmodelled = r
 after r Unknown = r
@@ -108,6 +128,8 @@ completedBy r (Init d) = None
 completedBy r (Aux n) = None
 completedBy r (Parm v) = None
 completedBy r (At c n) = coordinateCompletes r c n
+completedBy r (Img d) = None
+completedBy r (Ptrn v) = None
 completedBy r Reserved = None
 completedBy r Unmodelled = None
 completedBy r Unknown = None

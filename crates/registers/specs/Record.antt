@@ -12,6 +12,7 @@ use Rattle.registers.specs.declared.Dash.{Dash}
 use Rattle.registers.specs.declared.Latch.{Latch}
 use Rattle.registers.specs.declared.Figure.{Figure}
 use Rattle.registers.specs.declared.Parked.{Parked}
+use Rattle.registers.specs.declared.Region.{Region}
 use Rattle.registers.specs.declared.Registers.{Registers}
 use Rattle.registers.specs.Lines.{codeIn, lineOf}
 
@@ -28,12 +29,15 @@ depthBit = 64
 abbrev pub sectionBit : ℕ
 sectionBit = 32
 
--- HCONTROL bit 2: I enable; bit 1: Z enable
+-- HCONTROL bit 2: I enable; bit 1: Z enable; bit 3: pictures go to and from Z (request [1])
 abbrev pub iBit : ℕ
 iBit = 4
 
 abbrev pub zBit : ℕ
 zBit = 2
+
+abbrev pub pictureBit : ℕ
+pictureBit = 8
 
 -- LSTATUS bit 5: INV; bit 4: END
 abbrev pub invBit : ℕ
@@ -62,6 +66,14 @@ opened shape v = record { shape = shape; pair = 0; first = v; second = noVertex;
 -- no figure is open, and no vertex kept
 abbrev pub noFigure : Figure
 noFigure = opened 0 noVertex
+
+-- a region from its first corner to its second; the first pixel is at the first corner
+abbrev pub regionOf : ℕ → ℕ → ℕ → ℕ → ℕ → Region
+regionOf way x0 y0 x1 y1 = record { way = way; x0 = x0; x1 = x1; y1 = y1; x = x0; y = y0 }
+
+-- no region is open
+abbrev pub noRegion : Region
+noRegion = regionOf 0 0 0 0 0
 
 abbrev pub frameOf : ℕ → Frame
 frameOf line = record { line = line }
@@ -104,22 +116,25 @@ dash foreground background high low = record { foreground = foreground; backgrou
 -- ---- the record with one part replaced
 
 abbrev pub withModes : Registers → Modes → Registers
-withModes r m = record { started = r .started; frame = r .frame; modes = m; window = r .window; dash = r .dash; latch = r .latch; figure = r .figure; parked = r .parked }
+withModes r m = record { started = r .started; frame = r .frame; modes = m; window = r .window; dash = r .dash; latch = r .latch; figure = r .figure; parked = r .parked; region = r .region }
 
 abbrev pub withWindow : Registers → Window → Registers
-withWindow r w = record { started = r .started; frame = r .frame; modes = r .modes; window = w; dash = r .dash; latch = r .latch; figure = r .figure; parked = r .parked }
+withWindow r w = record { started = r .started; frame = r .frame; modes = r .modes; window = w; dash = r .dash; latch = r .latch; figure = r .figure; parked = r .parked; region = r .region }
 
 abbrev pub withDash : Registers → Dash → Registers
-withDash r d = record { started = r .started; frame = r .frame; modes = r .modes; window = r .window; dash = d; latch = r .latch; figure = r .figure; parked = r .parked }
+withDash r d = record { started = r .started; frame = r .frame; modes = r .modes; window = r .window; dash = d; latch = r .latch; figure = r .figure; parked = r .parked; region = r .region }
 
 abbrev pub withLatch : Registers → Latch → Registers
-withLatch r l = record { started = r .started; frame = r .frame; modes = r .modes; window = r .window; dash = r .dash; latch = l; figure = r .figure; parked = r .parked }
+withLatch r l = record { started = r .started; frame = r .frame; modes = r .modes; window = r .window; dash = r .dash; latch = l; figure = r .figure; parked = r .parked; region = r .region }
 
 abbrev pub withFigure : Registers → Figure → Registers
-withFigure r f = record { started = r .started; frame = r .frame; modes = r .modes; window = r .window; dash = r .dash; latch = r .latch; figure = f; parked = r .parked }
+withFigure r f = record { started = r .started; frame = r .frame; modes = r .modes; window = r .window; dash = r .dash; latch = r .latch; figure = f; parked = r .parked; region = r .region }
 
 abbrev pub withParked : Registers → Parked → Registers
-withParked r p = record { started = r .started; frame = r .frame; modes = r .modes; window = r .window; dash = r .dash; latch = r .latch; figure = r .figure; parked = p }
+withParked r p = record { started = r .started; frame = r .frame; modes = r .modes; window = r .window; dash = r .dash; latch = r .latch; figure = r .figure; parked = p; region = r .region }
+
+abbrev pub withRegion : Registers → Region → Registers
+withRegion r g = record { started = r .started; frame = r .frame; modes = r .modes; window = r .window; dash = r .dash; latch = r .latch; figure = r .figure; parked = r .parked; region = g }
 
 -- ---- INIT and reset
 
@@ -128,7 +143,8 @@ withParked r p = record { started = r .started; frame = r .frame; modes = r .mod
 abbrev pub firstModes : Modes
 firstModes = record { pmode = 0; lmode = 1; zcontrol = 0; hcontrol = 0; lstatus = invBit; transparency = 65535; planes = 65535; section = 65535 }
 
--- window from 0 to 8192 both ways; foreground 1, background 0; line pattern all ones; I, Z, Y registers 0; no figure open, nothing awaited
+-- window from 0 to 8192 both ways; foreground 1, background 0; line pattern all ones; I, Z, Y registers 0; no figure open, nothing awaited, no
+-- region
 unfoldable pub settings : ℕ → Frame → Registers
 settings started frame =
     record {
@@ -140,6 +156,7 @@ settings started frame =
       latch = latch 0 0 0;
       figure = noFigure;
       parked = nothingAwaited;
+      region = noRegion;
     }
 
 -- after reset: the same with line length 256, and no INIT accepted yet

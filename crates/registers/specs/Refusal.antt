@@ -1,16 +1,17 @@
--- The numbers 1 to 10 that refuse a word, each given exactly when document 01's table says ("Numbers that come back"), and the record
--- after a word.
+-- The numbers 1 to 10 and 14 that refuse a word, each given exactly when document 01's table ("Numbers that come back"), as request [1]
+-- changes it, says; those that refuse the read call; and the record after a word.
 use Prim.Native.Nat.{ℕ, suc}
 use mathlib.Core.Bool.{Bool, true, false, cond, not, _&&_, _||_}
 use mathlib.Core.List.{List, [], _∷_}
 use lib.Dec.{ltb, eqb}
 use Rattle.registers.specs.declared.word.Word.{Word}
-use Rattle.registers.specs.declared.word.Word.the-variants.{Init, Aux, Parm, At, Reserved, Unmodelled, Unknown}
+use Rattle.registers.specs.declared.word.Word.the-variants.{Init, Aux, Parm, At, Img, Ptrn, Reserved, Unmodelled, Unknown}
 use Rattle.registers.specs.declared.Registers.{Registers}
 use Rattle.registers.specs.Subcommand.{wants}
 use Rattle.registers.specs.Next.{awaited, after}
 use Rattle.registers.specs.Allowed.{allowed, fits}
 use Rattle.registers.specs.Bounds.{inBounds}
+use Rattle.registers.specs.Region.{isOpen}
 
 -- ---- what is asked of a word and of the record
 
@@ -19,6 +20,8 @@ isInit (Init d) = true
 isInit (Aux n) = false
 isInit (Parm v) = false
 isInit (At c n) = false
+isInit (Img d) = false
+isInit (Ptrn v) = false
 isInit Reserved = false
 isInit Unmodelled = false
 isInit Unknown = false
@@ -28,6 +31,8 @@ isParm (Init d) = false
 isParm (Aux n) = false
 isParm (Parm v) = true
 isParm (At c n) = false
+isParm (Img d) = false
+isParm (Ptrn v) = false
 isParm Reserved = false
 isParm Unmodelled = false
 isParm Unknown = false
@@ -38,6 +43,8 @@ isUnknown (Init d) = false
 isUnknown (Aux n) = false
 isUnknown (Parm v) = false
 isUnknown (At c n) = false
+isUnknown (Img d) = false
+isUnknown (Ptrn v) = false
 isUnknown Reserved = false
 isUnknown Unmodelled = false
 isUnknown Unknown = true
@@ -48,16 +55,20 @@ isReserved (Init d) = false
 isReserved (Aux n) = false
 isReserved (Parm v) = false
 isReserved (At c n) = false
+isReserved (Img d) = false
+isReserved (Ptrn v) = false
 isReserved Reserved = true
 isReserved Unmodelled = false
 isReserved Unknown = false
 
--- command 0, 9 or A hex; AUX 2 or 11
+-- command A hex; AUX 11
 abbrev pub isUnmodelled : Word → Bool
 isUnmodelled (Init d) = false
-isUnmodelled (Aux n) = eqb n 2 || eqb n 11
+isUnmodelled (Aux n) = eqb n 11
 isUnmodelled (Parm v) = false
 isUnmodelled (At c n) = false
+isUnmodelled (Img d) = false
+isUnmodelled (Ptrn v) = false
 isUnmodelled Reserved = false
 isUnmodelled Unmodelled = true
 isUnmodelled Unknown = false
@@ -68,9 +79,23 @@ isAbove (Init d) = false
 isAbove (Aux n) = ltb 12 n
 isAbove (Parm v) = false
 isAbove (At c n) = false
+isAbove (Img d) = false
+isAbove (Ptrn v) = false
 isAbove Reserved = false
 isAbove Unmodelled = false
 isAbove Unknown = false
+
+-- PTRN
+abbrev pub isPtrn : Word → Bool
+isPtrn (Init d) = false
+isPtrn (Aux n) = false
+isPtrn (Parm v) = false
+isPtrn (At c n) = false
+isPtrn (Img d) = false
+isPtrn (Ptrn v) = true
+isPtrn Reserved = false
+isPtrn Unmodelled = false
+isPtrn Unknown = false
 
 -- before the first accepted INIT
 abbrev pub isCold : Registers → Bool
@@ -89,12 +114,14 @@ table unfit r w =
     ∷ unfit  -- 2: the memories differ in length, or the record breaks a bound
     ∷ (not (isInit w) && isCold r)  -- 3: any word but INIT before the first accepted INIT
     ∷ isReserved w  -- 4: command 7 or C hex
-    ∷ isUnmodelled w  -- 5: command 0, 9 or A hex; AUX 2 or 11
+    ∷ isUnmodelled w  -- 5: command A hex; AUX 11
     ∷ (not (isParm w || isInit w) && awaits r)  -- 6: a parameter is awaited and the word is neither PARM nor INIT
     ∷ (isParm w && not (awaits r))  -- 7: PARM with none awaited
     ∷ isAbove w  -- 8: AUX above 12
     ∷ not (allowed r w)  -- 9: a value not allowed
     ∷ not (fits r w)  -- 10: X or PX that fits no open figure
+    ∷ false ∷ false ∷ false  -- 11, 12 and 13 refuse no word
+    ∷ (isPtrn w && not (isOpen 1 r))  -- 14: PTRN with no region open to memory
     ∷ []
 
 -- the lowest number that applies, counted from n on; 0 where none does
@@ -113,3 +140,20 @@ refusalOf ni nz r w = lowest 1 (table (isUnfit ni nz r) r w)
 -- the record after a word: unchanged if it is refused
 unfoldable pub next : ℕ → ℕ → Registers → Word → Registers
 next ni nz r w = cond (eqb (refusalOf ni nz r w) 0) (after r w) r
+
+-- ---- the read call
+
+-- the same rows from 2 on, as they concern the read call
+abbrev pub readTable : Bool → Registers → List Bool
+readTable unfit r =
+    unfit  -- 2: the memories differ in length, or the record breaks a bound
+    ∷ isCold r  -- 3: before the first accepted INIT
+    ∷ false ∷ false
+    ∷ awaits r  -- 6: a parameter is awaited
+    ∷ false ∷ false ∷ false ∷ false ∷ false ∷ false ∷ false
+    ∷ not (isOpen 2 r)  -- 14: no region is open from memory
+    ∷ []
+
+-- the number that the read call gets over memories of two lengths: the lowest that applies, 0 for none
+unfoldable pub readRefusalOf : ℕ → ℕ → Registers → ℕ
+readRefusalOf ni nz r = lowest 2 (readTable (isUnfit ni nz r) r)

@@ -13,6 +13,9 @@ pub(crate) const HCONTROL_BITS: u16 = 0x0D8E;
 
 pub(crate) const LSTATUS_BITS: u16 = 0x0030;
 
+// The bits that IMG may have: 0 its direction, 2 not used.
+pub(crate) const IMG_BITS: u16 = 0x0005;
+
 // INIT's data: chips and unit 0, a page code up to 7, a line code that is listed.
 pub(crate) fn is_init_allowed(data: u16) -> bool
     ensures { λ r. ⌜ r ≡ initAllowed «data» ⌝ }
@@ -37,6 +40,9 @@ pub(crate) fn is_parameter_allowed(s: Subcommand, k: u16, v: u16) -> bool
         Subcommand::Lpattern => true,
         Subcommand::Mask => true,
         Subcommand::Lstatus => v & !LSTATUS_BITS == 0,
+        Subcommand::Imode => v == 0,
+        Subcommand::Load => v <= 8191,
+        Subcommand::Save => v <= 8191,
     }
 }
 

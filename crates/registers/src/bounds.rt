@@ -1,11 +1,12 @@
 // The bounds on the fields of the record.
 ghost use mathlib.Core.Path.{_≡_};
 ghost use Prim.Native.Nat.{_-_};
-ghost use Rattle.registers.specs.Bounds.{frameFits, modesFit, windowFits, vertexFits, figureFits, valuesFit, parkedFits, inBounds};
+ghost use Rattle.registers.specs.Bounds.{frameFits, modesFit, windowFits, vertexFits, figureFits, valueFits, valuesFit, parkedFits, regionFits, inBounds};
 use crate::Figure;
 use crate::Modes;
 use crate::NOTHING;
 use crate::Parked;
+use crate::Region;
 use crate::Registers;
 use crate::Window;
 use crate::allow::HCONTROL_BITS;
@@ -58,9 +59,9 @@ fn figure_fits(f: Figure) -> bool
         & (f.dashed <= 1)
 }
 
-// Borders that are parked while WINDOW is awaited.
-fn values_fit(s: Subcommand, p: [u16; 5]) -> bool
-    ensures { λ r. ⌜ r ≡ valuesFit s p ⌝ }
+// A value that is parked while a subcommand is awaited: WINDOW has borders, IMG coordinates.
+fn value_fits(s: Subcommand, v: u16) -> bool
+    ensures { λ r. ⌜ r ≡ valueFits s v ⌝ }
 {
     match s {
         Subcommand::Nothing => true,
@@ -69,17 +70,31 @@ fn values_fit(s: Subcommand, p: [u16; 5]) -> bool
         Subcommand::Zcontrol => true,
         Subcommand::Hcontrol => true,
         Subcommand::Tpattern => true,
-        Subcommand::Window => (p[0] <= 8192) & (p[1] <= 8192) & (p[2] <= 8192) & (p[3] <= 8192),
+        Subcommand::Window => v <= 8192,
         Subcommand::Section => true,
         Subcommand::Color => true,
         Subcommand::Lpattern => true,
         Subcommand::Mask => true,
         Subcommand::Lstatus => true,
+        Subcommand::Imode => true,
+        Subcommand::Load => v <= 8191,
+        Subcommand::Save => v <= 8191,
     }
 }
 
+// The first four of them; a fifth is only judged.
+fn values_fit(s: Subcommand, p: [u16; 5]) -> bool
+    ensures { λ r. ⌜ r ≡ valuesFit s p ⌝ }
+{
+    let first = value_fits(s, p[0]);
+    let second = value_fits(s, p[1]);
+    let third = value_fits(s, p[2]);
+    let fourth = value_fits(s, p[3]);
+    first & second & third & fourth
+}
+
 // One less, and 0 for 0.
-fn less_one(n: u16) -> u16
+pub(crate) fn less_one(n: u16) -> u16
     ensures { λ r. ⌜ r ≡ n - 1 ⌝ }
 {
     if n == 0 { 0 } else { n - 1 }
@@ -95,6 +110,12 @@ fn parked_fits(p: Parked) -> bool
     ((p.subcommand == NOTHING) | (0 < takes)) & (p.came <= most) & values_fit(s, values)
 }
 
+fn region_fits(g: Region) -> bool
+    ensures { λ r. ⌜ r ≡ regionFits g ⌝ }
+{
+    (g.way <= 2) & (g.x0 <= 8191) & (g.x1 <= 8191) & (g.y1 <= 8191) & (g.x <= 8191) & (g.y <= 8191)
+}
+
 impl Registers {
     // The record breaks no bound.
     pub fn is_sound(self) -> bool
@@ -105,6 +126,7 @@ impl Registers {
         let window = self.window;
         let figure = self.figure;
         let parked = self.parked;
+        let region = self.region;
         (self.started <= 1)
             & frame_fits(frame)
             & modes_fit(modes)
@@ -112,5 +134,6 @@ impl Registers {
             & (self.latch.y <= 8191)
             & figure_fits(figure)
             & parked_fits(parked)
+            & region_fits(region)
     }
 }

@@ -5,6 +5,7 @@ mod bounds;
 mod lines;
 mod next;
 mod refuse;
+mod regions;
 pub mod shape;
 pub mod subcommand;
 pub mod word;
@@ -12,8 +13,8 @@ pub mod word;
 use picture::Frame;
 use picture::Vertex;
 
-// Bits of the words that are kept as sent: ZCONTROL bit 6 depth test, bit 5 sectioning; HCONTROL bit 2 I enable, bit 1 Z enable; LSTATUS bit
-// 5 INV, bit 4 END.
+// Bits of the words that are kept as sent: ZCONTROL bit 6 depth test, bit 5 sectioning; HCONTROL bit 2 I enable, bit 1 Z enable, bit 3
+// pictures go to and from Z; LSTATUS bit 5 INV, bit 4 END.
 pub(crate) const DEPTH: u16 = 64;
 
 pub const SECTIONING: u16 = 32;
@@ -22,12 +23,16 @@ pub(crate) const I_ENABLE: u16 = 4;
 
 pub(crate) const Z_ENABLE: u16 = 2;
 
+pub(crate) const Z_PICTURE: u16 = 8;
+
 pub(crate) const INV: u16 = 32;
 
 pub(crate) const END: u16 = 16;
 
-// In place of an AUX number: nothing is awaited.
+// In place of an AUX number: nothing is awaited; IMG's parameters are, for a region to memory; with one more, from memory.
 pub(crate) const NOTHING: u16 = 13;
+
+pub(crate) const LOAD: u16 = 14;
 
 // The words of PMODE, LMODE, ZCONTROL, HCONTROL, LSTATUS, TPATTERN, MASK and SECTION, as they were sent. LX rewrites LSTATUS.
 #[repr(C)]
@@ -80,12 +85,24 @@ pub struct Figure {
     pub dashed: u16,
 }
 
-// The AUX number whose parameters are awaited, 13 for none; how many have come, and those.
+// The AUX number whose parameters are awaited, 13 for none, 14 and 15 for IMG's; how many have come, and those.
 #[repr(C)]
 pub struct Parked {
     pub subcommand: u16,
     pub came: u16,
     pub values: [u16; 5],
+}
+
+// The region of a picture: 0 for none, 1 to memory, 2 from memory; the column of its first corner, its second corner, and the pixel that the
+// next transfer is of.
+#[repr(C)]
+pub struct Region {
+    pub way: u16,
+    pub x0: u16,
+    pub x1: u16,
+    pub y1: u16,
+    pub x: u16,
+    pub y: u16,
 }
 
 // All registers. Every field is an unsigned number, so that any bits are a record; docs/REGISTERS.md lists the bounds. `started` is 1 once
@@ -100,4 +117,5 @@ pub struct Registers {
     pub latch: Latch,
     pub figure: Figure,
     pub parked: Parked,
+    pub region: Region,
 }

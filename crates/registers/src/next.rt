@@ -1,22 +1,26 @@
 // The record after a word, one method for each family of commands, and the figure that a word completes. Whether a word is refused is
 // asked elsewhere (refuse.rt).
 ghost use mathlib.Core.Path.{_≡_};
-ghost use Rattle.registers.specs.Record.{awaiting, withParked, withFigure, settings, resetOf, initOf};
+ghost use Rattle.registers.specs.Record.{awaiting, withParked, withFigure, withRegion, settings, resetOf, initOf};
 ghost use Rattle.registers.specs.Figure.{vertexOf, figureAfter, vertexCompletes};
-ghost use Rattle.registers.specs.Next.{effectOf, joinedOf, parmOf, openOf, lineOpenOf, coordinateOf, coordinateCompletes, penOf};
+ghost use Rattle.registers.specs.Next.{effectOf, joinedOf, parmOf, openOf, lineOpenOf, coordinateOf, coordinateCompletes, penOf, imgNumber, isDeepPicture};
+ghost use Rattle.registers.specs.Region.{nextPixel};
 use crate::DEPTH;
 use crate::Dash;
 use crate::END;
 use crate::Figure;
 use crate::I_ENABLE;
 use crate::INV;
+use crate::LOAD;
 use crate::Latch;
 use crate::Modes;
 use crate::NOTHING;
 use crate::Parked;
+use crate::Region;
 use crate::Registers;
 use crate::Window;
 use crate::Z_ENABLE;
+use crate::Z_PICTURE;
 use crate::lines::line_length;
 use crate::shape::Completed;
 use crate::subcommand::Subcommand;
@@ -59,6 +63,7 @@ impl Registers {
     {
         let figure = Figure::none();
         let parked = Parked::awaited(NOTHING);
+        let region = Region::none();
         Registers {
             started: started,
             frame: frame,
@@ -87,6 +92,7 @@ impl Registers {
             latch: Latch { i: 0, z: 0, y: 0 },
             figure: figure,
             parked: parked,
+            region: region,
         }
     }
 
@@ -116,12 +122,38 @@ impl Registers {
         self
     }
 
+    // IMG: the parameters of a region to memory or from memory are awaited.
+    pub fn img(self, data: u16) -> Self
+        ensures { λ r. ⌜ r ≡ withParked self (awaiting (imgNumber «data»)) ⌝ }
+    {
+        self.aux(LOAD + data % 2)
+    }
+
+    // PTRN and the read call: the region after a transfer.
+    pub fn transferred(mut self) -> Self
+        ensures { λ r. ⌜ r ≡ withRegion self (nextPixel (self .region)) ⌝ }
+    {
+        let g = self.region;
+        let h = g.onward();
+        self.region = h;
+        self
+    }
+
+    // Pictures go to and from Z.
+    pub fn is_deep_picture(self) -> bool
+        ensures { λ r. ⌜ r ≡ isDeepPicture self ⌝ }
+    {
+        self.modes.hcontrol & Z_PICTURE != 0
+    }
+
     // What the parameters of a subcommand do.
     fn effect(mut self, s: Subcommand, p: [u16; 5]) -> Self
         ensures { λ r. ⌜ r ≡ effectOf self s p ⌝ }
     {
         let first = p[0];
         let second = p[1];
+        let third = p[2];
+        let fourth = p[3];
         match s {
             Subcommand::Nothing => self,
             Subcommand::Pmode => {
@@ -148,8 +180,8 @@ impl Registers {
                 let w = Window {
                     left: first,
                     top: second,
-                    right: p[2],
-                    bottom: p[3],
+                    right: third,
+                    bottom: fourth,
                 };
                 self.window = w;
                 self
@@ -174,6 +206,17 @@ impl Registers {
             }
             Subcommand::Lstatus => {
                 self.modes.lstatus = first;
+                self
+            }
+            Subcommand::Imode => self,
+            Subcommand::Load => {
+                let g = Region::open(1, first, second, third, fourth);
+                self.region = g;
+                self
+            }
+            Subcommand::Save => {
+                let g = Region::open(2, first, second, third, fourth);
+                self.region = g;
                 self
             }
         }

@@ -4,8 +4,9 @@ ghost use mathlib.Core.Bool.{false, not};
 ghost use mathlib.Core.List.{[], _∷_};
 ghost use lib.Dec.{ltb};
 ghost use Rattle.registers.specs.declared.word.Word.the-variants.{Aux};
-ghost use Rattle.registers.specs.Refusal.{isUnknown, isUnmodelled, awaits, table, lowest, refusalOf};
+ghost use Rattle.registers.specs.Refusal.{isUnknown, isUnmodelled, awaits, table, lowest, refusalOf, readRefusalOf};
 use crate::Registers;
+use crate::allow::IMG_BITS;
 use crate::allow::coordinate_fits;
 use crate::allow::is_coordinate_allowed;
 use crate::allow::is_init_allowed;
@@ -24,6 +25,8 @@ fn is_unknown(word: Word) -> bool
         Word::Aux(_) => false,
         Word::Parm(_) => false,
         Word::At(_, _) => false,
+        Word::Img(_) => false,
+        Word::Ptrn(_) => false,
         Word::Reserved => false,
         Word::Unmodelled => false,
         Word::Unknown => true,
@@ -44,7 +47,7 @@ fn aux_number(cold: bool, waits: bool, number: u16) -> u64
     if cold {
         return 3;
     }
-    if (number == 2) | (number == 11) {
+    if number == 11 {
         return 5;
     }
     if waits {
@@ -91,6 +94,22 @@ fn coordinate_number(cold: bool, waits: bool, allowed: bool, fits: bool) -> u64
     0
 }
 
+// PTRN and the read call can get 3, 6 and 14.
+fn transfer_number(cold: bool, waits: bool, ready: bool) -> u64
+    ensures { λ r. ⌜ r ≡ lowest 3 (cold ∷ false ∷ false ∷ waits ∷ false ∷ false ∷ false ∷ false ∷ false ∷ false ∷ false ∷ not ready ∷ []) ⌝ }
+{
+    if cold {
+        return 3;
+    }
+    if waits {
+        return 6;
+    }
+    if !ready {
+        return 14;
+    }
+    0
+}
+
 impl Registers {
     // A parameter is awaited.
     fn is_awaiting(self) -> bool
@@ -111,6 +130,7 @@ impl Registers {
         let came = self.parked.came;
         let shape = shape_of(self.figure.shape);
         let lmode = self.modes.lmode;
+        let way = self.region.way;
         match word {
             Word::Init(data) => init_number(is_init_allowed(data)),
             Word::Aux(n) => aux_number(cold, waits, n),
@@ -125,6 +145,8 @@ impl Registers {
                 is_coordinate_allowed(c, n),
                 coordinate_fits(c, shape, lmode),
             ),
+            Word::Img(data) => coordinate_number(cold, waits, data & !IMG_BITS == 0, true),
+            Word::Ptrn(_) => transfer_number(cold, waits, way == 1),
             Word::Reserved => if cold { 3 } else { 4 },
             Word::Unmodelled => if cold { 3 } else { 5 },
             Word::Unknown => 1,
@@ -139,5 +161,17 @@ impl Registers {
             return if is_unknown(word) { 1 } else { 2 };
         }
         self.judged(word)
+    }
+
+    // The number that refuses the read call over memories of two lengths, the lowest that applies; 0 for none.
+    pub fn read_refusal(self, ni: usize, nz: usize) -> u64
+        ensures { λ r. ⌜ r ≡ readRefusalOf ni nz self ⌝ }
+    {
+        if !(ni == nz) | !self.is_sound() {
+            return 2;
+        }
+        let cold = self.started == 0;
+        let way = self.region.way;
+        transfer_number(cold, self.is_awaiting(), way == 2)
     }
 }

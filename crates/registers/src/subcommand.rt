@@ -1,4 +1,4 @@
-// The subcommands of AUX.
+// The subcommands of AUX, and IMG to memory and from memory as if they were two more.
 ghost use mathlib.Core.Path.{_≡_};
 ghost use Rattle.registers.specs.Subcommand.{subcommandOf, wants};
 
@@ -16,16 +16,19 @@ pub enum Subcommand {
     Lpattern,
     Mask,
     Lstatus,
+    Imode,
+    Load,
+    Save,
 }
 
-// The subcommand of an AUX number; nothing for one that AUX refuses, and for 13.
+// The subcommand of an AUX number; nothing for one that is not modelled, and for 13.
 pub(crate) fn subcommand_of(number: u16) -> Subcommand
     ensures { λ r. ⌜ r ≡ subcommandOf number ⌝ }
 {
     match number {
         0 => Subcommand::Pmode,
         1 => Subcommand::Lmode,
-        2 => Subcommand::Nothing,
+        2 => Subcommand::Imode,
         3 => Subcommand::Zcontrol,
         4 => Subcommand::Hcontrol,
         5 => Subcommand::Tpattern,
@@ -36,6 +39,9 @@ pub(crate) fn subcommand_of(number: u16) -> Subcommand
         10 => Subcommand::Mask,
         11 => Subcommand::Nothing,
         12 => Subcommand::Lstatus,
+        13 => Subcommand::Nothing,
+        14 => Subcommand::Load,
+        15 => Subcommand::Save,
         _ => Subcommand::Nothing,
     }
 }
@@ -57,5 +63,8 @@ pub(crate) fn wanted(s: Subcommand) -> u16
         Subcommand::Lpattern => 2,
         Subcommand::Mask => 1,
         Subcommand::Lstatus => 1,
+        Subcommand::Imode => 1,
+        Subcommand::Load => 4,
+        Subcommand::Save => 4,
     }
 }

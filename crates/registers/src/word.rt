@@ -14,12 +14,14 @@ pub enum Coordinate {
     Px,
 }
 
-// A decoded word. Reserved are 7 and C hex; the sheet has 0, 9 and A hex, and they are not modelled; above F hex no command is known.
+// A decoded word. Reserved are 7 and C hex; the sheet has A hex, and it is not modelled; above F hex no command is known.
 pub enum Word {
     Init(u16),
     Aux(u16),
     Parm(u16),
     At(Coordinate, u16),
+    Img(u16),
+    Ptrn(u16),
     Reserved,
     Unmodelled,
     Unknown,
@@ -30,7 +32,7 @@ pub fn decoded(command: u8, data: u16) -> Word
     ensures { λ r. ⌜ r ≡ decode command «data» ⌝ }
 {
     match command {
-        0 => Word::Unmodelled,
+        0 => Word::Ptrn(data),
         1 => Word::At(Coordinate::I, data),
         2 => Word::At(Coordinate::Z, data),
         3 => Word::At(Coordinate::Y, data),
@@ -39,7 +41,7 @@ pub fn decoded(command: u8, data: u16) -> Word
         6 => Word::At(Coordinate::T2x, data),
         7 => Word::Reserved,
         8 => Word::At(Coordinate::Lx, data),
-        9 => Word::Unmodelled,
+        9 => Word::Img(data),
         10 => Word::Unmodelled,
         11 => Word::At(Coordinate::Px, data),
         12 => Word::Reserved,

@@ -91,15 +91,39 @@ fn figure() {
     broken(b"bounds, dashed 2", i);
 }
 
-// What is awaited: AUX numbers that take no parameters, and as many come as they take.
+// The region.
+fn region() {
+    let mut a = ready();
+    a.region.way = 3;
+    broken(b"bounds, region's way 3", a);
+    let mut b = ready();
+    b.region.x0 = 8192;
+    broken(b"bounds, region's x0 8192", b);
+    let mut c = ready();
+    c.region.x1 = 8192;
+    broken(b"bounds, region's x1 8192", c);
+    let mut d = ready();
+    d.region.y1 = 8192;
+    broken(b"bounds, region's y1 8192", d);
+    let mut e = ready();
+    e.region.x = 8192;
+    broken(b"bounds, region's x 8192", e);
+    let mut f = ready();
+    f.region.y = 8192;
+    broken(b"bounds, region's y 8192", f);
+}
+
+// What is awaited: numbers that take no parameters, and as many come as they take.
 fn parked() {
-    awaited(b"bounds, AUX 2 awaited", 2, 0);
     awaited(b"bounds, AUX 11 awaited", 11, 0);
-    awaited(b"bounds, AUX 14 awaited", 14, 0);
+    awaited(b"bounds, number 16 awaited", 16, 0);
     awaited(b"bounds, none awaited and 1 come", 13, 1);
     awaited(b"bounds, LMODE awaited and 1 come", 1, 1);
+    awaited(b"bounds, IMODE awaited and 1 come", 2, 1);
     awaited(b"bounds, COLOR awaited and 2 come", 8, 2);
     awaited(b"bounds, WINDOW awaited and 5 come", 6, 5);
+    awaited(b"bounds, IMG to memory awaited and 4 come", 14, 4);
+    awaited(b"bounds, IMG from memory awaited and 4 come", 15, 4);
 }
 
 // A record that awaits parameters of an AUX number, of which some have come.
@@ -110,11 +134,11 @@ fn awaited(name: &[u8], subcommand: u16, came: u16) {
     broken(name, r);
 }
 
-// A record that awaits parameters of WINDOW, with these parked.
-fn borders(name: &[u8], values: [u16; 5]) {
+// A record that awaits parameters of WINDOW or IMG, with these parked.
+fn values(name: &[u8], subcommand: u16, values: [u16; 5]) {
     let mut r = ready();
     let parked = Parked {
-        subcommand: 6,
+        subcommand: subcommand,
         came: 0,
         values: values,
     };
@@ -129,8 +153,13 @@ pub(crate) fn rows() {
     window();
     figure();
     parked();
-    borders(b"bounds, parked left 8193", [8193, 0, 0, 0, 0]);
-    borders(b"bounds, parked top 8193", [0, 8193, 0, 0, 0]);
-    borders(b"bounds, parked right 8193", [0, 0, 8193, 0, 0]);
-    borders(b"bounds, parked bottom 8193", [0, 0, 0, 8193, 0]);
+    values(b"bounds, parked left 8193", 6, [8193, 0, 0, 0, 0]);
+    values(b"bounds, parked top 8193", 6, [0, 8193, 0, 0, 0]);
+    values(b"bounds, parked right 8193", 6, [0, 0, 8193, 0, 0]);
+    values(b"bounds, parked bottom 8193", 6, [0, 0, 0, 8193, 0]);
+    values(b"bounds, parked x0 8192", 14, [8192, 0, 0, 0, 0]);
+    values(b"bounds, parked y0 8192", 15, [0, 8192, 0, 0, 0]);
+    values(b"bounds, parked x1 8192", 14, [0, 0, 8192, 0, 0]);
+    values(b"bounds, parked y1 8192", 15, [0, 0, 0, 8192, 0]);
+    region();
 }

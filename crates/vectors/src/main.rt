@@ -3,6 +3,7 @@
 mod bounds;
 mod coding;
 mod print;
+mod reads;
 mod record;
 mod streams;
 mod text;
@@ -12,5 +13,6 @@ fn main() {
     streams::run_all();
     word::rows();
     bounds::rows();
+    reads::rows();
     coding::rows();
 }

@@ -12,7 +12,7 @@ pub(crate) fn ready() -> Registers {
     r
 }
 
-// The first 21 of a record's 40 numbers, in the order of docs/REGISTERS.md: what was set.
+// The first 21 of a record's 46 numbers, in the order of docs/REGISTERS.md: what was set.
 fn settings(r: Registers) -> [u16; 21] {
     let modes = r.modes;
     let window = r.window;
@@ -42,7 +42,7 @@ fn settings(r: Registers) -> [u16; 21] {
     ]
 }
 
-// The other 19: what is open, and what is awaited.
+// The next 19: what is open, and what is awaited.
 fn pending(r: Registers) -> [u16; 19] {
     let figure = r.figure;
     let first = figure.first;
@@ -71,6 +71,12 @@ fn pending(r: Registers) -> [u16; 19] {
     ]
 }
 
+// The last 6: the region.
+fn region(r: Registers) -> [u16; 6] {
+    let g = r.region;
+    [g.way, g.x0, g.x1, g.y1, g.x, g.y]
+}
+
 // Whether two lists of numbers are the same.
 fn are_same(a: &[u16], b: &[u16]) -> bool {
     if a.len() != b.len() {
@@ -86,5 +92,7 @@ fn are_same(a: &[u16], b: &[u16]) -> bool {
 
 // Whether two records are the same.
 pub(crate) fn same(r: Registers, s: Registers) -> bool {
-    are_same(&settings(r), &settings(s)) & are_same(&pending(r), &pending(s))
+    are_same(&settings(r), &settings(s))
+        & are_same(&pending(r), &pending(s))
+        & are_same(&region(r), &region(s))
 }

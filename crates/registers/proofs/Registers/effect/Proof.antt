@@ -10,6 +10,12 @@ array-read-first c = search needs
 array-read-second : tie.Need-array-read-second
 array-read-second c = search needs
 
+array-read-third : tie.Need-array-read-third
+array-read-third c = search needs
+
+array-read-fourth : tie.Need-array-read-fourth
+array-read-fourth c = search needs
+
 enum-told : tie.Need-enum-told
 enum-told c = search needs
 
@@ -31,12 +37,6 @@ enum-told-6 c = search needs
 enum-told-7 : tie.Need-enum-told-7
 enum-told-7 c = search needs
 
-array-read-t16 : tie.Need-array-read-t16
-array-read-t16 c = search needs
-
-array-read-t19 : tie.Need-array-read-t19
-array-read-t19 c = search needs
-
 enum-told-8 : tie.Need-enum-told-8
 enum-told-8 c = search needs
 
@@ -51,6 +51,21 @@ enum-told-11 c = search needs
 
 enum-told-12 : tie.Need-enum-told-12
 enum-told-12 c = search needs
+
+enum-told-13 : tie.Need-enum-told-13
+enum-told-13 c = search needs
+
+enum-told-14 : tie.Need-enum-told-14
+enum-told-14 c = search needs
+
+open-requires : tie.Need-open-requires
+open-requires c κs = search needs
+
+enum-told-15 : tie.Need-enum-told-15
+enum-told-15 c = search needs
+
+open-requires-2 : tie.Need-open-requires-2
+open-requires-2 c κs = search needs
 
 returns : tie.Need-returns
 unfolding effectOf
@@ -100,12 +115,26 @@ returns-12 : tie.Need-returns-12
 unfolding effectOf
 returns-12 c = rw (c .before .enum-told12 .given .1)
 
+returns-13 : tie.Need-returns-13
+unfolding effectOf
+returns-13 c = rw (c .enum-told13 .given .1)
+
+returns-14 : tie.Need-returns-14
+unfolding effectOf
+returns-14 c = rw (c .before .enum-told14 .given .1, c .«open» .ensures)
+
+returns-15 : tie.Need-returns-15
+unfolding effectOf
+returns-15 c = rw (c .before .enum-told15 .given .1, c .open2 .ensures)
+
 pub effect-spec : {M : Type 1} → statement M
 effect-spec =
     tie.close
     (tie.spec
     array-read-first
     array-read-second
+    array-read-third
+    array-read-fourth
     enum-told
     enum-told-2
     enum-told-3
@@ -113,13 +142,16 @@ effect-spec =
     enum-told-5
     enum-told-6
     enum-told-7
-    array-read-t16
-    array-read-t19
     enum-told-8
     enum-told-9
     enum-told-10
     enum-told-11
     enum-told-12
+    enum-told-13
+    enum-told-14
+    open-requires
+    enum-told-15
+    open-requires-2
     returns
     returns-2
     returns-3
@@ -131,4 +163,7 @@ effect-spec =
     returns-9
     returns-10
     returns-11
-    returns-12)
+    returns-12
+    returns-13
+    returns-14
+    returns-15)

@@ -19,9 +19,12 @@ figure-fits-requires c κs = search needs
 parked-fits-requires : tie.Need-parked-fits-requires
 parked-fits-requires c κs = search needs
 
+region-fits-requires : tie.Need-region-fits-requires
+region-fits-requires c κs = search needs
+
 returns : tie.Need-returns
 unfolding inBounds
-returns c = rw (c .parked-fits .ensures, c .before .figure-fits .ensures, c .before .before .before .window-fits .ensures, c .before .before .before .before .modes-fit .ensures, c .before .before .before .before .before .frame-fits .ensures)
+returns c = rw (c .region-fits .ensures, c .before .parked-fits .ensures, c .before .before .figure-fits .ensures, c .before .before .before .before .window-fits .ensures, c .before .before .before .before .before .modes-fit .ensures, c .before .before .before .before .before .before .frame-fits .ensures)
 
 pub is-sound-spec : {M : Type 1} → statement M
 is-sound-spec =
@@ -32,4 +35,5 @@ is-sound-spec =
     window-fits-requires
     figure-fits-requires
     parked-fits-requires
+    region-fits-requires
     returns)

@@ -48,14 +48,26 @@ coordinate-fits-requires c κs = search needs
 coordinate-number-requires : tie.Need-coordinate-number-requires
 coordinate-number-requires c κs = search needs
 
+enum-known-word-5 : tie.Need-enum-known-word-5
+enum-known-word-5 c = search needs
+
+coordinate-number-requires-2 : tie.Need-coordinate-number-requires-2
+coordinate-number-requires-2 c κs = search needs
+
 enum-told : tie.Need-enum-told
 enum-told c = search needs
+
+transfer-number-requires : tie.Need-transfer-number-requires
+transfer-number-requires c κs = search needs
 
 enum-told-2 : tie.Need-enum-told-2
 enum-told-2 c = search needs
 
 enum-told-3 : tie.Need-enum-told-3
 enum-told-3 c = search needs
+
+enum-told-4 : tie.Need-enum-told-4
+enum-told-4 c = search needs
 
 returns : tie.Need-returns
 returns c = rw (c .before .before .before .word .given .1, ← c .before .is-init-allowed .ensures) (c .init-number .ensures)
@@ -70,19 +82,25 @@ returns-4 : tie.Need-returns-4
 returns-4 c = rw (c .before .before .before .before .word4 .given .1, ← c .before .before .before .before .before .before .before .is-awaiting .ensures, ← c .before .before .before .before .before .before .shape-of .ensures, ← c .before .before .is-coordinate-allowed .ensures, ← c .before .coordinate-fits .ensures) (c .coordinate-number .ensures)
 
 returns-5 : tie.Need-returns-5
-returns-5 c = rw (c .before .enum-told .given .1, c .if1 .taken)
+returns-5 c = rw (c .before .before .word5 .given .1, ← c .before .before .before .before .before .is-awaiting .ensures) (c .coordinate-number2 .ensures)
 
 returns-6 : tie.Need-returns-6
-returns-6 c = rw (c .before .enum-told .given .1, c .if1 .left)
+returns-6 c = rw (c .before .enum-told .given .1, ← c .before .before .before .before .is-awaiting .ensures) (c .transfer-number .ensures)
 
 returns-7 : tie.Need-returns-7
-returns-7 c = rw (c .before .enum-told2 .given .1, c .if2 .taken)
+returns-7 c = rw (c .before .enum-told2 .given .1, c .if1 .taken)
 
 returns-8 : tie.Need-returns-8
-returns-8 c = rw (c .before .enum-told2 .given .1, c .if2 .left)
+returns-8 c = rw (c .before .enum-told2 .given .1, c .if1 .left)
 
 returns-9 : tie.Need-returns-9
-returns-9 c = rw (c .enum-told3 .given .1)
+returns-9 c = rw (c .before .enum-told3 .given .1, c .if2 .taken)
+
+returns-10 : tie.Need-returns-10
+returns-10 c = rw (c .before .enum-told3 .given .1, c .if2 .left)
+
+returns-11 : tie.Need-returns-11
+returns-11 c = rw (c .enum-told4 .given .1)
 
 pub judged-spec : {M : Type 1} → statement M
 judged-spec =
@@ -103,9 +121,13 @@ judged-spec =
     is-coordinate-allowed-requires
     coordinate-fits-requires
     coordinate-number-requires
+    enum-known-word-5
+    coordinate-number-requires-2
     enum-told
+    transfer-number-requires
     enum-told-2
     enum-told-3
+    enum-told-4
     returns
     returns-2
     returns-3
@@ -114,4 +136,6 @@ judged-spec =
     returns-6
     returns-7
     returns-8
-    returns-9)
+    returns-9
+    returns-10
+    returns-11)

@@ -10,9 +10,12 @@ none-requires c κs = search needs
 awaited-requires : tie.Need-awaited-requires
 awaited-requires c κs = search needs
 
+none-requires-2 : tie.Need-none-requires-2
+none-requires-2 c κs = search needs
+
 returns : tie.Need-returns
 unfolding settings
-returns c = rw (c .before .none .ensures, c .awaited .ensures)
+returns c = rw (c .before .before .none .ensures, c .before .awaited .ensures, c .none2 .ensures)
 
 pub set-spec : {M : Type 1} → statement M
-set-spec = tie.close (tie.spec none-requires awaited-requires returns)
+set-spec = tie.close (tie.spec none-requires awaited-requires none-requires-2 returns)

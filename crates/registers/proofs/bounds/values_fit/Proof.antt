@@ -1,134 +1,47 @@
--- `bounds::values_fit` meets its contract, subcommand by subcommand. Assumes nothing.
+-- `bounds::values_fit` meets its contract. Assumes nothing.
 use Rattle.registers.specs.Bounds.{valuesFit}
 use borrow.Author.Needs.{needs}
 use Rattle.registers.proofs.bounds.values_fit.Statement.{statement}
 use Rattle.registers.proofs.bounds.values_fit.Tie as tie
 
-enum-told : tie.Need-enum-told
-enum-told c = search needs
+array-read-value-fits : tie.Need-array-read-value-fits
+array-read-value-fits c = search needs
 
-enum-told-2 : tie.Need-enum-told-2
-enum-told-2 c = search needs
+value-fits-requires : tie.Need-value-fits-requires
+value-fits-requires c κs = search needs
 
-enum-told-3 : tie.Need-enum-told-3
-enum-told-3 c = search needs
+array-read-value-fits-2 : tie.Need-array-read-value-fits-2
+array-read-value-fits-2 c = search needs
 
-enum-told-4 : tie.Need-enum-told-4
-enum-told-4 c = search needs
+value-fits-requires-2 : tie.Need-value-fits-requires-2
+value-fits-requires-2 c κs = search needs
 
-enum-told-5 : tie.Need-enum-told-5
-enum-told-5 c = search needs
+array-read-value-fits-3 : tie.Need-array-read-value-fits-3
+array-read-value-fits-3 c = search needs
 
-enum-told-6 : tie.Need-enum-told-6
-enum-told-6 c = search needs
+value-fits-requires-3 : tie.Need-value-fits-requires-3
+value-fits-requires-3 c κs = search needs
 
-enum-told-7 : tie.Need-enum-told-7
-enum-told-7 c = search needs
+array-read-value-fits-4 : tie.Need-array-read-value-fits-4
+array-read-value-fits-4 c = search needs
 
-array-read-result : tie.Need-array-read-result
-array-read-result c = search needs
-
-array-read-result-2 : tie.Need-array-read-result-2
-array-read-result-2 c = search needs
-
-array-read-result-3 : tie.Need-array-read-result-3
-array-read-result-3 c = search needs
-
-array-read-result-4 : tie.Need-array-read-result-4
-array-read-result-4 c = search needs
-
-enum-told-8 : tie.Need-enum-told-8
-enum-told-8 c = search needs
-
-enum-told-9 : tie.Need-enum-told-9
-enum-told-9 c = search needs
-
-enum-told-10 : tie.Need-enum-told-10
-enum-told-10 c = search needs
-
-enum-told-11 : tie.Need-enum-told-11
-enum-told-11 c = search needs
-
-enum-told-12 : tie.Need-enum-told-12
-enum-told-12 c = search needs
+value-fits-requires-4 : tie.Need-value-fits-requires-4
+value-fits-requires-4 c κs = search needs
 
 returns : tie.Need-returns
 unfolding valuesFit
-returns c = rw (c .enum-told .given .1)
-
-returns-2 : tie.Need-returns-2
-unfolding valuesFit
-returns-2 c = rw (c .enum-told2 .given .1)
-
-returns-3 : tie.Need-returns-3
-unfolding valuesFit
-returns-3 c = rw (c .enum-told3 .given .1)
-
-returns-4 : tie.Need-returns-4
-unfolding valuesFit
-returns-4 c = rw (c .enum-told4 .given .1)
-
-returns-5 : tie.Need-returns-5
-unfolding valuesFit
-returns-5 c = rw (c .enum-told5 .given .1)
-
-returns-6 : tie.Need-returns-6
-unfolding valuesFit
-returns-6 c = rw (c .enum-told6 .given .1)
-
-returns-7 : tie.Need-returns-7
-unfolding valuesFit
-returns-7 c = rw (c .enum-told7 .given .1)
-
-returns-8 : tie.Need-returns-8
-unfolding valuesFit
-returns-8 c = rw (c .enum-told8 .given .1)
-
-returns-9 : tie.Need-returns-9
-unfolding valuesFit
-returns-9 c = rw (c .enum-told9 .given .1)
-
-returns-10 : tie.Need-returns-10
-unfolding valuesFit
-returns-10 c = rw (c .enum-told10 .given .1)
-
-returns-11 : tie.Need-returns-11
-unfolding valuesFit
-returns-11 c = rw (c .enum-told11 .given .1)
-
-returns-12 : tie.Need-returns-12
-unfolding valuesFit
-returns-12 c = rw (c .enum-told12 .given .1)
+returns c = rw (c .value-fits4 .ensures, c .before .value-fits3 .ensures, c .before .before .value-fits2 .ensures, c .before .before .before .value-fits .ensures)
 
 pub values-fit-spec : {M : Type 1} → statement M
 values-fit-spec =
     tie.close
     (tie.spec
-    enum-told
-    enum-told-2
-    enum-told-3
-    enum-told-4
-    enum-told-5
-    enum-told-6
-    enum-told-7
-    array-read-result
-    array-read-result-2
-    array-read-result-3
-    array-read-result-4
-    enum-told-8
-    enum-told-9
-    enum-told-10
-    enum-told-11
-    enum-told-12
-    returns
-    returns-2
-    returns-3
-    returns-4
-    returns-5
-    returns-6
-    returns-7
-    returns-8
-    returns-9
-    returns-10
-    returns-11
-    returns-12)
+    array-read-value-fits
+    value-fits-requires
+    array-read-value-fits-2
+    value-fits-requires-2
+    array-read-value-fits-3
+    value-fits-requires-3
+    array-read-value-fits-4
+    value-fits-requires-4
+    returns)

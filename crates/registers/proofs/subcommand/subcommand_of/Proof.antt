@@ -60,7 +60,19 @@ returns-13 c = sym (ap subcommandOf (c .match .keys13))
 
 returns-14 : tie.Need-returns-14
 unfolding subcommandOf
-returns-14 c = default subcommands Nothing (c .before .args .number) (c .match .rest)
+returns-14 c = sym (ap subcommandOf (c .match .keys14))
+
+returns-15 : tie.Need-returns-15
+unfolding subcommandOf
+returns-15 c = sym (ap subcommandOf (c .match .keys15))
+
+returns-16 : tie.Need-returns-16
+unfolding subcommandOf
+returns-16 c = sym (ap subcommandOf (c .match .keys16))
+
+returns-17 : tie.Need-returns-17
+unfolding subcommandOf
+returns-17 c = default subcommands Nothing (c .before .args .number) (c .match .rest)
 
 pub subcommand-of-spec : {M : Type 1} → statement M
 subcommand-of-spec =
@@ -79,4 +91,7 @@ subcommand-of-spec =
     returns-11
     returns-12
     returns-13
-    returns-14)
+    returns-14
+    returns-15
+    returns-16
+    returns-17)
