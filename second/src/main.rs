@@ -5,6 +5,7 @@
 mod commands;
 mod cuts;
 mod damages;
+mod directories;
 mod edges;
 #[cfg(test)]
 mod examples;
@@ -13,6 +14,7 @@ mod generator;
 mod hexwords;
 mod instalments;
 mod mend;
+mod overdraw;
 mod picture;
 mod pictures;
 mod printing;
@@ -36,7 +38,8 @@ use std::io::{self, Read, Write};
 use std::process::ExitCode;
 
 const USAGE: &str = "usage: second draw | receive | pack | unpack | generate SEED | seeds FIRST COUNT DIR | cuts FIRST COUNT DIR | vectors DIR | \
-    shares FIRST COUNT | mend | damages FIRST COUNT DIR | squares FIRST COUNT DIR | answer | scripts FIRST COUNT DIR";
+    shares FIRST COUNT | mend | damages FIRST COUNT DIR | squares FIRST COUNT DIR | answer | scripts FIRST COUNT DIR | \
+    overdraw | directories FIRST COUNT DIR";
 
 fn main() -> ExitCode {
     let arguments: Vec<String> = std::env::args().skip(1).collect();
@@ -66,6 +69,8 @@ fn dispatch(arguments: &[&str]) -> Result<(), String> {
         ["mend"] => mend(),
         ["damages", first, count, directory] => damages::write(number(first)?, number(count)?, directory),
         ["squares", first, count, directory] => pictures::write(number(first)?, number(count)?, directory),
+        ["overdraw"] => write_out(overdraw::report(std::path::Path::new("."))?.as_bytes()),
+        ["directories", first, count, directory] => directories::write(number(first)?, number(count)?, directory),
         _ => Err(USAGE.to_string()),
     }
 }

@@ -67,6 +67,19 @@ impl Picture {
         passed
     }
 
+    /// Every pixel that a figure offers, as whether it would pass over what
+    /// stands; no figure offers a pixel twice, so none is in another's way.
+    pub fn fates(&self, figure: &Figure, registers: &Registers) -> Vec<bool> {
+        let line_length = registers.line_length;
+        let places = 0..line_length * self.rows(line_length);
+        places
+            .filter_map(|place| {
+                let numbers = offered(figure, registers, place % line_length, place / line_length)?;
+                Some(passes(figure, numbers, registers, self.z[place as usize]))
+            })
+            .collect()
+    }
+
     /// What an accepted word does to the picture: it draws the figure that it
     /// completes, or stores a pixel. Tells how many pixels passed.
     pub fn take(&mut self, accepted: &Accepted) -> u64 {

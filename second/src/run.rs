@@ -1,6 +1,7 @@
 //! Running a packed stream from reset.
 
 use crate::commands;
+use crate::figures::Figure;
 use crate::picture::Picture;
 use crate::registers::Registers;
 use crate::stream;
@@ -19,6 +20,12 @@ pub struct Outcome {
 /// Runs a packed stream over a picture. Refusal 2 cannot come: a picture's
 /// two memories have the same length.
 pub fn run(bytes: &[u8], picture: &mut Picture) -> Outcome {
+    watched(bytes, picture, |_, _, _| ())
+}
+
+/// The same, with a look at each completed figure, at the registers and at
+/// the picture before it is drawn.
+pub fn watched(bytes: &[u8], picture: &mut Picture, mut look: impl FnMut(&Figure, &Registers, &Picture)) -> Outcome {
     let mut registers = Registers::reset();
     let mut outcome = Outcome { words: 0, refusal: 0, passed: 0, line_length: registers.line_length };
     let words = match stream::unpack(bytes) {
@@ -28,6 +35,9 @@ pub fn run(bytes: &[u8], picture: &mut Picture) -> Outcome {
     for word in words {
         match commands::step(&registers, word) {
             Ok(accepted) => {
+                if let Some(figure) = &accepted.figure {
+                    look(figure, &accepted.registers, picture);
+                }
                 outcome.passed = outcome.passed.wrapping_add(picture.take(&accepted));
                 registers = accepted.registers;
                 outcome.words += 1;

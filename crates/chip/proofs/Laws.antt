@@ -228,7 +228,7 @@ larger-low : (a b : Vertex) → Near a → Near b → larger a b ≤ 8191
 unfolding larger
 larger-low a b h k = omega (arith, h .across, h .up, k .across, k .up)
 
-line-low : (r : Registers) → inBounds r ≡ true → r .frame .line ≤ 8768
+pub line-low : (r : Registers) → inBounds r ≡ true → r .frame .line ≤ 8768
 unfolding frameFits
 line-low r h =
     let k = both (leb 256 (r .frame .line) && leb (r .frame .line) 8768) (eqb (r .frame .line % 64) 0) (parts r h .frame) in
@@ -243,7 +243,7 @@ whole-counts rows r (Triangle a b c) p near h k =
     omega (arith, triangle-counts (penOf r) rows (isConstant r) a b c p, mul-le-mul {n₁ = rows} {m₁ = r .frame .line} {n₂ = 8192} {m₂ = 8768} h k)
 whole-counts rows r (Segment a b) p near h k = omega (arith, segment-counts (penOf r) rows (styleOf r) a b p, larger-low a b (near .0) (near .1))
 
-figure-counts : (rows : ℕ) (r : Registers) (f : Completed) (p : Picture) → AllVertices Near f → rows ≤ 8192 → r .frame .line ≤ 8768
+pub figure-counts : (rows : ℕ) (r : Registers) (f : Completed) (p : Picture) → AllVertices Near f → rows ≤ 8192 → r .frame .line ≤ 8768
     → drawn (penOf r) (figureOffers rows r f) p .passed ≤ p .passed + 71827456
 unfolding figureOffers
 figure-counts rows r f p near h k =

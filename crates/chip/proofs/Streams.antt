@@ -31,11 +31,11 @@ getD-map f (x ∷ l) zero d = refl
 getD-map f (x ∷ l) (suc k) d = getD-map f l k d
 
 module _ (bytes : List ℕ) where
-  word-at : (k : ℕ) → getD (wordsOf bytes) k (wordOf 0) ≡ wordOf (wordAt bytes k)
+  pub word-at : (k : ℕ) → getD (wordsOf bytes) k (wordOf 0) ≡ wordOf (wordAt bytes k)
   unfolding wordAt
   word-at k = getD-map wordOf (unpackOf bytes) k 0
 
-  words-length : length (wordsOf bytes) ≡ length (unpackOf bytes)
+  pub words-length : length (wordsOf bytes) ≡ length (unpackOf bytes)
   words-length = length-map (unpackOf bytes) wordOf
 
   -- ---- the loop
@@ -88,7 +88,7 @@ module _ (bytes : List ℕ) (m : Memories) where
   running-good e = rw e
 
   -- past 11 and 12 the lengths decide
-  lengths-told : checked bytes 0 ≡ 0 → (b : Bool) → eqb (length (m .i)) (length (m .z)) ≡ b → flawOf bytes m ≡ cond b 0 2
+  pub lengths-told : checked bytes 0 ≡ 0 → (b : Bool) → eqb (length (m .i)) (length (m .z)) ≡ b → flawOf bytes m ≡ cond b 0 2
   unfolding flawOf
   lengths-told e b f = let g = good bytes 0 e in next-told bytes (cond (eqb (length (m .i)) (length (m .z))) 0 2) (g .0) (g .1) ∙ ap (λ (t : Bool). cond t 0 2) f
 

@@ -77,7 +77,7 @@ fn is_cut(r: Registers, figure: Completed) -> bool
 }
 
 // Draws what a word completed, unless it is cut. Answers how many pixels passed.
-pub(crate) fn draw(r: Registers, figure: Completed, im: &mut [u16], zm: &mut [u16]) -> u64
+pub fn draw(r: Registers, figure: Completed, im: &mut [u16], zm: &mut [u16]) -> u64
     ensures { λ n. ⌜ picture (now (im .exit)) (now (zm .exit)) n ≡ drawn (penOf r) (figureOffers (rowsOf (r .frame) (length (now (im .entry))) (length (now (zm .entry)))) r figure) (picture (now (im .entry)) (now (zm .entry)) 0) ⌝ }
 {
     if is_cut(r, figure) {

@@ -1,5 +1,5 @@
-// Standard input, for the programs: read to its end or until a lent buffer is full. Which bytes come no contract can say; specs/Input.antt
-// says how many may. Beside it, room for what is read (specs/Room.antt).
+// What the programs read: standard input, or another descriptor, to its end or until a lent buffer is full. Which bytes come no contract can
+// say; specs/Input.antt says how many may. Beside it, room for what is read (specs/Room.antt).
 ghost use lib.ListN.{length};
 ghost use Prim.Native.Nat.{_≤_, _-_};
 ghost use Rattle.input.specs.Input.{Within};
@@ -12,25 +12,25 @@ pub enum Taken {
     Failed,
 }
 
-// One read, to index `at` and behind it; 0 bytes at the end of the input.
-fn read_from(buf: &mut [u8], at: usize) -> Taken
+// One read of a descriptor, to index `at` and behind it; 0 bytes at the end of the input.
+fn read_from(fd: i32, buf: &mut [u8], at: usize) -> Taken
     requires { ⌜ at ≤ length (now buf) ⌝ }
     ensures { λ r. ⌜ Within (length (now (buf .entry)) - at) r ⌝ }
 {
-    let got = libc::read(STDIN_FILENO, &mut buf[at..]);
+    let got = libc::read(fd, &mut buf[at..]);
     if got < 0 {
         return Taken::Failed;
     }
     Taken::Bytes(io::count(got, &buf[at..]))
 }
 
-// Reads until the input ends or the buffer is full: the bytes may come in pieces.
-pub fn take(buf: &mut [u8]) -> Taken
+// Reads a descriptor until its input ends or the buffer is full: the bytes may come in pieces.
+pub fn take_from(fd: i32, buf: &mut [u8]) -> Taken
     ensures { λ r. ⌜ Within (length (now (buf .entry))) r ⌝ }
 {
     let mut at = 0;
     while at < buf.len() {
-        let more = read_from(buf, at);
+        let more = read_from(fd, buf, at);
         let Taken::Bytes(n) = more else {
             return Taken::Failed;
         };
@@ -40,6 +40,13 @@ pub fn take(buf: &mut [u8]) -> Taken
         at += n;
     }
     Taken::Bytes(at)
+}
+
+// The same of standard input.
+pub fn take(buf: &mut [u8]) -> Taken
+    ensures { λ r. ⌜ Within (length (now (buf .entry))) r ⌝ }
+{
+    take_from(STDIN_FILENO, buf)
 }
 
 // Room for a recording of 1,048,576 bytes and one byte more, which is enough to tell that it is too long.

@@ -1,18 +1,18 @@
--- `take` meets its contract. The invariant of its loop: the bytes taken fit the buffer, whose length is kept. The measure is the room
+-- `take_from` meets its contract. The invariant of its loop: the bytes taken fit the buffer, whose length is kept. The measure is the room
 -- left. Assumes nothing.
-use mathlib.Core.Path.{_≡_, refl, _∙_}
+use mathlib.Core.Path.{_≡_, refl}
 use Prim.Native.Nat.{_-_, _≤_}
 use native.Mathlib.Omega.{arith}
 use borrow.Author.Needs.{needs}
 use lib.ListN.{length}
-use Rattle.input.proofs.take.Statement.{statement}
-use Rattle.input.proofs.take.Tie as tie
+use Rattle.input.proofs.take_from.Statement.{statement}
+use Rattle.input.proofs.take_from.Tie as tie
 
 abbrev Inv-loop : tie.InvT-loop
-Inv-loop buf₀ at₀ buf at = (at ≤ length buf) × (length buf ≡ length buf₀)
+Inv-loop fd buf₀ at₀ buf at = (at ≤ length buf) × (length buf ≡ length buf₀)
 
 abbrev μ-loop : tie.MeasureT-loop
-μ-loop buf₀ at₀ buf at = length buf - at
+μ-loop fd buf₀ at₀ buf at = length buf - at
 
 loop-holds : tie.Need-loop-holds Inv-loop μ-loop
 loop-holds c = (search needs, refl)
@@ -27,7 +27,7 @@ enum-told : tie.Need-enum-told Inv-loop μ-loop
 enum-told c = search needs
 
 same-length : tie.Need-same-length Inv-loop μ-loop
-same-length c = let r = c .before .before .before .before in r .read-from .kept .0 ∙ r .before .before .before .loop .inv .1
+same-length c = let r = c .before .before .before .before in omega (arith, r .read-from .kept .1, r .before .before .before .loop .inv .1)
 
 returns : tie.Need-returns Inv-loop μ-loop
 returns c = search needs
@@ -42,13 +42,13 @@ loop-less : tie.Need-loop-less Inv-loop μ-loop
 loop-less c =
     let r = c .before .before .before .before .before .before in
     let n = rw (c .before .before .more .given .1) at (r .read-from .ensures) in
-    omega (arith, n, r .read-from .kept .0, c .if1 .left)
+    omega (arith, n, r .read-from .kept .1, c .if1 .left)
 
 loop-again : tie.Need-loop-again Inv-loop μ-loop
 loop-again c =
     let r = c .before .before .before .before .before .before in
     let n = rw (c .before .before .more .given .1) at (r .read-from .ensures) in
-    (omega (arith, n, r .read-from .kept .0), r .read-from .kept .0 ∙ r .before .before .before .loop .inv .1)
+    (omega (arith, n, r .read-from .kept .1), omega (arith, r .read-from .kept .1, r .before .before .before .loop .inv .1))
 
 same-length-2 : tie.Need-same-length-2 Inv-loop μ-loop
 same-length-2 c = c .before .loop .inv .1
@@ -57,13 +57,13 @@ returns-2 : tie.Need-returns-2 Inv-loop μ-loop
 returns-2 c = search needs
 
 same-length-3 : tie.Need-same-length-3 Inv-loop μ-loop
-same-length-3 c = let r = c .before .before .before .before .before .before in r .read-from .kept .0 ∙ r .before .before .before .loop .inv .1
+same-length-3 c = let r = c .before .before .before .before .before .before in omega (arith, r .read-from .kept .1, r .before .before .before .loop .inv .1)
 
 returns-3 : tie.Need-returns-3 Inv-loop μ-loop
 returns-3 c = search needs
 
-pub take-spec : {M : Type 1} → statement M
-take-spec =
+pub take-from-spec : {M : Type 1} → statement M
+take-from-spec =
     tie.close
     (tie.spec
     Inv-loop

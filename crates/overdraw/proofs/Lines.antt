@@ -1,0 +1,174 @@
+-- How long the parts of a line are, and how a number is put into columns. Assumes nothing.
+use mathlib.Core.Path.{_≡_, refl, ap, _∙_}
+use mathlib.Core.Bool.{Bool, true, false, cond}
+use mathlib.Core.List.{List, [], _∷_, _++_}
+use Prim.Native.Nat.{ℕ, zero, suc, _+_, _-_, _*_, _/_, _%_, _≤_}
+use native.Mathlib.Numerals.{add-one}
+use native.Mathlib.Omega.{arith}
+use lib.ListN.{length, set, length-append}
+use lib.Dec.{eqb}
+use lib.Seq.{sets}
+use Rattle.report.proofs.Putting.{store-first}
+use Rattle.tally.specs.declared.Count.{Count}
+use Rattle.tally.specs.declared.Tally.{Tally}
+use Rattle.tally.specs.declared.Entry.{Entry}
+use Rattle.overdraw.specs.Text.{
+  glyph,
+  front,
+  columns,
+  percentOf,
+  heading,
+  gouraudName,
+  constantName,
+  line0Name,
+  line1Name,
+  line2Name,
+  refusalName,
+  tooLongName,
+  numbers,
+  countLine,
+  tallyLines,
+  refusalLine,
+  tooLongLine,
+  entryLines,
+}
+
+-- ---- columns, stored from the last to the first
+
+pub length-front : (k n : ℕ) → length (front k n) ≡ k
+unfolding front
+length-front zero n = refl
+length-front (suc k) n = length-append (front k (n / 10)) (glyph n ∷ []) ∙ rw (length-front k (n / 10)) (add-one k)
+
+pub length-columns : (k n : ℕ) → length (columns k n) ≡ k
+unfolding columns
+length-columns zero n = refl
+length-columns (suc k) n = length-append (front k (n / 10)) ((48 + n % 10) ∷ []) ∙ rw (length-front k (n / 10)) (add-one k)
+
+module _ (k n at : ℕ) (out : List ℕ) where
+  here : at + k ≡ at + length (front k (n / 10))
+  here = omega (arith, length-front k (n / 10))
+
+  -- the last of k + 1 columns stored, those in front of it are left to put
+  pub put-next : {g : ℕ} → g ≡ glyph n → sets (set out (at + k) g) at (front k (n / 10)) ≡ sets out at (front (k + 1) n)
+  unfolding front
+  put-next e = rw (here, e, add-one k) (store-first (front k (n / 10)) out at (glyph n))
+
+-- nothing is left
+pub put-all : (n at : ℕ) (out : List ℕ) → sets out at (front 0 n) ≡ out
+unfolding front
+put-all n at out = refl
+
+-- a number is what stands in front of its last digit, and that digit
+pub columns-parts : (k n : ℕ) → 1 ≤ k → columns k n ≡ front (k - 1) (n / 10) ++ ((48 + n % 10) ∷ [])
+unfolding columns
+columns-parts zero n h = absurd (omega (arith, h))
+columns-parts (suc k) n h = let same : k ≡ suc k - 1 = omega arith in ap (λ (j : ℕ). front j (n / 10) ++ ((48 + n % 10) ∷ [])) same
+
+-- ---- lines
+
+pub length-heading : length heading ≡ 79
+unfolding heading
+length-heading = refl
+
+pub length-numbers : (c : Count) → length (numbers c) ≡ 64
+unfolding numbers
+length-numbers c =
+    let a = columns 8 (c .figures) in
+    let b = columns 16 (c .offered) in
+    let d = columns 16 (c .passed) in
+    let e = columns 16 (c .hidden) in
+    let f = columns 8 (percentOf c) in
+    let whole : length (numbers c) ≡ length (a ++ b ++ d ++ e ++ f) = refl in
+    omega (
+      arith,
+      whole,
+      length-append a b,
+      length-append (a ++ b) d,
+      length-append (a ++ b ++ d) e,
+      length-append (a ++ b ++ d ++ e) f,
+      length-columns 8 (c .figures),
+      length-columns 16 (c .offered),
+      length-columns 16 (c .passed),
+      length-columns 16 (c .hidden),
+      length-columns 8 (percentOf c),
+    )
+
+pub length-count : (name kind : List ℕ) (c : Count) → length (countLine name kind c) ≡ length name + length kind + 65
+unfolding countLine
+length-count name kind c =
+    let whole : length (countLine name kind c) ≡ length (name ++ kind ++ numbers c ++ (10 ∷ [])) = refl in
+    omega (
+      arith,
+      whole,
+      length-append name kind,
+      length-append (name ++ kind) (numbers c),
+      length-append (name ++ kind ++ numbers c) (10 ∷ []),
+      length-numbers c,
+    )
+
+module _ (name : List ℕ) where
+  -- a kind's name has eight columns
+  pub kind-line : (kind : List ℕ) (c : Count) → length kind ≡ 8 → length (countLine name kind c) ≡ length name + 73
+  kind-line kind c eight = omega (arith, length-count name kind c, eight)
+
+  pub length-tally : (t : Tally) → length (tallyLines name t) ≡ length name * 5 + 365
+  unfolding tallyLines
+  length-tally t =
+      let a = countLine name gouraudName (t .gouraud) in
+      let b = countLine name constantName (t .constant) in
+      let d = countLine name line0Name (t .line0) in
+      let e = countLine name line1Name (t .line1) in
+      let f = countLine name line2Name (t .line2) in
+      let whole : length (tallyLines name t) ≡ length (a ++ b ++ d ++ e ++ f) = refl in
+      omega (
+        arith,
+        whole,
+        length-append a b,
+        length-append (a ++ b) d,
+        length-append (a ++ b ++ d) e,
+        length-append (a ++ b ++ d ++ e) f,
+        kind-line gouraudName (t .gouraud) refl,
+        kind-line constantName (t .constant) refl,
+        kind-line line0Name (t .line0) refl,
+        kind-line line1Name (t .line1) refl,
+        kind-line line2Name (t .line2) refl,
+      )
+
+  length-told : (n : ℕ) → length (name ++ refusalName ++ columns 8 n ++ (10 ∷ [])) ≡ length name + 17
+  length-told n =
+      omega (
+        arith,
+        length-append name refusalName,
+        length-append (name ++ refusalName) (columns 8 n),
+        length-append (name ++ refusalName ++ columns 8 n) (10 ∷ []),
+        length-columns 8 n,
+      )
+
+  length-refusal : (n : ℕ) → length (refusalLine name n) ≤ length name + 17
+  unfolding refusalLine
+  length-refusal n = go (eqb n 0)
+    where
+      go : (b : Bool) → length (cond {A = List ℕ} b [] (name ++ refusalName ++ columns 8 n ++ (10 ∷ []))) ≤ length name + 17
+      go true = omega arith
+      go false = omega (arith, length-told n)
+
+  length-too-long : length (tooLongLine name) ≡ length name + 9
+  unfolding tooLongLine
+  length-too-long =
+      let whole : length (tooLongLine name) ≡ length (name ++ tooLongName ++ (10 ∷ [])) = refl in
+      omega (arith, whole, length-append name tooLongName, length-append (name ++ tooLongName) (10 ∷ []))
+
+  pub length-entry : (e : Entry) → length (entryLines name e) ≤ length name * 6 + 382
+  unfolding entryLines
+  length-entry e = go (e .long)
+    where
+      go : (b : Bool) → length (cond b (tooLongLine name) (tallyLines name (e .tally) ++ refusalLine name (e .refusal))) ≤ length name * 6 + 382
+      go true = omega (arith, length-too-long)
+      go false =
+          omega (
+            arith,
+            length-append (tallyLines name (e .tally)) (refusalLine name (e .refusal)),
+            length-tally (e .tally),
+            length-refusal (e .refusal),
+          )

@@ -1,0 +1,14 @@
+-- `figure::triangle_kind` meets its contract. Assumes nothing.
+use mathlib.Core.Path.{sym}
+use borrow.Author.Tests.{eq-eqb, ne-eqb}
+use Rattle.tally.proofs.figure.triangle_kind.Statement.{statement}
+use Rattle.tally.proofs.figure.triangle_kind.Tie as tie
+
+returns : tie.Need-returns
+returns c = rw (eq-eqb _ _ (c .if1 .taken))
+
+returns-2 : tie.Need-returns-2
+returns-2 c = rw (ne-eqb _ _ (c .if1 .left))
+
+pub triangle-kind-spec : {M : Type 1} → statement M
+triangle-kind-spec = tie.close (tie.spec returns returns-2)
