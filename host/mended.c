@@ -109,7 +109,7 @@ static const char *fault(struct dextolumen_mended told) {
 }
 
 int main(void) {
-    uint64_t kept = 0, dropped = 0, drawn = 0, ends[5] = {0}, cleared = 0, listed[14] = {0};
+    uint64_t kept = 0, dropped = 0, drawn = 0, ends[5] = {0}, cleared = 0, listed[DEXTOLUMEN_NO_REGION + 1] = {0};
     for (unsigned k = 0; k < STREAMS; k++) {
         any_recording();
         fill();
@@ -124,10 +124,10 @@ int main(void) {
         dropped += told.dropped;
         cleared += told.cleared;
         ends[length % 5]++;
-        for (size_t d = 0; d < told.dropped; d++) listed[walked.numbers[GUARD + d] % 14]++;
+        for (size_t d = 0; d < told.dropped; d++) listed[walked.numbers[GUARD + d] % (DEXTOLUMEN_NO_REGION + 1)]++;
     }
-    for (unsigned number = 3; number <= DEXTOLUMEN_NO_FIGURE; number++)
-        if (listed[number] == 0) {
+    for (unsigned number = 3; number <= DEXTOLUMEN_NO_REGION; number++)
+        if (listed[number] == 0 && (number <= DEXTOLUMEN_NO_FIGURE || number == DEXTOLUMEN_NO_REGION)) {
             printf("mended: no word got %u\n", number);
             return 1;
         }

@@ -1,6 +1,6 @@
 // Throws bits at the card: random words on records and memories of every kind, with guard places around each memory and around the record.
 // Whatever comes, a refused word leaves record and memories as they were and counts nothing; an accepted word changes no place outside
-// the rows in use, no more places than it says, and leaves a record that a further INIT accepts; a triangle that the section cuts passes
+// the rows in use and, but for PTRN, no more places than it says, and leaves a record that a further INIT accepts; a triangle that the section cuts passes
 // no pixel; a segment advances the line by its steps and passes no more pixels than it has, its first point with them if it has that;
 // no guard ever changes. PTRN stores at the region's pixel alone and counts nothing; reads between the words tell what stands there, and change
 // nothing but the region. Streams of such words, some of them damaged, end alike in one call and word by word, and so do their whole words in

@@ -22,10 +22,10 @@ enum {
     DEXTOLUMEN_ACCEPTED = 0,      /* not refused */
     DEXTOLUMEN_BAD_COMMAND = 1,   /* the command is above 15 */
     DEXTOLUMEN_BAD_RECORD = 2,    /* the two memories or pictures differ in length, or the record breaks a bound */
-    DEXTOLUMEN_NO_INIT = 3,       /* any word but INIT before the first accepted INIT */
+    DEXTOLUMEN_NO_INIT = 3,       /* any word but INIT, or a read, before the first accepted INIT */
     DEXTOLUMEN_RESERVED = 4,      /* command 7 or C hex */
     DEXTOLUMEN_UNMODELLED = 5,    /* command A hex; AUX 11 */
-    DEXTOLUMEN_AWAITS_PARM = 6,   /* a parameter is awaited, and the word is neither PARM nor INIT */
+    DEXTOLUMEN_AWAITS_PARM = 6,   /* a parameter is awaited, and it is a read or a word that is neither PARM nor INIT */
     DEXTOLUMEN_NO_PARM = 7,       /* PARM with none awaited */
     DEXTOLUMEN_BAD_AUX = 8,       /* AUX above 12 */
     DEXTOLUMEN_BAD_VALUE = 9,     /* a value that is not allowed */
@@ -156,7 +156,8 @@ struct dextolumen_registers dextolumen_reset(void);
 struct dextolumen_told dextolumen_step(struct dextolumen_registers *registers, uint8_t command, uint16_t data, uint16_t *i_memory,
                                        size_t i_length, uint16_t *z_memory, size_t z_length);
 
-/* Reads the region's pixel and moves the region on, in the record where it stands. A refused read changes nothing. */
+/* Reads the region's pixel and moves the region on, in the record where it stands. A refused read (BAD_RECORD, NO_INIT,
+   AWAITS_PARM, NO_REGION) gives pixel 0 and changes nothing. */
 struct dextolumen_seen dextolumen_read(struct dextolumen_registers *registers, const uint16_t *i_memory, size_t i_length,
                                        const uint16_t *z_memory, size_t z_length);
 

@@ -246,7 +246,7 @@ fn lengths_of_the_drawing_program() {
     assert_eq!(drawing(&[0; 8190]), "words 0 refusal 3 passed 0\n");
 }
 
-/// The lines of "Easy to get wrong", and the joint that is offered twice.
+/// The lines of "Easy to get wrong".
 #[test]
 fn easy_to_get_wrong() {
     let passed = |words: &str| run_words(words).0.passed;

@@ -1,6 +1,6 @@
 //! A second program for the display chip's command machine, written from
-//! the rules alone and without an eye to speed: every pixel of the memory
-//! is tried against every figure.
+//! the rules alone and without an eye to speed: every pixel around a figure
+//! is asked whether the figure holds it.
 
 mod commands;
 mod cuts;

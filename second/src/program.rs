@@ -9,7 +9,7 @@ use crate::stream::{pack_words, Word};
 
 /// The most words a stream of the drawing program can hold.
 pub const MOST_WORDS: usize = 3276;
-/// The most visible figures of one stream, so that trying all pixels for
+/// The most visible figures of one stream, so that asking the pixels around
 /// each of them stays cheap.
 const MOST_FIGURES: usize = 80;
 /// The places of the picture that the streams are made for.

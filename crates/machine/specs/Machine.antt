@@ -1,4 +1,5 @@
--- A machine: what a word does follows from the registers and the word. What it draws is a list of offers that look at no memory.
+-- A machine: what a word does follows from the registers and the word. What it draws is a list of offers, and what it stores besides a list of
+-- pixels; neither looks at a memory.
 use mathlib.Core.Bool.{cond}
 use mathlib.Core.List.{List}
 use Prim.Native.Nat.{ℕ}

@@ -1,4 +1,4 @@
--- Where the pixels pass of a word and of a run, and what stands at a place.
+-- Where the pixels of a word and of a run pass, or are stored besides, and what stands at a place.
 use mathlib.Core.Bool.{cond}
 use mathlib.Core.List.{List, [], _∷_, _++_, map}
 use Prim.Native.Nat.{ℕ}

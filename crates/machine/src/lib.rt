@@ -1,1 +1,1 @@
-// Machines that take words and draw by offers: definitions and laws only (specs/, proofs/). The chip is one such machine.
+// Machines that take words, draw by offers and store pixels besides: definitions and laws only (specs/, proofs/). The chip is one such machine.

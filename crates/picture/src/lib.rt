@@ -1,5 +1,5 @@
-// The two lent memories, and what an offered pixel does to them. specs/ says where pixels lie (Place), what is offered (Offer) and what
-// passes and is stored (Picture).
+// The two lent memories, and what an offered pixel does to them. specs/ says where pixels lie (Place), what is offered (Offer), what
+// passes and is stored (Picture), and what pictures store (Store).
 pub mod draw;
 mod pixel;
 pub mod place;
