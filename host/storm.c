@@ -361,7 +361,7 @@ static int trickled_alike(size_t length, struct dextolumen_intake s) {
         && changed(&im, &im_slow) + changed(&zm, &zm_slow) == 0;
 }
 
-// Makes an intake one that no call leaves. Returns 0 where chance left it whole.
+// Makes an intake one that breaks a bound, as no call leaves it. Returns 0 where chance left it whole.
 static int break_intake(struct dextolumen_intake *s) {
     switch (below(6)) {
     case 0: s->count = 20 + below(1000); return 1;
@@ -376,7 +376,7 @@ static int break_intake(struct dextolumen_intake *s) {
     return dextolumen_step(&r, 15, 0, none, 0, none + 1, 0).refusal == DEXTOLUMEN_BAD_RECORD;
 }
 
-// An intake that no call leaves is refused with 2 by every call, and nothing else changes.
+// An intake that breaks a bound is refused with 2 by every call, and nothing else changes.
 static int broken_refused(struct dextolumen_intake s, uint64_t *broken) {
     if (!break_intake(&s)) return 1;
     struct dextolumen_intake fed = feed_slow(s, bytes, below(sizeof bytes)), ended = finish_slow(s);

@@ -173,13 +173,13 @@ struct dextolumen_intake dextolumen_begin(void);
 
 /* Takes the next bytes, as few or as many as came, or none: words that are whole now are run. Lend the same memories each time. Before the
    end the answer has ACCEPTED, and the words run and their sum so far; or the number of the refused word, its index and the sum before
-   it. After a refused word or the end, a call changes nothing and answers as before. An intake that no call leaves, or with a record that
-   breaks a bound, is refused with BAD_RECORD, and nothing else changes. */
+   it. After a refused word or the end, a call changes nothing and answers as before. An intake that breaks a bound (docs/CALLS.md), or has
+   a record that does, is refused with BAD_RECORD, and nothing else changes. */
 struct dextolumen_intake dextolumen_feed(struct dextolumen_intake intake, const uint8_t *bytes, size_t length, uint16_t *i_memory,
                                          size_t i_length, uint16_t *z_memory, size_t z_length);
 
 /* The end is reached. Refused (BAD_LENGTH, BAD_TAIL, BAD_RECORD, in that order), it tells the words run and their sum. A stream that is not
-   refused with the first two ends with the answer, record and memories of dextolumen_run. An intake that no call leaves is refused as by
+   refused with the first two ends with the answer, record and memories of dextolumen_run. An intake that breaks a bound is refused as by
    dextolumen_feed. */
 struct dextolumen_intake dextolumen_finish(struct dextolumen_intake intake, const uint16_t *i_memory, size_t i_length,
                                            const uint16_t *z_memory, size_t z_length);

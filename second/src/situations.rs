@@ -1,9 +1,12 @@
-//! What the figures of random streams meet: a kind of figure that the
-//! generator never made would be compared with nothing.
+//! What the figures and the pictures' pixels of random streams meet: a kind
+//! that the generator never made would be compared with nothing.
 
 use crate::commands::step;
 use crate::figures::{follows_dashes, since_lx, Figure};
-use crate::registers::{Made, Registers, CONSTANT};
+use crate::picture::Pixel;
+use crate::printing::PLACES;
+use crate::regions::Region;
+use crate::registers::{Made, Open, Registers, CONSTANT};
 use crate::stream::unpack;
 
 /// A question about a figure and the registers that it is drawn under.
@@ -24,6 +27,25 @@ const SITUATIONS: [(&str, Question); 13] = [
     ("dashes of no length that offer their point", |_, f| is_still(f) && flat(f).is_some_and(|made| inside(made) && !follows_dashes(made))),
     ("mode 2 after dashes", |_, f| matches!(f, Figure::Segment { mode: 2, before, .. } if follows_dashes(before))),
 ];
+
+/// A question about a pixel that PTRN brings to a region (document 02, [1]).
+type Transfer = fn(&Registers, &Region, &Pixel) -> bool;
+
+const TRANSFERS: [(&str, Transfer); 9] = [
+    ("pixel to I", |r, _, p| in_memory(r, p) && !r.pictures_are_depths() && r.i_enabled()),
+    ("pixel to Z", |r, _, p| in_memory(r, p) && r.pictures_are_depths() && r.z_enabled()),
+    ("pixel to some planes", |r, _, p| in_memory(r, p) && !r.pictures_are_depths() && ![0, 0xFFFF].contains(&r.planes)),
+    ("pixel that is not enabled", |r, _, p| in_memory(r, p) && !(if r.pictures_are_depths() { r.z_enabled() } else { r.i_enabled() })),
+    ("pixel outside the memory", |r, _, p| !in_memory(r, p)),
+    ("pixel outside the window", |r, _, p| in_memory(r, p) && (p.x < r.window.left || p.x > r.window.right)),
+    ("pixel of a region to the left", |_, g, _| g.first.0 > g.second.0),
+    ("pixel of a region downward", |_, g, _| g.first.1 > g.second.1),
+    ("pixel over an open figure", |r, _, _| !matches!(r.open, Open::Nothing)),
+];
+
+fn in_memory(registers: &Registers, pixel: &Pixel) -> bool {
+    pixel.x < registers.line_length && pixel.y < PLACES as i64 / registers.line_length
+}
 
 /// The depth of a triangle's completing vertex.
 fn depth(figure: &Figure) -> Option<i64> {
@@ -71,21 +93,28 @@ fn is_still(figure: &Figure) -> bool {
     matches!(figure, Figure::Segment { from, to, .. } if (from.x, from.y) == (to.x, to.y))
 }
 
-/// How many figures met each situation.
+/// How many figures, and how many pixels, met each situation.
 pub struct Situations {
     counts: [u64; SITUATIONS.len()],
+    pixels: [u64; TRANSFERS.len()],
 }
 
 impl Situations {
     pub fn none() -> Situations {
-        Situations { counts: [0; SITUATIONS.len()] }
+        Situations { counts: [0; SITUATIONS.len()], pixels: [0; TRANSFERS.len()] }
     }
 
-    /// Counts the visible figures that a stream completes before a refusal.
+    /// Counts the visible figures that a stream completes, and the pixels that
+    /// it brings, before a refusal.
     pub fn add(&mut self, bytes: &[u8]) {
         let mut registers = Registers::reset();
         for word in unpack(bytes).unwrap_or_default() {
             let Ok(accepted) = step(&registers, word) else { return };
+            if let (Some(pixel), Some(region)) = (&accepted.pixel, &registers.region) {
+                for (count, (_, question)) in self.pixels.iter_mut().zip(TRANSFERS) {
+                    *count += u64::from(question(&registers, region, pixel));
+                }
+            }
             registers = accepted.registers;
             if let Some(figure) = accepted.figure {
                 for (count, (_, question)) in self.counts.iter_mut().zip(SITUATIONS) {
@@ -96,12 +125,13 @@ impl Situations {
     }
 
     pub fn text(&self) -> String {
-        let rows = self.counts.iter().zip(SITUATIONS);
-        rows.map(|(count, (name, _))| format!("{}: figures {}\n", name, count)).collect()
+        let figures = self.counts.iter().zip(SITUATIONS).map(|(count, (name, _))| format!("{}: figures {}\n", name, count));
+        let pixels = self.pixels.iter().zip(TRANSFERS).map(|(count, (name, _))| format!("{}: {}\n", name, count));
+        figures.chain(pixels).collect()
     }
 
     /// Whether each situation came.
     pub fn all_came(&self) -> bool {
-        self.counts.iter().all(|count| *count > 0)
+        self.counts.iter().chain(&self.pixels).all(|count| *count > 0)
     }
 }

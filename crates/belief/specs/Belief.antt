@@ -1,6 +1,6 @@
 -- What an operator believes of the picture (the order, demand 3, for runs without PTRN): after a run of words from reset over the same two
 -- memories each place has the least of its starting depth and all depths that the words offered there, with the intensity of the last line
--- that offered it or, where none did, of the offer that brought it.
+-- that offered it or, where none did, of the offer that brought it; unchanged, where nothing nearer than the start was offered.
 use mathlib.Core.Path.{_≡_}
 use mathlib.Core.Bool.{Bool, true, cond, not, _&&_}
 use mathlib.Core.List.{List, [], _∷_, map}

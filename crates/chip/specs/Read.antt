@@ -13,6 +13,7 @@ use Rattle.registers.specs.declared.word.Word.{Word}
 use Rattle.chip.specs.Chip.{chip}
 use Rattle.chip.specs.declared.transfer.Reading.{Reading}
 
+-- an answer of the read call, by its parts
 abbrev pub readAs : ℕ → ℕ → Registers → Reading
 readAs number pixel r = record { refusal = number; pixel = pixel; registers = r }
 
@@ -30,6 +31,7 @@ reading r m = cond (eqb (readNumber r m) 0) (readAs 0 (pixelOf r m) (transferred
 
 -- ---- words and reads, one after the other
 
+-- a call of the host: a word, or a read
 pub data Call : Type 0 where
   word : Word → Call
   strobe : Call

@@ -54,7 +54,7 @@ fresh = record { refusal = 0; index = 0; sum = 0; held = 0; count = 0; over = 0;
 abbrev pub isClosed : ℕ → ℕ → Bool
 isClosed refusal over = not (eqb refusal 0) || not (eqb over 0)
 
--- ---- records that no call leaves
+-- ---- records that break a bound
 
 -- bytes leave 0, 4, 8, 12 or 16 bits of a word, and a number of no more bits than are counted
 unfoldable pub bitsFit : ℕ → ℕ → Bool

@@ -134,7 +134,7 @@ fn take_all(s: Intake, bytes: &[u8], im: &mut [u16], zm: &mut [u16]) -> Intake
 }
 
 // Takes an instalment. Before the end the answer has 0, and the words run and their sum so far; after a refused word or the end, a call
-// changes nothing and answers as before. A record that no call leaves is refused with 2.
+// changes nothing and answers as before. A record that breaks a bound is refused with 2.
 pub fn feed(s: Intake, bytes: &[u8], im: &mut [u16], zm: &mut [u16]) -> Intake
     ensures { λ a. ⌜ taking a (memories (now (im .exit)) (now (zm .exit))) ≡ feeding (taking s (memories (now (im .entry)) (now (zm .entry)))) (now (bytes .entry)) ⌝ }
 {
@@ -163,8 +163,8 @@ fn end_number(held: u32, count: u32, ni: usize, nz: usize) -> u64
     2
 }
 
-// Ends a recording: no more bytes come. After a refused word or the end it changes nothing and answers as before. A record that no call
-// leaves is refused with 2.
+// Ends a recording: no more bytes come. After a refused word or the end it changes nothing and answers as before. A record that breaks a
+// bound is refused with 2.
 pub fn finish(s: Intake, im: &[u16], zm: &[u16]) -> Intake
     ensures { λ a. ⌜ taking a (memories (now (im .entry)) (now (zm .entry))) ≡ ending (taking s (memories (now (im .entry)) (now (zm .entry)))) ⌝ }
 {

@@ -26,25 +26,28 @@ storedBy M r w m = cond (eqb (numberOf M r w m) 0) (map (site (M .pen r)) (M .st
 abbrev pub touchedBy : (M : Machine) → M .Registers → M .Word → Memories → List ℕ
 touchedBy M r w m = passedBy M r w m ++ storedBy M r w m
 
--- those of one word more, unless one was refused
+-- the places that one word more touches, unless one was refused
 unfoldable pub touchedNext : (M : Machine) → Ran (M .Registers) Memories → M .Word → List ℕ
 touchedNext M a w = cond (eqb (a .refusal) 0) (touchedBy M (a .registers) w (a .memories)) []
 
+-- and those where its pixels pass
 unfoldable pub passedNext : (M : Machine) → Ran (M .Registers) Memories → M .Word → List ℕ
 passedNext M a w = cond (eqb (a .refusal) 0) (passedBy M (a .registers) w (a .memories)) []
 
--- those of some words, from there on
+-- the places that some words touch, from there on
 unfoldable pub touchedFrom : (M : Machine) → Ran (M .Registers) Memories → List (M .Word) → List ℕ
 touchedFrom M a [] = []
 touchedFrom M a (w ∷ ws) = touchedNext M a w ++ touchedFrom M (advance (stepOf M) a w) ws
 
+-- and those where their pixels pass
 unfoldable pub passedFrom : (M : Machine) → Ran (M .Registers) Memories → List (M .Word) → List ℕ
 passedFrom M a [] = []
 passedFrom M a (w ∷ ws) = passedNext M a w ++ passedFrom M (advance (stepOf M) a w) ws
 
+-- the places where pixels pass of some words from reset
 abbrev pub passedOf : (M : Machine) → List (M .Word) → Memories → List ℕ
 passedOf M ws m = passedFrom M (ran 0 0 0 (M .reset) m) ws
 
--- those of some words from reset
+-- and those that they touch
 abbrev pub touchedOf : (M : Machine) → List (M .Word) → Memories → List ℕ
 touchedOf M ws m = touchedFrom M (ran 0 0 0 (M .reset) m) ws

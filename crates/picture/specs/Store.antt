@@ -51,9 +51,11 @@ readOf frame deep x y i z = cond (inMemory frame (rowsOf frame (length i) (lengt
 
 -- ---- as one place sees it
 
+-- what a pixel that is stored at a place leaves of its two numbers
 unfoldable pub afterStore : Pen → Cell → Store → Cell
 afterStore pen c s = cell (storedI pen s (c .i)) (storedZ pen s (c .z))
 
+-- those of some pixels that are stored at a place
 unfoldable pub storesAt : Pen → ℕ → List Store → List Store
 storesAt pen at [] = []
 storesAt pen at (s ∷ ss) = cond (eqb (site pen s) at) (s ∷ storesAt pen at ss) (storesAt pen at ss)

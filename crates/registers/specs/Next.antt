@@ -1,4 +1,5 @@
--- The record after an accepted word, and the figure that the word completes (document 01, "Registers" and "Figures").
+-- The record after an accepted word, and the figure that the word completes (document 01, "Registers" and "Figures"; document 02,
+-- [1], [5] and [7]).
 use Prim.Native.Nat.{ℕ, _+_, _%_}
 use mathlib.Core.Bool.{Bool, cond}
 use mathlib.Core.List.{List}

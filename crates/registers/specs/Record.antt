@@ -1,4 +1,5 @@
--- Parts of the register record, the record with one part replaced, and what INIT and reset set (document 01, "Registers").
+-- Parts of the register record, the record with one part replaced, and what INIT and reset set (document 01, "Registers";
+-- document 02, [1], [2] and [7]).
 use Prim.Native.Nat.{ℕ}
 use mathlib.Core.Bool.{Bool, not}
 use mathlib.Core.List.{[], _∷_}
@@ -51,7 +52,7 @@ endBit = 16
 abbrev pub noVertex : Vertex
 noVertex = record { x = 0; y = 0; i = 0; z = 0 }
 
--- the parameters of an AUX number are awaited, and none has come
+-- the parameters of an AUX number, or of IMG (14 and 15), are awaited, and none has come
 abbrev pub awaiting : ℕ → Parked
 awaiting number = record { subcommand = number; came = 0; values = 0 ∷ 0 ∷ 0 ∷ 0 ∷ 0 ∷ [] }
 

@@ -1,5 +1,5 @@
--- The numbers 1 to 10 and 14 that refuse a word, each given exactly when document 01's table ("Numbers that come back"), as request [1]
--- changes it, says; those that refuse the read call; and the record after a word.
+-- The numbers 1 to 10 and 14 that refuse a word, each given exactly when document 01's table ("Numbers that come back"), as requests [1]
+-- and [7] change it, says; those that refuse the read call; and the record after a word.
 use Prim.Native.Nat.{ℕ, suc}
 use mathlib.Core.Bool.{Bool, true, false, cond, not, _&&_, _||_}
 use mathlib.Core.List.{List, [], _∷_}
