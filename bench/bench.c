@@ -1,6 +1,7 @@
 // The driver: draws the same pseudo-random figures, packs and unpacks the same stream, and lists the squares of the same pictures, with the
 // proved code and with two implementations in C, by turns. Every run starts from the same memories and must leave the same ones and tell the
-// same counts, else the program says so and exits with 1. One line a row: the best rate of each, and ours over the better C.
+// same counts, else the program says so and exits with 1. One line a row: the best rate of each, and ours over the better C. In the rows over
+// tiles the C draws over rows, and what ours leaves is laid out in rows before it is compared.
 // usage: bench RUNS
 #include "rivals.h"
 
@@ -41,25 +42,53 @@ typedef enum { TRIANGLES, SEGMENTS, PACK, UNPACK, SQUARES } Kind;
 
 // `size` is a triangle's pixels or a segment's steps, 0 for odd figures: tiny ones, many across the picture's far borders, some
 // without an inside. `mode` is 1 for constant triangles, and a segment's line mode. For squares, `size` is the pictures' width and rows (0 for
-// odd ones, which the squares overhang), and one place in 2 to the power of `mode` differs.
+// odd ones, which the squares overhang), and one place in 2 to the power of `mode` differs. A clipped segment's box hangs over the picture's far
+// border.
 typedef struct {
     const char *name;
     Kind kind;
     int size;
     uint8_t mode;
+    uint16_t layout;
+    int clipped;
 } Row;
 
+enum { ROWS, TILES };
+
 static const Row timed[] = {
-    {"gouraud 30", TRIANGLES, 30, 0},      {"gouraud 100", TRIANGLES, 100, 0},    {"gouraud 1000", TRIANGLES, 1000, 0},
-    {"gouraud 10000", TRIANGLES, 10000, 0}, {"constant 1000", TRIANGLES, 1000, 1}, {"mode 2 lines 100", SEGMENTS, 100, 2},
-    {"mode 0 lines 100", SEGMENTS, 100, 0}, {"pack 1 MiB", PACK, 0, 0},            {"unpack 1 MiB", UNPACK, 0, 0},
-    {"squares few", SQUARES, 256, 12},      {"squares many", SQUARES, 256, 6},
+    {"gouraud 30", TRIANGLES, 30, 0, ROWS, 0},
+    {"gouraud 100", TRIANGLES, 100, 0, ROWS, 0},
+    {"gouraud 1000", TRIANGLES, 1000, 0, ROWS, 0},
+    {"gouraud 10000", TRIANGLES, 10000, 0, ROWS, 0},
+    {"constant 1000", TRIANGLES, 1000, 1, ROWS, 0},
+    {"mode 2 lines 100", SEGMENTS, 100, 2, ROWS, 0},
+    {"mode 0 lines 100", SEGMENTS, 100, 0, ROWS, 0},
+    {"mode 2 clipped", SEGMENTS, 100, 2, ROWS, 1},
+    {"mode 0 clipped", SEGMENTS, 100, 0, ROWS, 1},
+    {"tiled gouraud 100", TRIANGLES, 100, 0, TILES, 0},
+    {"tiled gouraud 1000", TRIANGLES, 1000, 0, TILES, 0},
+    {"tiled gouraud 10000", TRIANGLES, 10000, 0, TILES, 0},
+    {"tiled constant 1000", TRIANGLES, 1000, 1, TILES, 0},
+    {"tiled mode 2 100", SEGMENTS, 100, 2, TILES, 0},
+    {"tiled mode 0 100", SEGMENTS, 100, 0, TILES, 0},
+    {"pack 1 MiB", PACK, 0, 0, ROWS, 0},
+    {"unpack 1 MiB", UNPACK, 0, 0, ROWS, 0},
+    {"squares few", SQUARES, 256, 12, ROWS, 0},
+    {"squares many", SQUARES, 256, 6, ROWS, 0},
 };
 
 // Odd figures take no time worth telling, but the three sides must agree on them too.
 static const Row odd[] = {
-    {"odd gouraud", TRIANGLES, 0, 0},    {"odd constant", TRIANGLES, 0, 1},   {"odd mode 0 lines", SEGMENTS, 0, 0},
-    {"odd mode 1 lines", SEGMENTS, 0, 1}, {"odd mode 2 lines", SEGMENTS, 0, 2}, {"odd squares", SQUARES, 0, 8},
+    {"odd gouraud", TRIANGLES, 0, 0, ROWS, 0},
+    {"odd constant", TRIANGLES, 0, 1, ROWS, 0},
+    {"odd mode 0 lines", SEGMENTS, 0, 0, ROWS, 0},
+    {"odd mode 1 lines", SEGMENTS, 0, 1, ROWS, 0},
+    {"odd mode 2 lines", SEGMENTS, 0, 2, ROWS, 0},
+    {"odd tiled gouraud", TRIANGLES, 0, 0, TILES, 0},
+    {"odd tiled constant", TRIANGLES, 0, 1, TILES, 0},
+    {"odd tiled mode 1", SEGMENTS, 0, 1, TILES, 0},
+    {"odd tiled mode 2", SEGMENTS, 0, 2, TILES, 0},
+    {"odd squares", SQUARES, 0, 8, ROWS, 0},
 };
 
 // ---- what is drawn
@@ -106,8 +135,8 @@ static unsigned any(unsigned limit) {
 static Point point(unsigned x, unsigned y) { return (Point){(uint16_t)x, (uint16_t)y, (uint16_t)any(65536), (uint16_t)any(65536)}; }
 
 // A figure in a box of its own, turned over and on its side as it comes, and the box anywhere in the picture.
-static void place(Point *corner, unsigned box) {
-    unsigned x = any(LINE - box), y = any(LINE - box), mirror = any(2), aside = any(2);
+static void place(Point *corner, unsigned box, int clipped) {
+    unsigned x = clipped ? LINE - any(box) : any(LINE - box), y = any(LINE - box), mirror = any(2), aside = any(2);
     for (int k = 0; k < 3; k++) {
         unsigned across = mirror ? box - corner[k].x : corner[k].x, up = corner[k].y;
         corner[k].x = (uint16_t)(x + (aside ? up : across));
@@ -122,15 +151,15 @@ static void draw_up_triangle(Point *corner, unsigned size) {
     corner[first] = point(any(4), any(4));
     corner[(first + 1) % 3] = point(side + any(4), any(4));
     corner[(first + 2) % 3] = point(any(side), side + 1);
-    place(corner, side + 3);
+    place(corner, side + 3, 0);
 }
 
-static void draw_up_segment(Point *corner, unsigned size) {
+static void draw_up_segment(Point *corner, unsigned size, int clipped) {
     unsigned first = any(2);
     corner[first] = point(0, any(size + 1));
     corner[1 - first] = point(size, any(size + 1));
     corner[2] = corner[0];
-    place(corner, size);
+    place(corner, size, clipped);
 }
 
 static void draw_up_odd(Point *corner) {
@@ -167,7 +196,7 @@ static void draw_up(const Row *row) {
         Point *corner = figures[k].corner;
         if (row->size == 0) draw_up_odd(corner);
         else if (row->kind == TRIANGLES) draw_up_triangle(corner, (unsigned)row->size);
-        else draw_up_segment(corner, (unsigned)row->size);
+        else draw_up_segment(corner, (unsigned)row->size, row->clipped);
     }
 }
 
@@ -189,20 +218,20 @@ static void clear(void) {
 #define OF(p) (p).x, (p).y, (p).i, (p).z
 #define LENT memory.picture[0], PLACES, memory.picture[1], PLACES
 
-static uint64_t triangles(TriangleCall *call, uint8_t constant) {
+static uint64_t triangles(TriangleCall *call, uint16_t layout, uint8_t constant) {
     uint64_t count = 0;
     for (size_t k = 0; k < drawn; k++) {
         const Point *c = figures[k].corner;
-        count += call(LINE, constant, OF(c[0]), OF(c[1]), OF(c[2]), LENT);
+        count += call(LINE, layout, constant, OF(c[0]), OF(c[1]), OF(c[2]), LENT);
     }
     return count;
 }
 
-static uint64_t segments(SegmentCall *call, uint8_t mode) {
+static uint64_t segments(SegmentCall *call, uint16_t layout, uint8_t mode) {
     uint64_t count = 0;
     for (size_t k = 0; k < drawn; k++) {
         const Point *c = figures[k].corner;
-        count += call(LINE, mode, PATTERN, FOREGROUND, BACKGROUND, OF(c[0]), OF(c[1]), LENT);
+        count += call(LINE, layout, mode, PATTERN, FOREGROUND, BACKGROUND, OF(c[0]), OF(c[1]), LENT);
     }
     return count;
 }
@@ -220,8 +249,8 @@ static uint64_t squares(SquaresCall *call, int odd) {
 // One side does a row once. Answers the passed pixels, the length written, or the squares listed.
 static uint64_t once(const Row *row, const Side *side) {
     switch (row->kind) {
-    case TRIANGLES: return triangles(side->triangle, row->mode);
-    case SEGMENTS: return segments(side->segment, row->mode);
+    case TRIANGLES: return triangles(side->triangle, row->layout, row->mode);
+    case SEGMENTS: return segments(side->segment, row->layout, row->mode);
     case PACK: return side->pack(words, WORDS, memory.packed, sizeof memory.packed);
     case UNPACK: return side->unpack(bytes, BYTES, memory.unpacked, PLACES);
     case SQUARES: return squares(side->squares, row->size == 0);
@@ -232,7 +261,7 @@ static uint64_t once(const Row *row, const Side *side) {
 // What one pass over a row is worth: its offered pixels, the pixels of its pictures, or the bytes of the packed stream.
 static uint64_t worth(const Row *row) {
     switch (row->kind) {
-    case TRIANGLES: return triangles(plain_offered, 0);
+    case TRIANGLES: return triangles(plain_offered, ROWS, 0);
     case SEGMENTS: return drawn * ((uint64_t)row->size + 1);
     case SQUARES: return (uint64_t)TIMES * PLACES;
     default: return BYTES;
@@ -247,7 +276,17 @@ static double now(void) {
     return (double)t.tv_sec + (double)t.tv_nsec * 1e-9;
 }
 
+// Lays a picture out in rows that lies in tiles of four by four.
+static void straighten(uint16_t *picture) {
+    static uint16_t tiled[PLACES];
+    memcpy(tiled, picture, sizeof tiled);
+    for (size_t y = 0; y < LINE; y++)
+        for (size_t x = 0; x < LINE; x++) picture[y * LINE + x] = tiled[(y / 4 * (LINE / 4) + x / 4) * 16 + y % 4 * 4 + x % 4];
+}
+
 static void agree(const Row *row, const Side *side, uint64_t count, uint64_t expected) {
+    if (row->layout == TILES && side == &sides[OURS])
+        for (int k = 0; k < 2; k++) straighten(memory.picture[k]);
     int alike = memcmp(&memory, &wanted, sizeof memory) == 0;
     if (count == expected && alike) return;
     printf("%s: %s tells %lu, plain %lu, and the memories %s\n", row->name, side->name, (unsigned long)count, (unsigned long)expected,
@@ -292,7 +331,7 @@ static void measure(const Row *row, int runs) {
             if (reached > rate[s]) rate[s] = reached;
         }
     double better = rate[PLAIN] > rate[SPAN] ? rate[PLAIN] : rate[SPAN];
-    printf("%-16s ", row->name);
+    printf("%-19s ", row->name);
     for (int s = 0; s < SIDES; s++) printf(" %s %.1f ", sides[s].name, rate[s]);
     printf(" %s  ratio %.2f\n", row->kind == PACK || row->kind == UNPACK ? "MB/s" : "Mpixel/s", rate[OURS] / better);
     fflush(0);

@@ -30,15 +30,17 @@ CASED uint64_t scan(Job job, Triangle t, Vertex flat, Picture p) {
     return count;
 }
 
-uint64_t plain_triangle(uint16_t line, uint8_t constant, CORNER(a), CORNER(b), CORNER(c), MEMORIES) {
+uint64_t plain_triangle(uint16_t line, uint16_t layout, uint8_t constant, CORNER(a), CORNER(b), CORNER(c), MEMORIES) {
+    (void)layout;
     Picture p = picture(line, im, ni, zm, nz);
     Vertex last = {cx, cy, ci, cz};
     Triangle t = triangle((Vertex){ax, ay, ai, az}, (Vertex){bx, by, bi, bz}, last, p);
     return constant ? scan(CONSTANT, t, last, p) : scan(GOURAUD, t, last, p);
 }
 
-uint64_t plain_offered(uint16_t line, uint8_t constant, CORNER(a), CORNER(b), CORNER(c), MEMORIES) {
+uint64_t plain_offered(uint16_t line, uint16_t layout, uint8_t constant, CORNER(a), CORNER(b), CORNER(c), MEMORIES) {
     (void)constant, (void)ai, (void)az, (void)bi, (void)bz, (void)ci, (void)cz;
+    (void)layout;
     Picture p = picture(line, im, ni, zm, nz);
     Vertex last = {cx, cy, 0, 0};
     return scan(OFFERED, triangle((Vertex){ax, ay, 0, 0}, (Vertex){bx, by, 0, 0}, last, p), last, p);
@@ -49,8 +51,9 @@ static inline uint16_t between(int64_t first, int64_t second, int64_t k, int64_t
     return (uint16_t)rounded((n - k) * first + k * second, n);
 }
 
-uint64_t plain_segment(uint16_t line, uint8_t mode, uint32_t pattern, uint16_t foreground, uint16_t background, CORNER(a), CORNER(b),
+uint64_t plain_segment(uint16_t line, uint16_t layout, uint8_t mode, uint32_t pattern, uint16_t foreground, uint16_t background, CORNER(a), CORNER(b),
                        MEMORIES) {
+    (void)layout;
     Picture p = picture(line, im, ni, zm, nz);
     Segment s = segment((Vertex){ax, ay, ai, az}, (Vertex){bx, by, bi, bz});
     uint64_t passed = 0;

@@ -19,9 +19,10 @@ typedef __SIZE_TYPE__ size_t;
 #define MEMORIES uint16_t *im, size_t ni, uint16_t *zm, size_t nz
 
 // One triangle: depth test and both write enables on, all planes, the window as after INIT, transparency FFFF. Answers the passed pixels.
-typedef uint64_t TriangleCall(uint16_t line, uint8_t constant, CORNER(a), CORNER(b), CORNER(c), MEMORIES);
+// The rivals draw over rows one after the other, whatever the layout.
+typedef uint64_t TriangleCall(uint16_t line, uint16_t layout, uint8_t constant, CORNER(a), CORNER(b), CORNER(c), MEMORIES);
 // One segment of a line with the same pen.
-typedef uint64_t SegmentCall(uint16_t line, uint8_t mode, uint32_t pattern, uint16_t foreground, uint16_t background, CORNER(a), CORNER(b),
+typedef uint64_t SegmentCall(uint16_t line, uint16_t layout, uint8_t mode, uint32_t pattern, uint16_t foreground, uint16_t background, CORNER(a), CORNER(b),
                              MEMORIES);
 // The packer and the unpacker of recorded streams: the length written, 0 when refused.
 typedef uint64_t PackCall(const uint32_t *words, size_t n, uint8_t *out, size_t m);
@@ -48,11 +49,13 @@ typedef struct {
     int64_t line, rows;
 } Picture;
 
+enum { MOST_ROWS = 8192 };
+
 // Rows in use: the whole rows that fit, at most 8,192. Memories of unlike length are refused, so they have none.
 // The window of INIT holds every vertex and so cuts nothing that these bounds leave.
 static inline Picture picture(uint16_t line, MEMORIES) {
     int64_t rows = ni == nz ? (int64_t)(ni / line) : 0;
-    return (Picture){im, zm, line, rows < 8192 ? rows : 8192};
+    return (Picture){im, zm, line, rows < MOST_ROWS ? rows : MOST_ROWS};
 }
 
 static inline int64_t lesser(int64_t a, int64_t b) { return a < b ? a : b; }

@@ -97,7 +97,8 @@ CASED uint64_t spans(int constant, Triangle t, Vertex flat, Picture p) {
     return passed;
 }
 
-uint64_t span_triangle(uint16_t line, uint8_t constant, CORNER(a), CORNER(b), CORNER(c), MEMORIES) {
+uint64_t span_triangle(uint16_t line, uint16_t layout, uint8_t constant, CORNER(a), CORNER(b), CORNER(c), MEMORIES) {
+    (void)layout;
     Picture p = picture(line, im, ni, zm, nz);
     Vertex last = {cx, cy, ci, cz};
     Triangle t = triangle((Vertex){ax, ay, ai, az}, (Vertex){bx, by, bi, bz}, last, p);
@@ -150,8 +151,9 @@ CASED uint64_t trace_either(uint8_t mode, Segment s, Dashes d, Picture p) {
     return inside(s.first, p) && inside(s.second, p) ? trace(mode, 0, s, d, p) : trace(mode, 1, s, d, p);
 }
 
-uint64_t span_segment(uint16_t line, uint8_t mode, uint32_t pattern, uint16_t foreground, uint16_t background, CORNER(a), CORNER(b),
+uint64_t span_segment(uint16_t line, uint16_t layout, uint8_t mode, uint32_t pattern, uint16_t foreground, uint16_t background, CORNER(a), CORNER(b),
                       MEMORIES) {
+    (void)layout;
     Picture p = picture(line, im, ni, zm, nz);
     Segment s = segment((Vertex){ax, ay, ai, az}, (Vertex){bx, by, bi, bz});
     Dashes d = {pattern, foreground, background};

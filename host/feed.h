@@ -5,13 +5,13 @@
 
 #include <dextolumen.h>
 
-static inline struct dextolumen_ended feed(const uint8_t *bytes, size_t length, uint16_t *im, size_t ni, uint16_t *zm, size_t nz) {
-    struct dextolumen_ended e = {0, 0, 0, dextolumen_reset()};
+// From a record, which is a reset's.
+static inline struct dextolumen_ended feed_from(struct dextolumen_registers start, const uint8_t *bytes, size_t length, uint16_t *im, size_t ni,
+                                               uint16_t *zm, size_t nz) {
+    struct dextolumen_ended e = {0, 0, 0, start};
     uint64_t count = dextolumen_word_count(bytes, length);
-    if (count & DEXTOLUMEN_REFUSED) {
-        e.refusal = count - DEXTOLUMEN_REFUSED;
-        return e;
-    }
+    e.refusal = dextolumen_refusal(count);
+    if (e.refusal != DEXTOLUMEN_ACCEPTED) return e;
     for (; e.index < count; e.index++) {
         uint64_t word = dextolumen_word_at(bytes, length, e.index);
         struct dextolumen_told told = dextolumen_step(&e.registers, (uint8_t)(word >> 16), (uint16_t)word, im, ni, zm, nz);
@@ -20,6 +20,10 @@ static inline struct dextolumen_ended feed(const uint8_t *bytes, size_t length, 
         e.sum += told.passed;
     }
     return e;
+}
+
+static inline struct dextolumen_ended feed(const uint8_t *bytes, size_t length, uint16_t *im, size_t ni, uint16_t *zm, size_t nz) {
+    return feed_from(dextolumen_reset(), bytes, length, im, ni, zm, nz);
 }
 
 // The same recording in instalments of a few bytes, as a slow line delivers them: 0, 1, 2 .. 6 bytes, and again.

@@ -11,7 +11,7 @@
 enum {
     STREAMS = 2000,
     BYTES = 200,
-    WORDS = BYTES * 2 / 5,
+    WORDS = DEXTOLUMEN_WORDS_HELD(BYTES),
     PLACES = 2048,
     GUARD = 16,
 };
@@ -33,26 +33,30 @@ static int alike(const struct lent *a, const struct lent *b) { return memcmp(a, 
 
 // ---- a recording
 
-static uint8_t bytes[BYTES];
+static uint32_t words[WORDS + 1];
+static uint8_t bytes[DEXTOLUMEN_PACKED_SIZE(WORDS + 1)];
 static size_t length;
 
-static unsigned half_in(const uint8_t *from, size_t half) { return half % 2 ? from[half / 2] & 15u : from[half / 2] >> 4; }
-
-// Puts a half byte, the upper one of a byte first; the lower one is 0 until it comes.
-static void put_half(uint8_t *to, size_t half, unsigned v) { to[half / 2] = (uint8_t)(half % 2 ? to[half / 2] | v : v << 4); }
-
-static unsigned any_half(size_t word, size_t k) {
+// A word that is often taken.
+static uint32_t any_word(size_t place) {
     static const uint8_t commands[] = {1, 2, 3, 3, 4, 4, 4, 4, 5, 6, 8, 13};
-    if (k == 0) return word == 0 && below(8) ? 15 : below(6) == 0 ? below(16) : commands[below(sizeof commands)];
-    return k < 3 && below(8) ? 0 : below(16);
+    uint32_t word = place == 0 && below(8) ? 15 : below(6) == 0 ? below(16) : commands[below(sizeof commands)];
+    for (unsigned k = 0; k < 4; k++) word = word << 4 | (k < 2 && below(8) ? 0 : below(16));
+    return word;
 }
 
-// Words that are often taken; half of the recordings begin with INIT, both enables and a strip.
+// Such words, packed, and broken off anywhere; half of the recordings begin with INIT, both enables and a strip. A word more than is there gives the
+// last half byte.
 static void any_recording(void) {
-    static const uint8_t opening[] = {0xF0, 0x00, 0x0E, 0x00, 0x04, 0xD0, 0x00, 0x65};
     length = below(8) == 0 ? below(10) : below(BYTES + 1);
-    for (size_t half = 0; half < 2 * length; half++) put_half(bytes, half, any_half(half / 5, half % 5));
-    if (below(2)) memcpy(bytes, opening, length < sizeof opening ? length : sizeof opening);
+    for (size_t k = 0; k <= WORDS; k++) words[k] = any_word(k);
+    if (below(2)) {
+        words[0] = 0xF0000;
+        words[1] = 0xE0004;
+        words[2] = 0xD0006;
+        words[3] = 0x50000 | (words[3] & 0xFFFF);
+    }
+    dextolumen_pack(words, WORDS + 1, bytes, sizeof bytes);
 }
 
 // ---- the walk
@@ -61,23 +65,22 @@ static void any_recording(void) {
 static struct dextolumen_mended walk(void) {
     struct dextolumen_registers r = dextolumen_reset();
     struct dextolumen_mended told = {0, 0, 0, 0, 0};
-    size_t words = 2 * length / 5, half = 0;
+    uint32_t kept[WORDS];
+    size_t count = 0;
     memcpy(&walked, &was, sizeof walked);
-    for (size_t k = 0; k < words; k++) {
-        uint32_t word = 0;
-        for (size_t h = 0; h < 5; h++) word = word << 4 | half_in(bytes, 5 * k + h);
+    for (size_t k = 0; k < DEXTOLUMEN_WORDS_HELD(length); k++) {
         uint64_t refusal =
-            dextolumen_step(&r, (uint8_t)(word >> 16), (uint16_t)word, walked.im + GUARD, PLACES, walked.zm + GUARD, PLACES).refusal;
+            dextolumen_step(&r, (uint8_t)(words[k] >> 16), (uint16_t)words[k], walked.im + GUARD, PLACES, walked.zm + GUARD, PLACES).refusal;
         if (refusal == DEXTOLUMEN_ACCEPTED) {
-            for (int shift = 16; shift >= 0; shift -= 4) put_half(walked.out + GUARD, half++, word >> shift & 15);
+            kept[count++] = words[k];
         } else {
             walked.indices[GUARD + told.dropped] = k;
             walked.numbers[GUARD + told.dropped++] = (uint8_t)refusal;
         }
     }
-    told.size = (half + 1) / 2;
+    told.size = dextolumen_pack(kept, count, walked.out + GUARD, BYTES);
     told.cut = length % 5 == 1 ? 8 : length % 5 == 2 ? 16 : length % 5 == 4 ? 12 : 0;
-    told.cleared = length % 5 == 3 && half_in(bytes, 2 * length - 1) != 0;
+    told.cleared = length % 5 == 3 && (bytes[length - 1] & 15) != 0;
     return told;
 }
 
@@ -120,7 +123,7 @@ int main(void) {
             printf("mended: recording %u of %lu bytes: %s\n", k, (unsigned long)length, what);
             return 1;
         }
-        kept += 2 * told.size / 5;
+        kept += DEXTOLUMEN_WORDS_HELD(told.size);
         dropped += told.dropped;
         cleared += told.cleared;
         ends[length % 5]++;

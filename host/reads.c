@@ -1,6 +1,7 @@
-// Words and reads as text, for comparing with the second program. A line of standard input is a word of five hexadecimal digits, `read` or
-// `end`. A word prints its refusal and its count, a read its refusal and the pixel; a word that is refused is passed over. `end` prints each
-// place with I not 0, as the drawing program does; what follows is from reset, over a fresh picture.
+// Words and reads as text, for comparing with the second program. A line of standard input is a word of five hexadecimal digits, `read`, `tiled`
+// or `end`. A word prints its refusal and its count, a read its refusal and the pixel; a word that is refused is passed over. `end` prints each
+// place with I not 0, as the drawing program does; what follows is from reset, over a fresh picture, and
+// after `tiled` from the reset that chooses tiles.
 // usage: reads < TEXT
 #include <dextolumen.h>
 #include <stdio.h>
@@ -11,8 +12,8 @@ enum { PLACES = 8192 };
 static struct dextolumen_registers registers;
 static uint16_t im[PLACES], zm[PLACES];
 
-static void begin(void) {
-    registers = dextolumen_reset();
+static void begin(struct dextolumen_registers start) {
+    registers = start;
     for (size_t at = 0; at < PLACES; at++) im[at] = 0, zm[at] = 65535;
 }
 
@@ -20,7 +21,7 @@ static void end(void) {
     unsigned line = registers.frame.line;
     for (unsigned at = 0; at < PLACES; at++)
         if (im[at] != 0) printf("%u %u %u %u\n", at % line, at / line, im[at], zm[at]);
-    begin();
+    begin(dextolumen_reset());
 }
 
 static void read_pixel(void) {
@@ -45,6 +46,10 @@ static int take_line(const char *line) {
         read_pixel();
         return 1;
     }
+    if (strcmp(line, "tiled") == 0) {
+        begin(dextolumen_reset_tiled());
+        return 1;
+    }
     if (strcmp(line, "end") == 0) {
         end();
         return 1;
@@ -62,7 +67,7 @@ int main(void) {
     char line[8];
     size_t length = 0;
     unsigned long number = 1;
-    begin();
+    begin(dextolumen_reset());
     for (int c = getchar(); c != EOF; c = getchar()) {
         if (c != '\n') {
             if (length < sizeof line - 1) line[length++] = (char)c;
@@ -70,7 +75,7 @@ int main(void) {
         }
         line[length] = 0;
         if (!take_line(line)) {
-            fprintf(stderr, "reads: line %lu is no word, `read` or `end`\n", number);
+            fprintf(stderr, "reads: line %lu is no word, `read`, `tiled` or `end`\n", number);
             return 1;
         }
         length = 0;

@@ -1,13 +1,16 @@
 // Throws bits at the card: random words on records and memories of every kind, with guard places around each memory and around the record.
-// Whatever comes, a refused word leaves record and memories as they were and counts nothing; an accepted word changes no place outside
-// the rows in use and, but for PTRN, no more places than it says, and leaves a record that a further INIT accepts; a triangle that the section cuts passes
-// no pixel; a segment advances the line by its steps and passes no more pixels than it has, its first point with them if it has that;
-// no guard ever changes. PTRN stores at the region's pixel alone and counts nothing; reads between the words tell what stands there, and change
-// nothing but the region. Streams of such words, some of them damaged, end alike in one call and word by word, and so do their whole words in
-// instalments, cut anywhere. What no call on instalments leaves is refused. Stops at the first fault with status 1.
+// Whatever comes, a refused word leaves record and memories as they were and counts nothing; an accepted word changes no place outside the rows
+// in use, which are whole bands over tiles, and, but for PTRN, no more places than it says, keeps the layout, and leaves a record that a further
+// INIT accepts; a triangle that the section cuts passes no pixel; a segment advances the line by its steps and passes no more pixels than it
+// has, its first point with them if it has that; no guard ever changes. PTRN stores at the region's pixel alone and counts nothing; reads
+// between the words tell what stands there, and change nothing but the region. Streams of such words, some of them damaged, end alike in one
+// call and word by word, and so do their whole words in instalments, cut anywhere. An intake that breaks a bound is refused with 2, and nothing
+// changes. Some words go to the far end of the plotting area, over memories that are taller than the rows in use may be, and over the longest
+// lines. Stops at the first fault with status 1.
 // usage: storm
 #include "chance.h"
 #include "feed.h"
+#include "tiles.h"
 #include <stdio.h>
 #include <stdlib.h>
 #include <string.h>
@@ -16,7 +19,10 @@ enum {
     WORDS = 100000,
     SCENE = 50, // words thrown at one pair of memories
     STREAMS = 1000,
-    MOST = 20000, // places
+    USUAL = 20000, // places, at most, of most memories
+    TALL = 256 * (DEXTOLUMEN_MOST_ROWS + 1), // those of the shortest line, one row more than may be in use
+    WIDE = 8768 * 40, // those of the longest line
+    FAR_SCENES = 6,
     GUARD = 64,
     PER_STREAM = 60,
 };
@@ -24,7 +30,7 @@ enum {
 // ---- what is lent: places and a record, each between guards
 
 struct memory {
-    uint16_t place[GUARD + MOST + GUARD];
+    uint16_t place[GUARD + TALL + GUARD];
     size_t length;
 };
 
@@ -63,7 +69,7 @@ static uint64_t changed(const struct memory *a, const struct memory *b) {
 
 // ---- what is told
 
-static uint64_t thrown, told_by[DEXTOLUMEN_NO_REGION + 1], told_read[DEXTOLUMEN_NO_REGION + 1], cut, uncut, bends;
+static uint64_t thrown, told_by[DEXTOLUMEN_NO_REGION + 1], told_read[DEXTOLUMEN_NO_REGION + 1], cut, uncut, bends, tiled, high, wide;
 
 _Noreturn static void fault(const char *what, uint8_t command, uint16_t data) {
     printf("storm: word %lu (command %u, data %u): %s\n", (unsigned long)thrown, command, data, what);
@@ -76,13 +82,19 @@ static int kept_outside(const struct memory *m, const struct memory *was, size_t
     return alike(m, was, 0, GUARD) && alike(m, was, GUARD + inside, guarded(m));
 }
 
+// Counts the places of I that a word changed in rows, and in columns, from 8,192 on, which document 01's coordinates did not reach.
+static void count_far(size_t line) {
+    if (im.length / line <= 8192 && line <= 8192) return;
+    for (size_t at = 0; at < im.length; at++)
+        if (lent(&im)[at] != lent(&im_was)[at]) high += at / line >= 8192, wide += at % line >= 8192;
+}
+
 // ---- pictures
 
 // The place of the region's pixel, or as many places as there are where it is outside the memory.
 static size_t region_place(const struct dextolumen_registers *r) {
-    size_t line = r->frame.line, rows = im.length / line;
-    if (rows > 8192) rows = 8192;
-    return r->region.x < line && r->region.y < rows ? r->region.y * line + r->region.x : im.length;
+    size_t rows = rows_in_use(&r->frame, im.length);
+    return r->region.x < r->frame.line && r->region.y < rows ? place(&r->frame, r->region.x, r->region.y) : im.length;
 }
 
 // PTRN's number where it is due in the memories as they were, so that they should be as they are now.
@@ -161,10 +173,12 @@ static void throw(uint8_t command, uint16_t data) {
         return;
     }
     if (im.length != zm.length) fault("memories of unlike length accepted", command, data);
-    size_t line = held_was.record.frame.line, rows = im.length / line;
-    if (rows > 8192) rows = 8192;
-    if (!kept_outside(&im, &im_was, rows * line) || !kept_outside(&zm, &zm_was, rows * line))
-        fault("a place outside the rows in use changed", command, data);
+    const struct dextolumen_frame *frame = &held_was.record.frame;
+    size_t inside = rows_in_use(frame, im.length) * frame->line;
+    if (!kept_outside(&im, &im_was, inside) || !kept_outside(&zm, &zm_was, inside)) fault("a place outside the rows in use changed", command, data);
+    if (frame->layout > 1 || held.record.frame.layout != frame->layout) fault("a word changed the layout, or took one that no reset chooses", command, data);
+    tiled += frame->layout == 1 && told.passed != 0;
+    if (frame->layout == 0) count_far(frame->line);
     if (command == 0) {
         store(&held_was.record, data);
         if (told.passed != 0 || changed(&im, &im_was) + changed(&zm, &zm_was) != 0) fault("PTRN counted, or stored otherwise", command, data);
@@ -205,10 +219,10 @@ static uint16_t parameter(const struct dextolumen_parked *p) {
     case 2: return 0;
     case 3: return (uint16_t)(below(4) << 5);
     case 4: return (uint16_t)((chance() & 0x0D8E) | (below(4) ? 6 : 0));
-    case 6: return (uint16_t)(p->came == 4 ? 0 : (p->came == 0 || p->came == 3) && below(4) ? below(64) : below(8193));
+    case 6: return (uint16_t)(p->came == 4 ? 0 : (p->came == 0 || p->came == 3) && below(4) ? below(64) : below(DEXTOLUMEN_LARGEST_BORDER + 1));
     case 12: return (uint16_t)(below(4) << 4);
     case 14: // IMG's corners: x0, y0, x1, y1
-    case 15: return (uint16_t)(below(16) == 0 ? below(8192) : p->came % 2 ? below(24) : below(400));
+    case 15: return (uint16_t)(below(16) == 0 ? below(DEXTOLUMEN_LARGEST_COORDINATE + 1) : p->came % 2 ? below(24) : below(400));
     default: return (uint16_t)chance();
     }
 }
@@ -224,7 +238,7 @@ static struct word fair_word(const struct dextolumen_registers *r) {
     if (below(10) == 0) return (struct word){9, (uint16_t)(below(2) | below(2) << 2)};
     if (below(r->region.way == 1 ? 2 : 40) == 0) return (struct word){0, (uint16_t)chance()};
     uint8_t command = draws[below(sizeof draws)];
-    uint16_t data = (uint16_t)(command < 3 ? chance() : below(8) == 0 ? below(8192) : command == 3 ? below(24) : below(400));
+    uint16_t data = (uint16_t)(command < 3 ? chance() : below(8) == 0 ? below(DEXTOLUMEN_LARGEST_COORDINATE + 1) : command == 3 ? below(24) : below(400));
     return (struct word){command, data};
 }
 
@@ -243,7 +257,7 @@ static size_t any_length(void) {
     switch (below(8)) {
     case 0: return below(300);
     case 1: return 64 * below(64);
-    case 2: return below(MOST + 1);
+    case 2: return below(USUAL + 1);
     default: return below(6000);
     }
 }
@@ -264,9 +278,31 @@ static void contour(void) {
     }
 }
 
+// Throws figures and pixels at the far end: in the highest rows of a tall memory, or in the last columns of a wide one, with corners that reach the
+// largest coordinate. What is stored at the last pixel of a line, and of a picture, is then read back.
+static void far_scene(int tall) {
+    enum { END = DEXTOLUMEN_LARGEST_COORDINATE };
+    const uint16_t x = tall ? 255 : 8767, y = tall ? END : 39, i = (uint16_t)chance();
+    const struct word words[] = {
+        {15, tall ? 0 : 47 << 8}, {14, 4}, {13, 6}, {1, i}, {3, END}, {5, x}, {3, (uint16_t)(y - below(30))}, {4, (uint16_t)(x - below(200))}, {3, y},
+        {4, (uint16_t)(x - below(200))}, {4, END}, {14, 8}, {13, i}, {13, 0}, {3, (uint16_t)(y - below(20))}, {8, (uint16_t)(x - below(200))}, {3, y}, {11, x}, {11, END},
+        {9, 1}, {13, x}, {13, y}, {13, x}, {13, y}};
+    size_t length = tall ? TALL : WIDE, last = (size_t)y * (tall ? 256 : 8768) + x;
+    fill(&im, length);
+    fill(&zm, length);
+    held.record = dextolumen_reset();
+    for (unsigned k = 0; k < sizeof words / sizeof *words; k++) throw(words[k].command, words[k].data);
+    if (lent(&im)[last] != i) fault("the last pixel of a line is not where it should be, just before it", 0, 0);
+    strobe();
+    if (held.record.region.way != 0) fault("the last pixel was not read, just before it", 0, 0);
+    const struct word load[] = {{9, 0}, {13, x}, {13, y}, {13, x}, {13, END}, {0, (uint16_t)~i}};
+    for (unsigned k = 0; k < sizeof load / sizeof *load; k++) throw(load[k].command, load[k].data);
+    if (lent(&im)[last] != (uint16_t)~i) fault("a picture's pixel is not where it should be, just before it", 0, 0);
+}
+
 // Some words at one pair of memories: from reset and mostly fair, or each at a record of its own that may be anything.
 static void scene(int wild) {
-    struct dextolumen_registers start = wild ? held.record : dextolumen_reset();
+    struct dextolumen_registers start = wild ? held.record : below(3) ? dextolumen_reset() : dextolumen_reset_tiled();
     size_t length = any_length();
     for (unsigned k = 0; k < GUARD; k++) {
         held.under[k] = (uint16_t)chance();
@@ -289,24 +325,23 @@ static void scene(int wild) {
 
 // ---- streams
 
-static uint8_t bytes[PER_STREAM * 5 / 2 + 1];
-
-static void put_half(size_t half, unsigned v) { bytes[half / 2] = (uint8_t)(half % 2 ? bytes[half / 2] | v : v << 4); }
+static uint8_t bytes[DEXTOLUMEN_PACKED_SIZE(PER_STREAM)];
 
 // Packs some fair words; every eighth stream is damaged by a byte, at its end or anywhere.
 static size_t stream(void) {
     static uint16_t i_none[1], z_none[1]; // without places the registers go the same way
     struct dextolumen_registers r = dextolumen_reset();
-    size_t half = 0;
+    uint32_t words[PER_STREAM];
+    size_t count = 0;
     for (unsigned k = below(PER_STREAM + 1); k != 0; k--) {
         struct word w = fair_word(&r);
         if (w.command > 15 || dextolumen_step(&r, w.command, w.data, i_none, 0, z_none, 0).refusal != 0) {
             if (below(8)) continue; // most words that would stop the run are left out
         }
-        put_half(half++, w.command & 15);
-        for (int shift = 12; shift >= 0; shift -= 4) put_half(half++, w.data >> shift & 15);
+        words[count++] = (uint32_t)(w.command & 15) << 16 | w.data;
     }
-    size_t length = (half + 1) / 2;
+    uint64_t length = dextolumen_pack(words, count, bytes, sizeof bytes);
+    if (length & DEXTOLUMEN_REFUSED) fault("words of a stream are not packed", 0, 0);
     if (length != 0 && below(8) == 0) {
         if (below(2))
             length--;
@@ -348,9 +383,8 @@ static struct dextolumen_intake trickled(size_t length) {
 // In instalments the whole words end as they end in one call, and the end tells what is wrong with the stream; later calls change nothing.
 static int trickled_alike(size_t length, struct dextolumen_intake s) {
     static uint8_t words[sizeof bytes];
-    size_t count = length * 2 / 5, whole = (count * 5 + 1) / 2;
-    uint64_t flaw = dextolumen_word_count(bytes, length);
-    flaw = flaw & DEXTOLUMEN_REFUSED ? flaw - DEXTOLUMEN_REFUSED : 0;
+    size_t count = DEXTOLUMEN_WORDS_HELD(length), whole = DEXTOLUMEN_PACKED_SIZE(count);
+    uint64_t flaw = dextolumen_refusal(dextolumen_word_count(bytes, length));
     memcpy(words, bytes, whole);
     if (count % 2) words[whole - 1] &= 0xF0;
     struct dextolumen_ended one = dextolumen_run(words, whole, lent(&im), im.length, lent(&zm), zm.length);
@@ -361,14 +395,40 @@ static int trickled_alike(size_t length, struct dextolumen_intake s) {
         && changed(&im, &im_slow) + changed(&zm, &zm_slow) == 0;
 }
 
-// Makes an intake one that breaks a bound, as no call leaves it. Returns 0 where chance left it whole.
-static int break_intake(struct dextolumen_intake *s) {
-    switch (below(6)) {
+// The numbers that a word of a stream gets, and those that the end tells behind so many words.
+static int word_number(uint64_t n) { return n != 1 && (n <= DEXTOLUMEN_NO_FIGURE || n == DEXTOLUMEN_NO_REGION); }
+
+static int end_number(uint64_t n, uint64_t words) {
+    return n == DEXTOLUMEN_ACCEPTED || n == DEXTOLUMEN_BAD_RECORD || n == DEXTOLUMEN_BAD_LENGTH || (n == DEXTOLUMEN_BAD_TAIL && words % 2 == 1);
+}
+
+// A number that neither a word nor the end gives there: a small one, or any.
+static uint64_t wrong_number(uint32_t over, uint64_t words) {
+    uint64_t n;
+    do n = below(4) ? below(16) : chance();
+    while (over ? end_number(n, words) : word_number(n));
+    return n;
+}
+
+// Closes an intake with a number, before the end or at it.
+static void close_with(struct dextolumen_intake *s, uint32_t over, uint64_t n) { s->held = 0, s->count = 0, s->over = over, s->refusal = n; }
+
+enum { WAYS = 12 };
+
+// Makes an intake one that breaks a bound in one of so many ways, as no call leaves it. Returns 0 where chance left it whole.
+static int break_intake(struct dextolumen_intake *s, unsigned way) {
+    switch (way) {
     case 0: s->count = 20 + below(1000); return 1;
     case 1: s->count = 4 * below(5) + 1 + below(3); return 1;
-    case 2: s->held = (uint32_t)(chance() | 1) << s->count; return 1;
-    case 3: s->over = 2 + below(1000); return 1;
-    case 4: s->count = 4 + 4 * below(4); s->held = 0; s->over = 1; return 1;
+    case 2: s->count ^= 4; s->held = 0; return 1; // as many bits as another number of words leaves
+    case 3: s->held = (uint32_t)(chance() | 1) << s->count; return 1;
+    case 4: s->over = 2 + below(1000); return 1;
+    case 5: s->count = 4 + 4 * below(4); s->held = 0; s->over = 1; return 1;
+    case 6: close_with(s, 0, wrong_number(0, s->index)); return 1;
+    case 7: close_with(s, 1, wrong_number(1, s->index)); return 1;
+    case 8: s->index &= ~UINT64_C(1); close_with(s, 1, DEXTOLUMEN_BAD_TAIL); return 1;
+    case 9: *s = dextolumen_begin(); s->index = 2 + 2 * (chance() >> 2); return 1; // words run before INIT
+    case 10: *s = dextolumen_begin(); s->sum = 1 + chance(); return 1;
     default: spoil(&s->registers); break;
     }
     struct dextolumen_registers r = s->registers;
@@ -378,11 +438,39 @@ static int break_intake(struct dextolumen_intake *s) {
 
 // An intake that breaks a bound is refused with 2 by every call, and nothing else changes.
 static int broken_refused(struct dextolumen_intake s, uint64_t *broken) {
-    if (!break_intake(&s)) return 1;
+    unsigned way = below(WAYS);
+    if (!break_intake(&s, way)) return 1;
     struct dextolumen_intake fed = feed_slow(s, bytes, below(sizeof bytes)), ended = finish_slow(s);
     s.refusal = DEXTOLUMEN_BAD_RECORD;
-    ++*broken;
+    broken[way]++;
     return same_intake(&fed, &s) && same_intake(&ended, &s) && changed(&im, &im_slow) + changed(&zm, &zm_slow) == 0;
+}
+
+// How many intakes were broken; 0 where one of the ways never came.
+static uint64_t broken_in_all(const uint64_t *broken) {
+    uint64_t n = 0;
+    for (unsigned way = 0; way < WAYS; way++) {
+        if (broken[way] == 0) return 0;
+        n += broken[way];
+    }
+    return n;
+}
+
+// Every small number that closes an intake, before the end and at it, behind an even and an odd number of words: one that a word or the end
+// gives is given again, and any other is refused with 2.
+static int numbers_bounded(void) {
+    uint16_t none[1];
+    for (unsigned k = 0; k < 2 * 2 * 32; k++) {
+        struct dextolumen_intake s = dextolumen_begin();
+        s.registers.started = 1;
+        s.index = k / 2 % 2;
+        close_with(&s, k % 2, k / 4);
+        if (s.over == 0 && s.refusal == 0) continue;
+        struct dextolumen_intake fed = dextolumen_feed(s, bytes, 1, none, 0, none + 1, 0), ended = dextolumen_finish(s, none, 0, none + 1, 0);
+        if (!(s.over ? end_number(s.refusal, s.index) : word_number(s.refusal))) s.refusal = DEXTOLUMEN_BAD_RECORD;
+        if (!same_intake(&fed, &s) || !same_intake(&ended, &s)) return 0;
+    }
+    return 1;
 }
 
 // A stream in instalments, on memories that may be of unlike length.
@@ -398,15 +486,17 @@ static int slow_alike(uint64_t *broken) {
 
 // ---- a stream in two ways
 
-// In one call, and word by word over the same memories.
+// In one call, and word by word over the same memories, in rows or in tiles.
 static int stream_alike(uint64_t *stopped) {
     size_t length = stream(), places = any_length();
     fill(&im, places);
     fill(&zm, places);
     copy(&im_was, &im);
     copy(&zm_was, &zm);
-    struct dextolumen_ended one = dextolumen_run(bytes, length, lent(&im), places, lent(&zm), places);
-    struct dextolumen_ended two = feed(bytes, length, lent(&im_was), places, lent(&zm_was), places);
+    int rows = below(2) != 0;
+    struct dextolumen_registers start = rows ? dextolumen_reset() : dextolumen_reset_tiled();
+    struct dextolumen_ended one = (rows ? dextolumen_run : dextolumen_run_tiled)(bytes, length, lent(&im), places, lent(&zm), places);
+    struct dextolumen_ended two = feed_from(start, bytes, length, lent(&im_was), places, lent(&zm_was), places);
     *stopped += one.refusal != DEXTOLUMEN_ACCEPTED;
     told_by[one.refusal <= DEXTOLUMEN_NO_REGION ? one.refusal : DEXTOLUMEN_PAST_LAST]++;
     return one.refusal == two.refusal && one.index == two.index && one.sum == two.sum
@@ -419,7 +509,7 @@ static const uint8_t word_numbers[] = {0, 1, 2, 3, 4, 5, 6, 7, 8, 9, 10, 14}, re
 // How often each number came; each must have come.
 static int all_told(const char *what, const uint64_t *told, const uint8_t *numbers, size_t count) {
     for (size_t k = 0; k < count; k++) {
-        printf("storm: a %s got %u: %lu\n", what, numbers[k], (unsigned long)told[numbers[k]]);
+        printf("storm: a %s got %u, %s: %lu\n", what, numbers[k], dextolumen_told_text(numbers[k]), (unsigned long)told[numbers[k]]);
         if (told[numbers[k]] == 0) return 0;
     }
     return 1;
@@ -430,9 +520,12 @@ int main(void) {
     while (thrown < WORDS) scene(below(4) == 0);
     printf("storm: %lu words, %lu accepted\n", (unsigned long)thrown, (unsigned long)told_by[0]);
     if (!all_told("word", told_by, word_numbers, sizeof word_numbers) || !all_told("read", told_read, read_numbers, sizeof read_numbers)) return 1;
-    printf("storm: %lu triangles cut, %lu drawn before the section; %lu segments whole but for the bend\n", (unsigned long)cut, (unsigned long)uncut,
-        (unsigned long)bends);
-    if (cut == 0 || uncut == 0 || bends == 0) return 1;
+    printf("storm: %lu triangles cut, %lu drawn before the section; %lu segments whole but for the bend; %lu words drew over tiles\n", (unsigned long)cut,
+        (unsigned long)uncut, (unsigned long)bends, (unsigned long)tiled);
+    if (cut == 0 || uncut == 0 || bends == 0 || tiled == 0) return 1;
+    for (unsigned k = 0; k < FAR_SCENES; k++) far_scene(k % 2 == 0);
+    printf("storm: %lu places changed in rows from 8192 on, %lu in columns from 8192 on\n", (unsigned long)high, (unsigned long)wide);
+    if (high == 0 || wide == 0) return 1;
     uint64_t stopped = 0;
     for (unsigned k = 0; k < STREAMS; k++)
         if (!stream_alike(&stopped)) {
@@ -444,16 +537,20 @@ int main(void) {
         return 1;
     }
     printf("storm: %u streams, %lu stopped by a refusal\n", STREAMS, (unsigned long)stopped);
-    uint64_t broken = 0;
+    uint64_t broken[WAYS] = {0};
     for (unsigned k = 0; k < STREAMS; k++)
-        if (!slow_alike(&broken)) {
+        if (!slow_alike(broken)) {
             printf("storm: stream %u: in instalments it ends unlike\n", k);
             return 1;
         }
-    if (broken == 0) {
-        printf("storm: no intake was broken\n");
+    if (broken_in_all(broken) == 0) {
+        printf("storm: no intake was broken in one of the ways\n");
         return 1;
     }
-    printf("storm: %u streams in instalments, %lu broken intakes\n", STREAMS, (unsigned long)broken);
+    if (!numbers_bounded()) {
+        printf("storm: an intake's number is taken or refused wrongly\n");
+        return 1;
+    }
+    printf("storm: %u streams in instalments, %lu broken intakes\n", STREAMS, (unsigned long)broken_in_all(broken));
     return fflush(stdout) != 0;
 }

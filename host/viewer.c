@@ -17,6 +17,7 @@ enum {
 };
 
 static uint8_t bytes[LIMIT];
+static uint32_t words[DEXTOLUMEN_WORDS_HELD(LIMIT)];
 static uint16_t im[PLACES], zm[PLACES];
 static uint16_t sent[PLACES]; // the card's picture when squares were last listed
 static uint16_t view[PLACES + GUARD];
@@ -42,23 +43,23 @@ static uint64_t refresh(uint64_t word) {
 
 int main(void) {
     size_t length = fread(bytes, 1, sizeof bytes, stdin);
-    uint64_t words = dextolumen_word_count(bytes, length), changes = 0, total = 0;
+    uint64_t count = dextolumen_unpack(bytes, length, words, sizeof words / sizeof *words), changes = 0, total = 0;
     struct dextolumen_registers registers = dextolumen_reset();
-    if (ferror(stdin) || words & DEXTOLUMEN_REFUSED) fault("no recording", 0);
+    if (ferror(stdin)) fault("no recording", 0);
+    if (count & DEXTOLUMEN_REFUSED) fault(dextolumen_told_text(dextolumen_refusal(count)), 0);
     for (size_t at = 0; at < PLACES; at++) zm[at] = 65535;
     for (size_t at = PLACES; at < PLACES + GUARD; at++) view[at] = 0xABCD;
-    for (uint64_t k = 0; k < words; k++) {
-        uint64_t word = dextolumen_word_at(bytes, length, k);
-        struct dextolumen_told told = dextolumen_step(&registers, (uint8_t)(word >> 16), (uint16_t)word, im, PLACES, zm, PLACES);
-        if (told.refusal != DEXTOLUMEN_ACCEPTED) fault("refused", k);
+    for (uint64_t k = 0; k < count; k++) {
+        struct dextolumen_told told = dextolumen_step(&registers, (uint8_t)(words[k] >> 16), (uint16_t)words[k], im, PLACES, zm, PLACES);
+        if (told.refusal != DEXTOLUMEN_ACCEPTED) fault(dextolumen_told_text(told.refusal), k);
         if (registers.frame.line != WIDTH) fault("another line length", k);
-        uint64_t count = refresh(k);
-        if (count > told.passed) fault("more squares than pixels that passed", k);
-        changes += count != 0;
-        total += count;
+        uint64_t listed = refresh(k);
+        if (listed > told.passed) fault("more squares than pixels that passed", k);
+        changes += listed != 0;
+        total += listed;
     }
-    if (changes == 0) fault("nothing was drawn", words);
-    printf("viewer: %lu words, %lu of them changed the picture, and %lu squares kept the viewer current\n", (unsigned long)words,
+    if (changes == 0) fault("nothing was drawn", count);
+    printf("viewer: %lu words, %lu of them changed the picture, and %lu squares kept the viewer current\n", (unsigned long)count,
            (unsigned long)changes, (unsigned long)total);
     return fflush(stdout) != 0;
 }

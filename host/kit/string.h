@@ -2,5 +2,6 @@
 #include <stddef.h>
 int memcmp(const void *, const void *, size_t);
 void *memcpy(void *, const void *, size_t);
+void *memset(void *, int, size_t);
 int strcmp(const char *, const char *);
 size_t strlen(const char *);

@@ -50,7 +50,8 @@ pub const IMAGE_BITS: i64 = 0x0005;
 pub const DEPTH_TEST: i64 = 0x0040;
 pub const SECTIONING: i64 = 0x0020;
 
-/// The largest coordinate and the largest window border.
+/// The largest coordinate, of a vertex and of an image, and the largest
+/// window border (document 01).
 pub const LARGEST_COORDINATE: i64 = 8191;
 pub const LARGEST_BORDER: i64 = 8192;
 
@@ -89,7 +90,7 @@ fn applies(number: i64, registers: &Registers, word: Word) -> bool {
         5 => command == 0xA || command == AUX && data == 11,
         6 => awaited && ![PARM, INIT].contains(&command),
         7 => command == PARM && !awaited,
-        // The AUX number is all 16 bits (READINGS.md, "Refusals").
+        // The AUX number is all 16 bits (docs/READINGS.md, "Refusals").
         8 => command == AUX && data > 12,
         9 => !value_allowed(registers, word),
         10 => !fits_figure(registers, command),
@@ -122,7 +123,7 @@ fn value_allowed(registers: &Registers, word: Word) -> bool {
 }
 
 /// Whether a parameter is allowed at the position where it comes. It is
-/// judged when it comes, WINDOW's fifth too (READINGS.md, "Refusals").
+/// judged when it comes, WINDOW's fifth too (docs/READINGS.md, "Refusals").
 fn parameter_allowed(awaiting: &Awaiting, data: i64) -> bool {
     match (awaiting.subcommand, awaiting.parked.len()) {
         (PMODE, _) => data <= 1,
@@ -143,7 +144,7 @@ fn only_bits_of(data: i64, allowed: i64) -> bool {
 }
 
 /// Row 10: X or PX must fit the open figure; other words always do. What
-/// counts is the line mode of this moment (READINGS.md, "Refusals").
+/// counts is the line mode of this moment (docs/READINGS.md, "Refusals").
 fn fits_figure(registers: &Registers, command: i64) -> bool {
     match (command, &registers.open) {
         (X, Open::Strip(_)) | (X, Open::Fan(_)) => true,
@@ -172,7 +173,7 @@ fn accept(mut registers: Registers, word: Word) -> Accepted {
     match word.command {
         INIT => {
             let length = init_line_length(data).expect("judged before");
-            registers = Registers::initial(length);
+            registers = Registers::initial(length, registers.layout);
         }
         AUX => registers.awaiting = Some(Awaiting { subcommand: data, parked: Vec::new() }),
         IMG => {
@@ -270,7 +271,7 @@ fn take_vertex(registers: &mut Registers, x: i64) -> Option<Figure> {
             let (from, mode, visible) = (line.end, registers.line_mode, !registers.invisible);
             let segment = Figure::Segment { from, to: vertex, mode, before: line.made.clone() };
             // An invisible segment moves on and closes on END all the same;
-            // INV and END stay as they are (READINGS.md, "Figures" and
+            // INV and END stay as they are (docs/READINGS.md, "Figures" and
             // "Registers").
             line.made.push(Made { steps: last_step(from, vertex), mode, visible });
             line.end = vertex;

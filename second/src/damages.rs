@@ -53,7 +53,7 @@ fn damage(random: &mut Random, bytes: &mut Vec<u8>) {
 }
 
 /// Writes for each seed SEED.rec, the damaged recording; SEED.good, what it
-/// is mended to; SEED.said, the list and the summary; and SEED.drawn, what
+/// is mended to; SEED.said, the list and the summary or nothing; and SEED.drawn, what
 /// the drawing program should print for SEED.good, if that is short enough.
 pub fn write(first: u64, count: u64, directory: &str) -> Result<(), String> {
     let directory = Path::new(directory);

@@ -101,7 +101,7 @@ fn single_words() -> Vec<Edge> {
 /// All line codes with two crossing lines; chips, unit and page codes.
 fn inits() -> Vec<Edge> {
     let mut edges = Vec::new();
-    let cross = "30001 80000 E000C D0000 B1FFF 30000 80002 E000C D0000 31FFF B0002 ";
+    let cross = "30001 80000 E000C D0000 B3FFF 30000 80002 E000C D0000 33FFF B0002 ";
     for code in 0..64 {
         let words = format!("{}E0004 D0006 {}", word(0xF, code * 256), cross);
         edges.push(edge(format!("line-code-{}", code), &words));
@@ -241,8 +241,8 @@ const TRIANGLES: [(&str, &str); 22] = [
     ("triangle-two-points-alike", "10001 30003 50003 40003 30008 40009"),
     ("triangle-level", "10001 30003 50003 40009 40004"),
     ("triangle-gouraud-rounding", "1000A 20003 30000 50000 10005 20000 40007 10000 2FFFF 30005 40003"),
-    ("triangle-gouraud-extremes", "1FFFF 2FFFF 30000 50000 41FFF 31FFF 40000"),
-    ("triangle-gouraud-slope", "10000 20000 30000 50000 1FFFF 2FFFF 41FFF 10000 20000 31FFF 40000"),
+    ("triangle-gouraud-extremes", "1FFFF 2FFFF 30000 50000 43FFF 33FFF 40000"),
+    ("triangle-gouraud-slope", "10000 20000 30000 50000 1FFFF 2FFFF 43FFF 10000 20000 33FFF 40000"),
     ("triangle-constant-completing", "E0000 D0001 10001 20001 30000 50000 10002 20002 40009 10003 20003 30009 40000"),
     ("strip-square", "10001 30000 50000 4000A 3000A 40000 4000A"),
     ("fan-square", "10001 30000 60000 4000A 3000A 4000A 40000"),
@@ -253,7 +253,7 @@ const TRIANGLES: [(&str, &str); 22] = [
     ("strip-mode-changes", "10009 30000 50000 40008 E0000 D0001 10004 30008 40000 E0000 D0000 10002 40008 E0001 D0000 30010 40000"),
     ("triangle-planes", "E000A D00F0 1FFFF 30000 50000 40008 30008 40000 E000A D0F0F 1A5A5 30000 50000 40008 30008 40000"),
     ("triangle-planes-none", "E000A D0000 1FFFF 30000 50000 40008 30008 40000"),
-    ("triangle-past-the-border", "10003 30000 500F0 30030 40120 30010 400F0 31FFF 41FFF"),
+    ("triangle-past-the-border", "10003 30000 500F0 30030 40120 30010 400F0 33FFF 43FFF"),
 ];
 
 /// Lines, after BEGIN.
@@ -274,7 +274,7 @@ const LINES: [(&str, &str); 21] = [
     ("line-joint-once", "80000 E000C D0000 B0008 30008 B0008 30000 B0000"),
     ("line-modes-0-and-1-keep-depth", "E0003 D0040 20005 80000 E000C D0000 B0008 E0001 D0000 B0000"),
     ("line-mode-2-depth-without-test", "E0001 D0002 20005 10003 80000 E000C D0000 20009 40008 20001 40000"),
-    ("line-across-all", "10005 E0001 D0002 80000 E000C D0000 31FFF 41FFF 30000 41FFF 31FFF 40000"),
+    ("line-across-all", "10005 E0001 D0002 80000 E000C D0000 33FFF 43FFF 30000 43FFF 33FFF 40000"),
     ("line-mode-changes", "10003 80000 E000C D0000 B0008 E0001 D0002 10009 30008 40008 E0001 D0000 E0008 D0002 D0001 B0000"),
     ("line-px-vertex-keeps-numbers", "10003 20003 80000 E000C D0000 10007 20007 B0008 E0001 D0002 10003 20003 30009 40008"),
     ("line-mode-2-ignores-pattern", "E0001 D0002 E0009 D0000 D0000 E0005 D0000 10004 80000 E000C D0010 40008"),
@@ -399,7 +399,7 @@ const PICTURES: [(&str, &str); 26] = [
     ("picture-bit-2-is-not-used", "90004 D0009 D0009 D000A D0009 00007 00008"),
     ("picture-past-the-right-border", "90000 D00FE D0001 D0101 D0002 00001 00002 00003 00004 00005 00006 00007 00008"),
     ("picture-past-the-last-row", "90000 D0001 D0021 D0001 D001E 00001 00002 00003 00004"),
-    ("picture-far-outside", "90000 D1FFF D1FFF D1FFE D1FFF 00001 00002 00003"),
+    ("picture-far-outside", "90000 D3FFF D3FFF D3FFE D3FFF 00001 00002 00003"),
     ("picture-outside-the-window", "E0006 D0000 D0001 D0001 D0000 D0000 90000 D0008 D0008 D0009 D0008 00007 00008"),
     ("picture-through-transparency", "E0005 D0000 90000 D0008 D0008 D0009 D0008 00007 00008"),
     ("picture-depth-is-not-tested", "E0003 D0040 E0004 D000E 90000 D0000 D0000 D0001 D0000 0FFFF 0FFFF E0004 D0006 10005 20009 50000 40004 30004 40000"),

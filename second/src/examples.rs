@@ -5,7 +5,7 @@ use crate::edges::{packed, SHEET_LINES};
 use crate::figures::{between, step_at, Figure};
 use crate::picture::{transparency_keeps, Picture};
 use crate::printing::drawing;
-use crate::registers::{line_length_of, Registers, Vertex, CONSTANT, GOURAUD};
+use crate::registers::{line_length_of, Layout, Registers, Vertex, CONSTANT, GOURAUD};
 use crate::run::{run, Outcome};
 use crate::stream::{pack, unpack};
 
@@ -30,7 +30,7 @@ fn line(from: (i64, i64), to: (i64, i64)) -> Vec<(i64, i64)> {
 fn triangle(corners: [(i64, i64); 3]) -> Vec<(i64, i64)> {
     let corners = corners.map(|corner| vertex(corner.0, corner.1));
     let figure = Figure::Triangle { corners, shading: GOURAUD };
-    let registers = Registers::initial(256);
+    let registers = Registers::initial(256, Layout::Rows);
     let mut covered = Vec::new();
     for y in 0..20 {
         for x in 0..20 {
@@ -190,6 +190,12 @@ fn limits() {
     assert_eq!(last_refusal("F0000 E0006 D2001"), 9);
     assert_eq!(last_refusal("F0000 E0006 D2000 D2000 D2000 D2001"), 9);
     assert_eq!(last_refusal("F0000 E0006 D2000 D2000 D2000 D2000 D0001"), 9);
+    assert_eq!(last_refusal("F0000 90000 D1FFF D1FFF D1FFF D1FFF"), 0);
+    assert_eq!(last_refusal("F0000 90000 D1FFF D1FFF D1FFF D2000"), 9);
+    let tall = Picture::cleared(256 * 8193);
+    let rows = |line_length, layout| tall.rows(&Registers::initial(line_length, layout));
+    assert_eq!((rows(256, Layout::Rows), rows(512, Layout::Rows)), (8192, 4096));
+    assert_eq!((rows(256, Layout::Tiles), rows(384, Layout::Tiles)), (8192, 5460));
 }
 
 #[test]
@@ -326,7 +332,7 @@ fn constant_triangles_take_the_completing_vertex() {
         ],
         shading: CONSTANT,
     };
-    let numbers = figure.at(&Registers::initial(256), 1, 1).unwrap();
+    let numbers = figure.at(&Registers::initial(256, Layout::Rows), 1, 1).unwrap();
     assert_eq!((numbers.i, numbers.z), (5, Some(6)));
 }
 

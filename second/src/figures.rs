@@ -161,7 +161,7 @@ pub fn since_lx(made: &[Made]) -> i64 {
 
 /// Whether the last segment that a line has made was visible and of mode 0
 /// or 1: then one of mode 0 or 1 after it leaves out its first point
-/// (document 02, [2]), also if it was of no length (READINGS.md, [2]).
+/// (document 02, [2]), also if it was of no length (docs/READINGS.md, [2]).
 pub fn follows_dashes(made: &[Made]) -> bool {
     matches!(made.last(), Some(Made { mode: 0 | 1, visible: true, .. }))
 }

@@ -80,7 +80,7 @@ fn await_parameter(program: &mut Program) {
     }
     let subcommand = program.random.pick(&[0, 1, 2, 3, 4, 5, 6, 6, 6, 7, 8, 8, 9, 9, 10, 12]);
     let given = program.random.below(parameter_count(subcommand) as i64);
-    let parameters: Vec<i64> = (0..given).map(|_| program.random.below(8193)).collect();
+    let parameters: Vec<i64> = (0..given).map(|_| program.random.below(LARGEST_BORDER + 1)).collect();
     program.subcommand(subcommand, &parameters);
 }
 
@@ -107,14 +107,14 @@ fn word_for_a_parameter(program: &mut Program) {
     let data = if command == AUX {
         program.random.pick(&[0, 1, 2, 3, 4, 5, 6, 7, 8, 9, 10, 12, 13, 0x0102, 65535])
     } else {
-        program.random.pick(&[0, 5, 200, 8191, 8192, 9000, 65535])
+        program.random.pick(&[0, 5, 200, LARGEST_COORDINATE, LARGEST_COORDINATE + 1, 20000, 65535])
     };
     program.push(command, data);
 }
 
 fn stray_parameter(program: &mut Program) {
     let any = program.random.below(65536);
-    let data = program.random.pick(&[0, 1, 8192, 65535, any]);
+    let data = program.random.pick(&[0, 1, LARGEST_BORDER, 65535, any]);
     program.push(PARM, data);
 }
 
@@ -134,9 +134,10 @@ fn value_not_allowed(program: &mut Program) {
 }
 
 fn bad_coordinate(program: &mut Program) {
-    let any = program.random.from_to(8192, 65535);
+    let any = program.random.from_to(LARGEST_COORDINATE + 1, 65535);
     let command = program.random.pick(&[Y, X, T1X, T2X, LX, PX]);
-    let data = program.random.pick(&[8192, 8192, 8192, 8193, 65535, any]);
+    let past = LARGEST_COORDINATE + 1;
+    let data = program.random.pick(&[past, past, past, past + 1, 65535, any]);
     program.push(command, data);
 }
 
@@ -177,7 +178,7 @@ fn bad_bit(program: &mut Program, subcommand: i64, allowed: i64) {
 fn bad_border(program: &mut Program) {
     let position = program.random.below(4) as usize;
     let mut borders = vec![3, 20, 200, 2];
-    borders[position] = program.random.pick(&[8193, 8194, 65535]);
+    borders[position] = program.random.pick(&[LARGEST_BORDER + 1, LARGEST_BORDER + 2, 65535]);
     borders.truncate(position + 1);
     program.subcommand(WINDOW, &borders);
 }
@@ -240,7 +241,7 @@ fn limits(mut program: Program) -> Vec<u8> {
     }
     if program.random.once_in(2) {
         match program.random.below(5) {
-            0 => program.subcommand(WINDOW, &[8192, 8192, 8192, 8193]),
+            0 => program.subcommand(WINDOW, &[LARGEST_BORDER, LARGEST_BORDER, LARGEST_BORDER, LARGEST_BORDER + 1]),
             1 => bad_parameter(&mut program),
             2 => bad_init(&mut program),
             _ => bad_coordinate(&mut program),
@@ -252,9 +253,9 @@ fn limits(mut program: Program) -> Vec<u8> {
 
 fn limit_setting(program: &mut Program) {
     match program.random.below(7) {
-        0 => program.subcommand(WINDOW, &[0, 8192, 8192, 0, 0]),
-        1 => program.subcommand(WINDOW, &[8192, 8192, 8192, 8192, 0]),
-        2 => program.subcommand(WINDOW, &[0, 8191, 8191, 0, 0]),
+        0 => program.subcommand(WINDOW, &[0, LARGEST_BORDER, LARGEST_BORDER, 0, 0]),
+        1 => program.subcommand(WINDOW, &[LARGEST_BORDER, LARGEST_BORDER, LARGEST_BORDER, LARGEST_BORDER, 0]),
+        2 => program.subcommand(WINDOW, &[0, LARGEST_COORDINATE, LARGEST_COORDINATE, 0, 0]),
         3 => program.subcommand(HCONTROL, &[HARDWARE_BITS]),
         4 => program.subcommand(COLOR, &[65535, 65535]),
         5 => {
@@ -278,13 +279,14 @@ fn limit_init(program: &mut Program) {
 
 fn limit_point(program: &mut Program) -> i64 {
     let (near_x, near_y) = (program.x(), program.y());
-    let y = program.random.pick(&[0, 0, 8191, 8190, near_y, near_y, near_y]);
+    let far = [LARGEST_COORDINATE, LARGEST_COORDINATE - 1];
+    let y = program.random.pick(&[0, 0, far[0], far[1], near_y, near_y, near_y]);
     let i = program.random.pick(&[0, 1, 65535, 65535, 65534]);
     let z = program.random.pick(&[0, 1, 65535, 65534, 65534]);
     program.push(I, i);
     program.push(Z, z);
     program.push(Y, y);
-    program.random.pick(&[0, 0, 8191, 8190, near_x, near_x, near_x])
+    program.random.pick(&[0, 0, far[0], far[1], near_x, near_x, near_x])
 }
 
 fn limit_figure(program: &mut Program) {

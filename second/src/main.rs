@@ -31,6 +31,7 @@ mod squares;
 mod starts;
 mod stream;
 mod strobes;
+mod surface;
 mod transfers;
 mod vectors;
 
@@ -39,7 +40,7 @@ use std::process::ExitCode;
 
 const USAGE: &str = "usage: second draw | receive | pack | unpack | generate SEED | seeds FIRST COUNT DIR | cuts FIRST COUNT DIR | vectors DIR | \
     shares FIRST COUNT | mend | damages FIRST COUNT DIR | squares FIRST COUNT DIR | answer | scripts FIRST COUNT DIR | \
-    overdraw | directories FIRST COUNT DIR";
+    overdraw | directories FIRST COUNT DIR | surface | image PLACES";
 
 fn main() -> ExitCode {
     let arguments: Vec<String> = std::env::args().skip(1).collect();
@@ -71,6 +72,8 @@ fn dispatch(arguments: &[&str]) -> Result<(), String> {
         ["squares", first, count, directory] => pictures::write(number(first)?, number(count)?, directory),
         ["overdraw"] => write_out(overdraw::report(std::path::Path::new("."))?.as_bytes()),
         ["directories", first, count, directory] => directories::write(number(first)?, number(count)?, directory),
+        ["surface"] => write_out(&surface::recording()),
+        ["image", places] => write_out(&printing::image(&read_all()?, number(places)? as usize)?),
         _ => Err(USAGE.to_string()),
     }
 }
@@ -141,6 +144,9 @@ fn print_shares(first: u64, count: u64) -> Result<(), String> {
     }
     if !shares.ties_often() {
         return Err("lines that tie are rare".to_string());
+    }
+    if !shares.far_often() {
+        return Err("figures that reach the largest coordinate are rare".to_string());
     }
     Ok(())
 }

@@ -69,8 +69,12 @@ impl Mended {
         pack_words(&self.kept)
     }
 
-    /// What is said of it: the dropped words, a line each, and the summary.
+    /// What is said of it: the dropped words, a line each, and the summary;
+    /// nothing where nothing was mended.
     pub fn said(&self) -> String {
+        if self.dropped.is_empty() && self.cut == 0 && !self.cleared {
+            return String::new();
+        }
         let mut text = String::new();
         for dropped in &self.dropped {
             let Word { command, data } = dropped.word;
@@ -140,7 +144,7 @@ mod tests {
         let good = pack(&[0xF0000, 0xE0004, 0xD0006]).unwrap();
         let mended = mend(&good);
         assert_eq!(mended.stream(), good);
-        assert_eq!(mended.said(), "kept 3 dropped 0 cut 0 cleared 0\n");
+        assert_eq!(mended.said(), "");
         assert_eq!(drawn_skipping(&good), drawing(&good));
     }
 }

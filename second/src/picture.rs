@@ -2,10 +2,10 @@
 
 use crate::commands::Accepted;
 use crate::figures::{Figure, Numbers};
-use crate::registers::{bit, Registers, Window};
+use crate::registers::{bit, Layout, Registers, Window};
 use std::cmp::Ordering;
 
-/// The most rows that are ever in use.
+/// The most rows that are ever in use (document 01).
 const MOST_ROWS: i64 = 8192;
 /// The depth that all places start with.
 const FARTHEST: i64 = 65535;
@@ -41,9 +41,14 @@ impl Picture {
         Picture { i: vec![0; places], z: vec![FARTHEST; places], ties: Ties::default() }
     }
 
-    /// The whole rows that fit, at most 8,192.
-    pub fn rows(&self, line_length: i64) -> i64 {
-        (self.i.len() as i64 / line_length).min(MOST_ROWS)
+    /// The whole rows that fit, in tiles those of the whole bands of four, at
+    /// most 8,192.
+    pub fn rows(&self, registers: &Registers) -> i64 {
+        let rows = self.i.len() as i64 / registers.line_length;
+        match registers.layout {
+            Layout::Rows => rows.min(MOST_ROWS),
+            Layout::Tiles => (rows - rows % 4).min(MOST_ROWS),
+        }
     }
 
     /// Draws a figure under the settings of the registers, and counts the
@@ -55,7 +60,7 @@ impl Picture {
         let highest_x = points.iter().map(|point| point.x).max().unwrap_or(0);
         let lowest_y = points.iter().map(|point| point.y).min().unwrap_or(0);
         let lowest_x = points.iter().map(|point| point.x).min().unwrap_or(0);
-        for y in lowest_y..self.rows(registers.line_length).min(highest_y + 1) {
+        for y in lowest_y..self.rows(registers).min(highest_y + 1) {
             for x in lowest_x..registers.line_length.min(highest_x + 1) {
                 if let Some(numbers) = offered(figure, registers, x, y) {
                     if self.offer(figure, numbers, registers, x, y) {
@@ -71,11 +76,12 @@ impl Picture {
     /// stands; no figure offers a pixel twice, so none is in another's way.
     pub fn fates(&self, figure: &Figure, registers: &Registers) -> Vec<bool> {
         let line_length = registers.line_length;
-        let places = 0..line_length * self.rows(line_length);
-        places
-            .filter_map(|place| {
-                let numbers = offered(figure, registers, place % line_length, place / line_length)?;
-                Some(passes(figure, numbers, registers, self.z[place as usize]))
+        let pixels = 0..line_length * self.rows(registers);
+        pixels
+            .filter_map(|pixel| {
+                let (x, y) = (pixel % line_length, pixel / line_length);
+                let numbers = offered(figure, registers, x, y)?;
+                Some(passes(figure, numbers, registers, self.z[place(x, y, registers)]))
             })
             .collect()
     }
@@ -90,15 +96,15 @@ impl Picture {
     }
 
     /// Where a pixel stands, if it is inside the memory.
-    fn place(&self, x: i64, y: i64, line_length: i64) -> Option<usize> {
-        let inside = x < line_length && y < self.rows(line_length);
-        inside.then_some((y * line_length + x) as usize)
+    fn place(&self, x: i64, y: i64, registers: &Registers) -> Option<usize> {
+        let inside = x < registers.line_length && y < self.rows(registers);
+        inside.then_some(place(x, y, registers))
     }
 
     /// A pixel of a picture is stored by the write enables and, in I, by the
     /// planes; neither window nor depth test is asked.
     pub fn store(&mut self, pixel: &Pixel, registers: &Registers) {
-        let Some(place) = self.place(pixel.x, pixel.y, registers.line_length) else { return };
+        let Some(place) = self.place(pixel.x, pixel.y, registers) else { return };
         if registers.pictures_are_depths() {
             if registers.z_enabled() {
                 self.z[place] = pixel.value;
@@ -110,7 +116,7 @@ impl Picture {
 
     /// The number at a pixel of a picture; 0 outside the memory.
     pub fn read(&self, x: i64, y: i64, registers: &Registers) -> i64 {
-        match self.place(x, y, registers.line_length) {
+        match self.place(x, y, registers) {
             None => 0,
             Some(place) if registers.pictures_are_depths() => self.z[place],
             Some(place) => self.i[place],
@@ -120,7 +126,7 @@ impl Picture {
     /// Offers one pixel, which is inside the memory, and stores it if it
     /// passes.
     fn offer(&mut self, figure: &Figure, numbers: Numbers, registers: &Registers, x: i64, y: i64) -> bool {
-        let place = (y * registers.line_length + x) as usize;
+        let place = place(x, y, registers);
         if !passes(figure, numbers, registers, self.z[place]) {
             return false;
         }
@@ -143,6 +149,21 @@ impl Picture {
             self.ties.with_drawn += 1;
         }
     }
+}
+
+/// Where a pixel inside the memory stands. In tiles a band of four rows has
+/// four times the line length of places, and each tile along it sixteen, row
+/// by row.
+fn place(x: i64, y: i64, registers: &Registers) -> usize {
+    let line_length = registers.line_length;
+    let place = match registers.layout {
+        Layout::Rows => line_length * y + x,
+        Layout::Tiles => {
+            let (band, tile) = (y.div_euclid(4), x.div_euclid(4));
+            4 * line_length * band + 16 * tile + 4 * (y - 4 * band) + (x - 4 * tile)
+        }
+    };
+    place as usize
 }
 
 /// The numbers that a figure offers at a pixel of the memory, if the window,
@@ -179,7 +200,7 @@ pub fn transparency_keeps(transparency: i64, x: i64, y: i64) -> bool {
 /// With the depth test on, what has a depth passes where that is nearer than
 /// the old one; at equal depth a mode 2 line passes and a triangle does not
 /// (document 02, [10]). Everything else offered passes. The old depth is read
-/// with Z writing off too (READINGS.md, "Figures").
+/// with Z writing off too (docs/READINGS.md, "Figures").
 fn passes(figure: &Figure, numbers: Numbers, registers: &Registers, old_depth: i64) -> bool {
     match numbers.z {
         Some(depth) if registers.depth_test => match depth.cmp(&old_depth) {

@@ -197,12 +197,12 @@ impl Program {
     fn window_setting(&mut self) {
         let (length, rows) = (self.length(), self.rows());
         match self.random.below(8) {
-            0 | 1 => self.subcommand(WINDOW, &[0, 8192, 8192, 0, 0]),
+            0 | 1 => self.subcommand(WINDOW, &[0, LARGEST_BORDER, LARGEST_BORDER, 0, 0]),
             2 => self.empty_window(),
             3 => self.single_pixel_window(),
             _ => {
                 let left = self.random.below(length / 2 + 1);
-                let right = self.random.from_to(left, length + 10).min(LARGEST_BORDER);
+                let right = self.random.from_to(left, length + 10);
                 let bottom = self.random.below(rows / 2 + 1);
                 let top = self.random.from_to(bottom, rows + 5);
                 self.subcommand(WINDOW, &[left, top, right, bottom, 0]);
@@ -213,15 +213,15 @@ impl Program {
     fn empty_window(&mut self) {
         if self.random.once_in(2) {
             let left = self.random.from_to(1, self.length());
-            self.subcommand(WINDOW, &[left.min(8192), 8192, left.min(8192) - 1, 0, 0]);
+            self.subcommand(WINDOW, &[left, LARGEST_BORDER, left - 1, 0, 0]);
         } else {
             let bottom = self.random.from_to(1, self.rows() + 1);
-            self.subcommand(WINDOW, &[0, bottom - 1, 8192, bottom, 0]);
+            self.subcommand(WINDOW, &[0, bottom - 1, LARGEST_BORDER, bottom, 0]);
         }
     }
 
     fn single_pixel_window(&mut self) {
-        let x = self.random.below(self.length()).min(LARGEST_BORDER);
+        let x = self.random.below(self.length());
         let y = self.random.below(self.rows());
         self.subcommand(WINDOW, &[x, y, x, y, 0]);
     }
@@ -288,7 +288,7 @@ impl Program {
     fn coordinate(&mut self, start: i64, side: i64, end: i64) -> i64 {
         let coordinate = match self.random.below(40) {
             0 => LARGEST_COORDINATE,
-            1 => self.random.below(8192),
+            1 => self.random.below(LARGEST_COORDINATE + 1),
             2 | 3 => end + self.random.below(30),
             4 => end - 1,
             5 => 0,
@@ -480,7 +480,7 @@ impl Program {
 
     /// Puts settings that hide much back, so that what follows shows.
     fn uncover(&mut self) {
-        self.subcommand(WINDOW, &[0, 8192, 8192, 0, 0]);
+        self.subcommand(WINDOW, &[0, LARGEST_BORDER, LARGEST_BORDER, 0, 0]);
         self.subcommand(HCONTROL, &[6]);
         self.subcommand(MASK, &[0xFFFF]);
     }

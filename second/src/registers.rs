@@ -1,9 +1,10 @@
 //! The registers, and what reset and INIT make of them.
 
+use crate::commands::LARGEST_BORDER;
 use crate::regions::Region;
 
 /// A vertex: the X data with the I, Z and Y registers of its moment. A PX
-/// vertex freezes them too (READINGS.md, "Registers").
+/// vertex freezes them too (docs/READINGS.md, "Registers").
 #[derive(Clone, Copy, Debug, PartialEq, Eq)]
 pub struct Vertex {
     pub x: i64,
@@ -52,6 +53,14 @@ pub struct Awaiting {
     pub parked: Vec<i64>,
 }
 
+/// How pixels lie in both memories: rows one after the other, or tiles of
+/// four by four (document 02, [9]).
+#[derive(Clone, Copy, Debug, PartialEq, Eq)]
+pub enum Layout {
+    Rows,
+    Tiles,
+}
+
 pub const GOURAUD: i64 = 0;
 pub const CONSTANT: i64 = 1;
 
@@ -60,6 +69,8 @@ pub struct Registers {
     /// An INIT was accepted since reset.
     pub initialised: bool,
     pub line_length: i64,
+    /// Chosen at reset; it stays through INIT.
+    pub layout: Layout,
     /// 0 Gouraud, 1 constant.
     pub shading: i64,
     pub line_mode: i64,
@@ -90,11 +101,12 @@ pub struct Registers {
 }
 
 impl Registers {
-    /// What INIT sets, for a line length.
-    pub fn initial(line_length: i64) -> Registers {
+    /// What INIT sets, for a line length and the layout that stays.
+    pub fn initial(line_length: i64, layout: Layout) -> Registers {
         Registers {
             initialised: true,
             line_length,
+            layout,
             shading: GOURAUD,
             line_mode: 1,
             depth_test: false,
@@ -102,9 +114,9 @@ impl Registers {
             section: 0xFFFF,
             hardware: 0,
             transparency: 0xFFFF,
-            // 0 to 8192 both ways; y rises upward, so top is 8192
-            // (READINGS.md, "Registers").
-            window: Window { left: 0, top: 8192, right: 8192, bottom: 0 },
+            // 0 to the largest border both ways (document 01); y rises
+            // upward, so top is the larger (docs/READINGS.md, "Registers").
+            window: Window { left: 0, top: LARGEST_BORDER, right: LARGEST_BORDER, bottom: 0 },
             foreground: 1,
             background: 0,
             line_pattern: 0xFFFF_FFFF,
@@ -122,7 +134,12 @@ impl Registers {
 
     /// Reset: the same with line length 256, and no INIT accepted yet.
     pub fn reset() -> Registers {
-        Registers { initialised: false, ..Registers::initial(256) }
+        Registers::reset_to(Layout::Rows)
+    }
+
+    /// Reset, with the layout that it chooses.
+    pub fn reset_to(layout: Layout) -> Registers {
+        Registers { initialised: false, ..Registers::initial(256, layout) }
     }
 
     /// HCONTROL bit 2.

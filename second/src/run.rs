@@ -1,9 +1,9 @@
-//! Running a packed stream from reset.
+//! Running a packed stream from reset, in either layout.
 
 use crate::commands;
 use crate::figures::Figure;
 use crate::picture::Picture;
-use crate::registers::Registers;
+use crate::registers::{Layout, Registers};
 use crate::stream;
 
 /// What a run tells, and the line length it leaves.
@@ -23,10 +23,18 @@ pub fn run(bytes: &[u8], picture: &mut Picture) -> Outcome {
     watched(bytes, picture, |_, _, _| ())
 }
 
+/// The same over memories in tiles.
+pub fn run_tiled(bytes: &[u8], picture: &mut Picture) -> Outcome {
+    from(Registers::reset_to(Layout::Tiles), bytes, picture, |_, _, _| ())
+}
+
 /// The same, with a look at each completed figure, at the registers and at
 /// the picture before it is drawn.
-pub fn watched(bytes: &[u8], picture: &mut Picture, mut look: impl FnMut(&Figure, &Registers, &Picture)) -> Outcome {
-    let mut registers = Registers::reset();
+pub fn watched(bytes: &[u8], picture: &mut Picture, look: impl FnMut(&Figure, &Registers, &Picture)) -> Outcome {
+    from(Registers::reset(), bytes, picture, look)
+}
+
+fn from(mut registers: Registers, bytes: &[u8], picture: &mut Picture, mut look: impl FnMut(&Figure, &Registers, &Picture)) -> Outcome {
     let mut outcome = Outcome { words: 0, refusal: 0, passed: 0, line_length: registers.line_length };
     let words = match stream::unpack(bytes) {
         Ok(words) => words,

@@ -1,12 +1,14 @@
 //! Random words and reads by seed: pictures that are loaded, saved, saved
-//! and reloaded, and calls that are refused. Refused words are passed over
-//! there, so that they may stand anywhere.
+//! and reloaded, and calls that are refused; every third seed or so over
+//! tiles. Refused words are passed over there, so that they may stand
+//! anywhere.
 
 use crate::commands::*;
 use crate::transfers::{bad_picture, open_region, picture, picture_settings, transfer_without_region};
 use crate::program::Program;
 use crate::random::Random;
 use crate::seeds::write_file;
+use crate::registers::Layout;
 use crate::strobes::{answers, text, Call, Machine};
 use std::path::Path;
 
@@ -27,8 +29,14 @@ struct Script {
 
 /// The calls of a seed.
 pub fn script(seed: u64) -> Vec<Call> {
-    let program = Program::new(Random::new(seed));
-    let mut script = Script { program, machine: Machine::reset(), calls: Vec::new() };
+    let mut program = Program::new(Random::new(seed));
+    let tiled = program.random.once_in(3);
+    let layout = if tiled { Layout::Tiles } else { Layout::Rows };
+    let mut script = Script { program, machine: Machine::reset_to(layout), calls: Vec::new() };
+    if tiled {
+        script.calls.push(Call::Tiled);
+    }
+    script.program.registers = script.machine.registers.clone();
     if script.program.random.once_in(8) {
         script.read();
     }
@@ -117,7 +125,7 @@ impl Script {
             3 => {
                 self.program.push(AUX, WINDOW);
                 self.read();
-                for border in [0, 8192, 8192, 0, 0] {
+                for border in [0, LARGEST_BORDER, LARGEST_BORDER, 0, 0] {
                     self.program.push(PARM, border);
                 }
             }

@@ -66,7 +66,8 @@ impl Shares {
         let rows: String = self.refusals.iter().map(|row| format!("refusal {} streams {}\n", row.0, row.1)).collect();
         let starts = format!("start visible streams {}\nhop streams {}\n", self.shown, self.hopped);
         let ties = format!("tie with start streams {}\ntie with drawn streams {}\n", self.tied_with_start, self.tied_with_drawn);
-        rows + &format!("too long streams {}\n", self.too_long) + &starts + &ties + &self.situations.text()
+        let far = format!("far figure streams {}\n", self.situations.far);
+        rows + &format!("too long streams {}\n", self.too_long) + &starts + &ties + &far + &self.situations.text()
     }
 
     /// Whether each refusal from 3 to 12, and 14, came, and each situation.
@@ -77,6 +78,12 @@ impl Shares {
     /// Whether both starts of a line came in a third of the streams.
     pub fn starts_often(&self) -> bool {
         3 * self.shown >= self.count && 3 * self.hopped >= self.count
+    }
+
+    /// Whether half of the streams have a figure that reaches the largest
+    /// coordinate.
+    pub fn far_often(&self) -> bool {
+        2 * self.situations.far >= self.count
     }
 
     /// Whether ties of both kinds came in a tenth of the streams.

@@ -51,7 +51,7 @@ pub fn unpack(bytes: &[u8]) -> Result<Vec<Word>, i64> {
     let halves = half_bytes(bytes);
     let fives = halves.chunks_exact(5);
     // An "odd stream" has an odd number of words: length mod 5 is 3
-    // (READINGS.md), so at most one half byte is left.
+    // (docs/READINGS.md), so at most one half byte is left.
     if fives.remainder().iter().any(|half| *half != 0) {
         return Err(BAD_LAST_HALF_BYTE);
     }

@@ -1,19 +1,21 @@
 //! Words and reads, one after the other, as text: a line is a word of five
-//! hexadecimal digits, `read`, or `end`. What is told of a word or a read is
-//! a line too, and at `end` the picture; what follows begins anew, from
-//! reset over a fresh picture. A word that is refused is told and passed
+//! hexadecimal digits, `read`, `tiled`, or `end`. What is told of a word or a
+//! read is a line too, and at `end` the picture; what follows begins anew,
+//! from reset over a fresh picture, and after `tiled` from the reset that
+//! chooses tiles. A word that is refused is told and passed
 //! over. A host's program is held to it.
 
 use crate::commands::{self, transfer_refusal};
 use crate::picture::Picture;
 use crate::printing::{lit_places, PLACES};
-use crate::registers::Registers;
+use crate::registers::{Layout, Registers};
 use crate::stream::Word;
 
 #[derive(Clone, Copy, Debug, PartialEq, Eq)]
 pub enum Call {
     Word(Word),
     Read,
+    Tiled,
     End,
 }
 
@@ -24,8 +26,8 @@ pub struct Machine {
 }
 
 impl Machine {
-    pub fn reset() -> Machine {
-        Machine { registers: Registers::reset(), picture: Picture::cleared(PLACES) }
+    pub fn reset_to(layout: Layout) -> Machine {
+        Machine { registers: Registers::reset_to(layout), picture: Picture::cleared(PLACES) }
     }
 
     /// A word: its refusal and its count.
@@ -65,7 +67,7 @@ impl Machine {
 
 /// What the calls tell, and the pictures that they leave.
 pub fn answers(calls: &[Call]) -> String {
-    let mut machine = Machine::reset();
+    let mut machine = Machine::reset_to(Layout::Rows);
     let mut told = String::new();
     for call in calls {
         match call {
@@ -77,9 +79,10 @@ pub fn answers(calls: &[Call]) -> String {
                 let (refusal, pixel) = machine.read();
                 told += &format!("read {} {}\n", refusal, pixel);
             }
+            Call::Tiled => machine = Machine::reset_to(Layout::Tiles),
             Call::End => {
                 told += &machine.picture_text();
-                machine = Machine::reset();
+                machine = Machine::reset_to(Layout::Rows);
             }
         }
     }
@@ -94,6 +97,7 @@ pub fn parse(text: &str) -> Result<Vec<Call>, String> {
 fn call_of(line: &str) -> Option<Call> {
     match line {
         "read" => Some(Call::Read),
+        "tiled" => Some(Call::Tiled),
         "end" => Some(Call::End),
         word if word.len() == 5 => i64::from_str_radix(word, 16).ok().map(|number| Call::Word(Word::from_number(number))),
         _ => None,
@@ -109,6 +113,7 @@ fn line_of(call: &Call) -> String {
     match call {
         Call::Word(word) => format!("{:05X}\n", word.number()),
         Call::Read => "read\n".to_string(),
+        Call::Tiled => "tiled\n".to_string(),
         Call::End => "end\n".to_string(),
     }
 }
@@ -159,6 +164,30 @@ mod tests {
         assert!(over.ends_with("read 0 4\nread 0 3\nread 0 2\nread 0 1\n"));
         let across = told(&format!("{} 90001 D0001 D0000 D0000 D0001 read read read read", load));
         assert!(across.ends_with("read 0 2\nread 0 1\nread 0 4\nread 0 3\n"));
+    }
+
+    /// In tiles pixel (5, 1) is place 16 + 4 + 1, and (0, 4) the first of the
+    /// second band; a place is told by its row and column. INIT keeps the kind.
+    #[test]
+    fn tiles_are_four_by_four() {
+        let load = "tiled F0000 E0004 D0004 90000 D0005 D0001 D0005 D0001 00007 90000 D0000 D0004 D0000 D0004 00008 end";
+        assert!(told(load).ends_with("21 0 7 65535\n0 4 8 65535\n"));
+        let read = "tiled F0000 E0004 D0004 90000 D0005 D0001 D0005 D0001 00007 90001 D0005 D0001 D0005 D0001 read";
+        assert_eq!(last(read), "read 0 7");
+        let again = "tiled F0000 F0100 E0004 D0004 90000 D0005 D0001 D0005 D0001 00007 end";
+        assert!(told(again).ends_with("21 0 7 65535\n"));
+        // after `end` rows lie one after the other again
+        assert!(told(&format!("{} F0000 E0004 D0004 90000 D0005 D0001 D0005 D0001 00007 end", load)).ends_with("5 1 7 65535\n"));
+    }
+
+    /// 8,192 places are 25 rows of 320 and a rest: six whole bands, so that in
+    /// tiles row 24 is not in use.
+    #[test]
+    fn only_whole_bands_are_in_use() {
+        let read = |start: &str, row: &str| last(&format!("{} F0100 E0004 D0008 90001 D0000 D{} D0000 D{} read", start, row, row));
+        assert_eq!(read("", "0018"), "read 0 65535");
+        assert_eq!(read("tiled", "0018"), "read 0 0");
+        assert_eq!(read("tiled", "0017"), "read 0 65535");
     }
 
     /// Outside the memory 0 is read and nothing stored, and the region moves

@@ -129,7 +129,7 @@ pub fn bad_picture(program: &mut Program) {
             for _ in 0..program.random.below(4) {
                 program.push(PARM, LARGEST_COORDINATE);
             }
-            let bad = program.random.pick(&[8192, 8193, 65535]);
+            let bad = program.random.pick(&[LARGEST_COORDINATE + 1, LARGEST_COORDINATE + 2, 65535]);
             program.push(PARM, bad);
         }
         _ => {

@@ -3,7 +3,7 @@
 
 use crate::edges::{edges, Edge};
 use crate::generator::generate;
-use crate::printing::drawing;
+use crate::printing::{drawing, tiled_drawing};
 use crate::seeds::write_file;
 use std::fs;
 use std::path::Path;
@@ -53,15 +53,15 @@ fn two_bytes(length: usize) -> [u8; 2] {
     u16::try_from(length).expect("a length has 16 bits").to_be_bytes()
 }
 
-/// The first line of what is printed for a stream, and a checksum of all
-/// that is printed.
+/// The first line of what is printed for a stream, a checksum of all that is
+/// printed, and one of what would be in tiles.
 fn line(vector: &Edge) -> String {
     let text = drawing(&vector.bytes);
-    if text == "too long\n" {
+    let Some(tiled) = tiled_drawing(&vector.bytes) else {
         return format!("{}: {}", vector.name, text);
-    }
+    };
     let first = text.lines().next().unwrap_or("");
-    format!("{}: {}, text {:016x}\n", vector.name, first, checksum(text.as_bytes()))
+    format!("{}: {}, text {:016x}, tiled {:016x}\n", vector.name, first, checksum(text.as_bytes()), checksum(tiled.as_bytes()))
 }
 
 /// FNV-1a of 64 bits.

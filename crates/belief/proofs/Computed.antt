@@ -3,7 +3,7 @@ use mathlib.Core.Path.{_≡_, refl}
 use mathlib.Core.Bool.{true}
 use mathlib.Core.List.{List, [], _∷_, map}
 use Prim.Native.Nat.{ℕ}
-use Rattle.picture.specs.Place.{placeOf, rowsOf, inMemory}
+use Rattle.picture.specs.Place.{layoutOf, spotOf, placeOf, isWhole, rowsIn, rowsOf, mine, inMemory}
 use Rattle.picture.specs.declared.Kind.the-variants.{Gouraud, Line2}
 use Rattle.picture.specs.Offer.{Offer, offer, inWindow, offered, keep}
 use Rattle.picture.specs.Draw.{spans}
@@ -13,7 +13,7 @@ use Rattle.triangle.specs.Number.{mixed, shade}
 use Rattle.triangle.specs.Offers.{pixelAt, offersAt as pixelOffers, triangleOffers}
 use Rattle.line.specs.Segment.{larger, smaller, xLeads, sideAt, xAt, yAt, numberAt, shadeOffers, segmentOffers}
 use Rattle.registers.specs.Lines.{lineOf}
-use Rattle.registers.specs.Record.{settings}
+use Rattle.registers.specs.Record.{settings, resetOf}
 use Rattle.registers.specs.Subcommand.{subcommandOf}
 use Rattle.registers.specs.Word.{decode, wordOf}
 use Rattle.registers.specs.Figure.{shapeOf, grownOf, completes}
@@ -29,11 +29,11 @@ use Rattle.belief.specs.WorkedOrder.{farFirst, wideFaces, tiedLast, tied
 
 -- a run over so many places is such as demand 3 supposes
 abbrev pub Meets : List ℕ → ℕ → Type 0
-Meets numbers n = supposed n n (map wordOf numbers) ≡ true
+Meets numbers n = supposed resetOf n n (map wordOf numbers) ≡ true
 
 -- and offers so much at a place
 abbrev pub Offers : List ℕ → ℕ → ℕ → List Offer → Type 0
-Offers numbers n at os = offersOf n n (map wordOf numbers) at ≡ os
+Offers numbers n at os = offersOf resetOf n n (map wordOf numbers) at ≡ os
 
 pub record Computed : Type 0 where
   pub scene-meets : Meets scene 512
@@ -62,7 +62,7 @@ pub record Computed : Type 0 where
   pub farthest-edge-6 : Offers farthestEdge 512 6 (offer Line2 6 0 500 65535 ∷ [])
 
 pub computed : Computed
-unfolding scene outline farFirst wideFaces tiedLast tiedFirst farthestFace farthestEdge isAllOn isSupposed eachIn nextIn refusalOf inBounds frameFits modesFit windowFits vertexFits figureFits valuesFit parkedFits regionFits initAllowed effectOf parmOf coordinateOf coordinateCompletes after completedBy shapeOf grownOf completes decode wordOf subcommandOf settings lineOf offersIn offersAt modeOf wholeOffers isCut figureOffers placeOf rowsOf inMemory inWindow offered keep spans there plusOf minusOf closed inside covers mixed shade pixelAt pixelOffers triangleOffers larger smaller xLeads sideAt xAt yAt numberAt shadeOffers segmentOffers
+unfolding scene outline farFirst wideFaces tiedLast tiedFirst farthestFace farthestEdge isAllOn isSupposed eachIn nextIn refusalOf inBounds frameFits modesFit windowFits vertexFits figureFits valuesFit parkedFits regionFits initAllowed effectOf parmOf coordinateOf coordinateCompletes after completedBy shapeOf grownOf completes decode wordOf subcommandOf settings lineOf offersIn offersAt modeOf wholeOffers isCut figureOffers layoutOf spotOf placeOf isWhole rowsIn rowsOf mine inMemory inWindow offered keep spans there plusOf minusOf closed inside covers mixed shade pixelAt pixelOffers triangleOffers larger smaller xLeads sideAt xAt yAt numberAt shadeOffers segmentOffers
 computed =
     record {
       scene-meets = refl;

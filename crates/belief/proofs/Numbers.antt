@@ -9,6 +9,7 @@ use native.Mathlib.Omega.{arith}
 use lib.Dec.{ltb}
 use Rattle.picture.specs.declared.Frame.{Frame}
 use Rattle.picture.specs.declared.Vertex.{Vertex}
+use Rattle.picture.specs.Place.{frameOf}
 use Rattle.picture.proofs.Members.{Numbers}
 use Rattle.registers.specs.declared.Registers.{Registers}
 use Rattle.registers.specs.declared.Latch.{Latch}
@@ -22,7 +23,7 @@ use Rattle.registers.specs.declared.subcommand.Subcommand.the-variants.{Nothing
 use Rattle.registers.specs.declared.shape.Shape.{Shape}
 use Rattle.registers.specs.declared.shape.Shape.the-variants.{Closed, Strip, Fan, Line}
 use Rattle.registers.specs.Lines.{codeIn, lineOf}
-use Rattle.registers.specs.Record.{noVertex, frameOf, settings, resetOf}
+use Rattle.registers.specs.Record.{noVertex, settings, resetAs}
 use Rattle.registers.specs.Subcommand.{wants}
 use Rattle.registers.specs.Word.{commands, decode, wordOf}
 use Rattle.registers.specs.Figure.{shapeOf, vertexOf, isPair, grownOf, figureAfter}
@@ -80,8 +81,8 @@ unfolding settings
 settings-small started frame = record { i = zero-le; z = zero-le; figure = record { first = no-numbers; second = no-numbers } }
 
 -- so they are small after reset
-pub reset-small : Small resetOf
-reset-small = settings-small 0 (frameOf 256)
+pub reset-small : (layout : ℕ) → Small (resetAs layout)
+reset-small layout = settings-small 0 (frameOf 256 layout)
 
 -- parameters leave the I and Z registers
 effect-latch : (r : Registers) (s : Subcommand) (l : List ℕ) → effectOf r s l .latch ≡ r .latch
@@ -144,7 +145,7 @@ module _ (r : Registers) (s : Small r) where
   -- words keep it so
   pub after-small : (w : Word) → Narrow w → Small (after r w)
   unfolding after
-  after-small (Init d) h = settings-small 1 (frameOf (lineOf (codeIn d)))
+  after-small (Init d) h = settings-small 1 (frameOf (lineOf (codeIn d)) (r .frame .layout))
   after-small (Aux n) h = record { i = s .i; z = s .z; figure = s .figure }
   after-small (Parm v) h = parm-small v
   after-small (At c n) h = coordinate-small c n h

@@ -16,7 +16,7 @@ use Rattle.picture.specs.Picture.{isEdge}
 use Rattle.picture.specs.Cell.{Cell}
 use Rattle.registers.specs.declared.Registers.{Registers}
 use Rattle.registers.specs.declared.word.Word.{Word}
-use Rattle.registers.specs.Record.{resetOf}
+use Rattle.registers.specs.Record.{resetAs}
 use Rattle.registers.specs.Word.{wordOf}
 use Rattle.machine.specs.Machine.{Memories, memories}
 use Rattle.machine.specs.Touched.{cellIn}
@@ -195,41 +195,43 @@ module _ (os us : List Offer) (same : Perm (map numbersOf os) (map numbersOf us)
 -- ---- two runs
 
 -- of two runs of which demand 3 holds
-agrees : (ws vs : List Word) (m n left other : Memories) (at : ℕ) → Believable ws m left → Believable vs n other → Reordered ws vs m n at → Agrees ws vs m n at left other
-agrees ws vs m n left other at b c r =
-    let p = b (r .one) at in
-    let q = c (r .other) at in
-    let os = offersOf (length (m .i)) (length (m .z)) ws at in
-    let us = offersOf (length (n .i)) (length (n .z)) vs at in
-    let end = ap (λ (k : Cell). intensity (least (k .z) us) k us) (r .start) ∙ sym (q .shown) in
+agrees : (r s : Registers) (ws vs : List Word) (m n left other : Memories) (at : ℕ) → Believable r ws m left → Believable s vs n other
+    → Reordered r s ws vs m n at → Agrees r s ws vs m n at left other
+agrees r s ws vs m n left other at b c k =
+    let p = b (k .one) at in
+    let q = c (k .other) at in
+    let os = offersOf r (length (m .i)) (length (m .z)) ws at in
+    let us = offersOf s (length (n .i)) (length (n .z)) vs at in
+    let end = ap (λ (t : Cell). intensity (least (t .z) us) t us) (k .start) ∙ sym (q .shown) in
     record {
-      depth = p .depth ∙ least-any os us (r .same) (cellIn m at .z) ∙ ap (λ (k : Cell). least (k .z) us) (r .start) ∙ sym (q .depth);
-      shown = λ apart. p .shown ∙ shown-any os us (r .same) (cellIn m at) apart ∙ end;
-      drawn = λ apart lines. p .shown ∙ drawn-any os us (r .same) (cellIn m at) apart lines ∙ end;
+      depth = p .depth ∙ least-any os us (k .same) (cellIn m at .z) ∙ ap (λ (t : Cell). least (t .z) us) (k .start) ∙ sym (q .depth);
+      shown = λ apart. p .shown ∙ shown-any os us (k .same) (cellIn m at) apart ∙ end;
+      drawn = λ apart lines. p .shown ∙ drawn-any os us (k .same) (cellIn m at) apart lines ∙ end;
     }
 
 -- calls of `step` leave what their words leave, so what is so of two runs of words is so of both rows of calls
-both-leave : (So : Memories → Memories → Type 0) (r : Registers) (numbers others : List ℕ) (m n : Memories)
-    → So (leftBy r (map wordOf numbers) m) (leftBy r (map wordOf others) n) → AfterBoth So r numbers others m n
-both-leave So r numbers others m n so =
-    calls-leave (λ left. AfterCalls (So left) r others n) numbers r m (calls-leave (So (leftBy r (map wordOf numbers) m)) others r n so)
+both-leave : (So : Memories → Memories → Type 0) (r s : Registers) (numbers others : List ℕ) (m n : Memories)
+    → So (leftBy r (map wordOf numbers) m) (leftBy s (map wordOf others) n) → AfterBoth So r s numbers others m n
+both-leave So r s numbers others m n so =
+    calls-leave (λ left. AfterCalls (So left) s others n) numbers r m (calls-leave (So (leftBy r (map wordOf numbers) m)) others s n so)
 
-words-agree : (numbers others : List ℕ) (m n : Memories) (at : ℕ) → Reordered (map wordOf numbers) (map wordOf others) m n at
-    → Agrees (map wordOf numbers) (map wordOf others) m n at (leftBy resetOf (map wordOf numbers) m) (leftBy resetOf (map wordOf others) n)
-words-agree numbers others m n at =
-    agrees (map wordOf numbers) (map wordOf others) m n (leftBy resetOf (map wordOf numbers) m) (leftBy resetOf (map wordOf others) n) at
-    (demand-3 .words numbers m) (demand-3 .words others n)
-
--- under demand 3's premises the order of a place's offers does not matter
-pub any-order : AnyOrder
-any-order =
+-- under demand 3's premises the order of a place's offers does not matter, in whatever layout each run draws
+pub any-order : (layout other : ℕ) → AnyOrder layout other
+any-order layout other =
+    let r = resetAs layout in
+    let s = resetAs other in
+    let words-agree : (numbers others : List ℕ) (m n : Memories) (at : ℕ) → Reordered r s (map wordOf numbers) (map wordOf others) m n at
+    → Agrees r s (map wordOf numbers) (map wordOf others) m n at (leftBy r (map wordOf numbers) m) (leftBy s (map wordOf others) n) =
+    λ numbers others m n at.
+    agrees r s (map wordOf numbers) (map wordOf others) m n (leftBy r (map wordOf numbers) m) (leftBy s (map wordOf others) n) at
+    (demand-3 layout .words numbers m) (demand-3 other .words others n) in
     record {
       words = words-agree;
-      calls = λ numbers others m n at r.
-          both-leave (Agrees (map wordOf numbers) (map wordOf others) m n at) resetOf numbers others m n (words-agree numbers others m n at r);
+      calls = λ numbers others m n at k.
+          both-leave (Agrees r s (map wordOf numbers) (map wordOf others) m n at) r s numbers others m n (words-agree numbers others m n at k);
       streams = λ bytes others i z j y o p at.
-          agrees (wordsTaken (length i) (length z) bytes) (wordsTaken (length j) (length y) others) (memories i z) (memories j y)
-          (memories (o .i-left) (o .z-left)) (memories (p .i-left) (p .z-left)) at (demand-3 .streams bytes i z o) (demand-3 .streams others j y p);
+          agrees r s (wordsTaken r (length i) (length z) bytes) (wordsTaken s (length j) (length y) others) (memories i z) (memories j y)
+          (memories (o .i-left) (o .z-left)) (memories (p .i-left) (p .z-left)) at (demand-3 layout .streams bytes i z o) (demand-3 other .streams others j y p);
     }
 
 -- ---- one place
@@ -242,19 +244,19 @@ words-alike ws r m n at k =
     ∙ sym (all-cell chip inside at ws r n)
 
 -- over memories of the same lengths a stream takes the same words
-streams-alike : (bytes i z j y : List ℕ) (o : Ended bytes i z) (p : Ended bytes j y) (at : ℕ) → AlikeAt at (memories i z) (memories j y)
-    → SameThere at (memories (o .i-left) (o .z-left)) (memories (p .i-left) (p .z-left))
-streams-alike bytes i z j y o p at k =
-    ap (λ (m : Memories). cellIn m at) (stream-left bytes i z o)
-    ∙ words-alike (wordsTaken (length i) (length z) bytes) resetOf (memories i z) (memories j y) at k
-    ∙ ap₂ (λ (a b : ℕ). cellIn (leftBy resetOf (wordsTaken a b bytes) (memories j y)) at) (k .i-length) (k .z-length)
-    ∙ ap (λ (m : Memories). cellIn m at) (sym (stream-left bytes j y p))
+streams-alike : (start : Registers) (bytes i z j y : List ℕ) (o : Ended start bytes i z) (p : Ended start bytes j y) (at : ℕ)
+    → AlikeAt at (memories i z) (memories j y) → SameThere at (memories (o .i-left) (o .z-left)) (memories (p .i-left) (p .z-left))
+streams-alike start bytes i z j y o p at k =
+    ap (λ (m : Memories). cellIn m at) (stream-left start bytes i z o)
+    ∙ words-alike (wordsTaken start (length i) (length z) bytes) start (memories i z) (memories j y) at k
+    ∙ ap₂ (λ (a b : ℕ). cellIn (leftBy start (wordsTaken start a b bytes) (memories j y)) at) (k .i-length) (k .z-length)
+    ∙ ap (λ (m : Memories). cellIn m at) (sym (stream-left start bytes j y p))
 
 -- what words leave at a place depends on the words, the lengths and that place's two starting numbers, and on no other place
 pub no-other-place : NoOtherPlace
 no-other-place =
     record {
       words = words-alike;
-      calls = λ numbers r m n at k. both-leave (SameThere at) r numbers numbers m n (words-alike (map wordOf numbers) r m n at k);
+      calls = λ numbers r m n at k. both-leave (SameThere at) r r numbers numbers m n (words-alike (map wordOf numbers) r m n at k);
       streams = streams-alike;
     }

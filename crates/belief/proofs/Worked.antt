@@ -18,12 +18,12 @@ use Rattle.belief.proofs.Demand3.{demand-3}
 use Rattle.belief.proofs.Computed.{Meets, Offers, computed}
 
 -- by demand 3 a place ends with what its offers come to
-pub ends-with : (numbers : List ℕ) (m : Memories) → supposed (length (m .i)) (length (m .z)) (map wordOf numbers) ≡ true
-    → (at : ℕ) (os : List Offer) (i z : ℕ) → offersOf (length (m .i)) (length (m .z)) (map wordOf numbers) at ≡ os
+pub ends-with : (numbers : List ℕ) (m : Memories) → supposed resetOf (length (m .i)) (length (m .z)) (map wordOf numbers) ≡ true
+    → (at : ℕ) (os : List Offer) (i z : ℕ) → offersOf resetOf (length (m .i)) (length (m .z)) (map wordOf numbers) at ≡ os
     → intensity (least (cellIn m at .z) os) (cellIn m at) os ≡ i → least (cellIn m at .z) os ≡ z
     → cellIn (allOf (stepOf chip) resetOf (map wordOf numbers) m .memories) at ≡ cell i z
 ends-with numbers m meets at os i z e shown depth =
-    let k = demand-3 .words numbers m meets at in
+    let k = demand-3 0 .words numbers m meets at in
     ap₂ cell (k .shown ∙ ap (λ (us : List Offer). intensity (least (cellIn m at .z) us) (cellIn m at) us) e ∙ shown)
     (k .depth ∙ ap (least (cellIn m at .z)) e ∙ depth)
 

@@ -11,6 +11,7 @@ use lib.ListN.{length}
 use borrow.Author.Tests.{eq-eqb}
 use Rattle.picture.specs.Offer.{Offer}
 use Rattle.picture.specs.Cell.{Cell, cell}
+use Rattle.registers.specs.Record.{resetOf}
 use Rattle.registers.specs.Word.{wordOf}
 use Rattle.machine.specs.Machine.{Memories}
 use Rattle.machine.specs.Touched.{cellIn}
@@ -54,15 +55,15 @@ unfolding blank
 run-left numbers at os i z meets e shown depth = record { offers = ap (map numbersOf) e; ends = ends-with numbers blank meets at os i z e shown depth }
 
 -- a run whose offers at a place are the scene's up to order, by `any-order`
-matched : (others : List ℕ) (n : Memories) (at : ℕ) (os us : List Cell) (i z : ℕ) → supposed (length (n .i)) (length (n .z)) (map wordOf others) ≡ true
-    → SameThere at blank n → Left scene blank at os i z → offeredAt (map wordOf others) n at ≡ us → Perm os us → Apart (cellIn blank at ∷ os)
+matched : (others : List ℕ) (n : Memories) (at : ℕ) (os us : List Cell) (i z : ℕ) → supposed resetOf (length (n .i)) (length (n .z)) (map wordOf others) ≡ true
+    → SameThere at blank n → Left scene blank at os i z → offeredAt resetOf (map wordOf others) n at ≡ us → Perm os us → Apart (cellIn blank at ∷ os)
     → Matched others n at os us i z
 unfolding blank
 matched others n at os us i z meets start one e same far =
-    let r : Reordered (map wordOf scene) (map wordOf others) blank n at =
+    let r : Reordered resetOf resetOf (map wordOf scene) (map wordOf others) blank n at =
     record { one = computed .scene-meets; other = meets; start = start; same = rw (one .offers, e) same } in
-    let apart : Apart (cellIn blank at ∷ offeredAt (map wordOf scene) blank at) = rw (one .offers) far in
-    let a = any-order .words scene others blank n at r in
+    let apart : Apart (cellIn blank at ∷ offeredAt resetOf (map wordOf scene) blank at) = rw (one .offers) far in
+    let a = any-order 0 0 .words scene others blank n at r in
     record {
       reordered = r;
       apart = apart;

@@ -15,7 +15,7 @@ use Rattle.registers.specs.declared.Registers.{Registers}
 use Rattle.registers.specs.declared.word.Word.{Word}
 use Rattle.registers.specs.declared.shape.Completed.{Completed}
 use Rattle.registers.specs.declared.shape.Completed.the-variants.{Nothing, Triangle, Segment}
-use Rattle.registers.specs.Record.{resetOf}
+use Rattle.registers.specs.Record.{resetAs}
 use Rattle.registers.specs.Word.{wordOf}
 use Rattle.registers.specs.Next.{completedBy, penOf}
 use Rattle.registers.specs.Refusal.{isPtrn}
@@ -29,13 +29,13 @@ use Rattle.chip.specs.Demands.{Stepped, Ended}
 -- ---- the words of a run, over memories of two lengths
 
 -- those of a packed stream that are taken: none if 11, 12 or 2 refuses it, else those before the first that is refused
-unfoldable pub wordsTaken : ℕ → ℕ → List ℕ → List Word
-wordsTaken ni nz bytes = cond (eqb (flawIn bytes ni nz) 0) (takenOf chip ni nz resetOf (wordsOf bytes)) []
+unfoldable pub wordsTaken : Registers → ℕ → ℕ → List ℕ → List Word
+wordsTaken r ni nz bytes = cond (eqb (flawIn bytes ni nz) 0) (takenOf chip ni nz r (wordsOf bytes)) []
 
--- what words from reset offer at a place, in drawing order: a refused one nothing, an accepted one the pixels of the figure that it completes,
+-- what words from a record offer at a place, in drawing order: a refused one nothing, an accepted one the pixels of the figure that it completes,
 -- each at its place by the line length of that moment
-abbrev pub offersOf : ℕ → ℕ → List Word → ℕ → List Offer
-offersOf ni nz ws at = offersAt chip ni nz at resetOf ws
+abbrev pub offersOf : Registers → ℕ → ℕ → List Word → ℕ → List Offer
+offersOf r ni nz ws at = offersAt chip ni nz at r ws
 
 -- ---- what is supposed
 
@@ -53,9 +53,9 @@ isSupposed r (Segment a b) = eqb (r .modes .lmode) 2 && isAllOn (penOf r)
 abbrev pub isBelievable : Registers → Word → Bool
 isBelievable r w = not (isPtrn w) && isSupposed r (completedBy r w)
 
--- of each accepted word from reset
-abbrev pub supposed : ℕ → ℕ → List Word → Bool
-supposed ni nz ws = eachIn chip isBelievable ni nz resetOf ws
+-- of each accepted word from a record
+abbrev pub supposed : Registers → ℕ → ℕ → List Word → Bool
+supposed start ni nz ws = eachIn chip isBelievable ni nz start ws
 
 -- ---- what is believed
 
@@ -89,11 +89,11 @@ pub record Believed (start : Cell) (os : List Offer) (end : Cell) : Type 0 where
 
 -- ---- the demand
 
--- so it is at every place, if the words were such as is supposed
-abbrev pub Believable : List Word → Memories → Memories → Type 0
-Believable ws m left =
-    supposed (length (m .i)) (length (m .z)) ws ≡ true → (at : ℕ)
-    → Believed (cellIn m at) (offersOf (length (m .i)) (length (m .z)) ws at) (cellIn left at)
+-- so it is at every place, if the words from a record were such as is supposed
+abbrev pub Believable : Registers → List Word → Memories → Memories → Type 0
+Believable r ws m left =
+    supposed r (length (m .i)) (length (m .z)) ws ≡ true → (at : ℕ)
+    → Believed (cellIn m at) (offersOf r (length (m .i)) (length (m .z)) ws at) (cellIn left at)
 
 -- it is so of the memories that calls of `step` leave, one after the other, whatever outcomes its promise allows; a number tells a word, its
 -- command and its data of 16 bits
@@ -102,11 +102,13 @@ AfterCalls So r [] m = So m
 AfterCalls So r (n ∷ numbers) m =
     (o : Stepped r (n / 65536) (n % 65536) (m .i) (m .z)) → AfterCalls So (o .registers) numbers (memories (o .i-left) (o .z-left))
 
-pub record Demand3 : Type 0 where
+-- each place by the layout that reset chose
+pub record Demand3 (layout : ℕ) : Type 0 where
   -- of any words from reset, a refused one among them changing nothing
-  pub words : (numbers : List ℕ) (m : Memories) → Believable (map wordOf numbers) m (allOf (stepOf chip) resetOf (map wordOf numbers) m .memories)
+  pub words : (numbers : List ℕ) (m : Memories)
+      → Believable (resetAs layout) (map wordOf numbers) m (allOf (stepOf chip) (resetAs layout) (map wordOf numbers) m .memories)
   -- of the calls of `step` that they are
-  pub calls : (numbers : List ℕ) (m : Memories) → AfterCalls (Believable (map wordOf numbers) m) resetOf numbers m
-  -- of any packed stream, and each outcome that the promise of `run` allows
-  pub streams : (bytes i z : List ℕ) (o : Ended bytes i z)
-      → Believable (wordsTaken (length i) (length z) bytes) (memories i z) (memories (o .i-left) (o .z-left))
+  pub calls : (numbers : List ℕ) (m : Memories) → AfterCalls (Believable (resetAs layout) (map wordOf numbers) m) (resetAs layout) numbers m
+  -- of any packed stream, and each outcome that the promise of `run`, or of `run_tiled`, allows
+  pub streams : (bytes i z : List ℕ) (o : Ended (resetAs layout) bytes i z)
+      → Believable (resetAs layout) (wordsTaken (resetAs layout) (length i) (length z) bytes) (memories i z) (memories (o .i-left) (o .z-left))

@@ -11,7 +11,7 @@ use Rattle.picture.specs.Picture.{isEdge}
 use Rattle.picture.specs.Cell.{Cell, cell}
 use Rattle.registers.specs.declared.Registers.{Registers}
 use Rattle.registers.specs.declared.word.Word.{Word}
-use Rattle.registers.specs.Record.{resetOf}
+use Rattle.registers.specs.Record.{resetAs}
 use Rattle.registers.specs.Word.{wordOf}
 use Rattle.machine.specs.Machine.{Memories, memories, stepOf}
 use Rattle.machine.specs.Touched.{cellIn}
@@ -31,8 +31,8 @@ abbrev pub leftBy : Registers → List Word → Memories → Memories
 leftBy r ws m = allOf (stepOf chip) r ws m .memories
 
 -- it is so of what calls of `step` leave of one pair of memories and of another, whatever outcomes its promise allows
-abbrev pub AfterBoth : (Memories → Memories → Type 0) → Registers → List ℕ → List ℕ → Memories → Memories → Type 0
-AfterBoth So r numbers others m n = AfterCalls (λ left. AfterCalls (So left) r others n) r numbers m
+abbrev pub AfterBoth : (Memories → Memories → Type 0) → Registers → Registers → List ℕ → List ℕ → Memories → Memories → Type 0
+AfterBoth So r s numbers others m n = AfterCalls (λ left. AfterCalls (So left) s others n) r numbers m
 
 -- ---- in any order
 
@@ -40,9 +40,9 @@ AfterBoth So r numbers others m n = AfterCalls (λ left. AfterCalls (So left) r 
 abbrev pub numbersOf : Offer → Cell
 numbersOf o = cell (o .i) (o .z)
 
--- those that words from reset offer at a place. Which pixel is there goes by the line length, and is not told
-abbrev pub offeredAt : List Word → Memories → ℕ → List Cell
-offeredAt ws m at = map numbersOf (offersOf (length (m .i)) (length (m .z)) ws at)
+-- those that words from a record offer at a place. Which pixel is there goes by the line length and the layout, and is not told
+abbrev pub offeredAt : Registers → List Word → Memories → ℕ → List Cell
+offeredAt r ws m at = map numbersOf (offersOf r (length (m .i)) (length (m .z)) ws at)
 
 -- the two numbers of an offer, and whether a line brings them
 pub record Drawn : Type 0 where
@@ -52,42 +52,44 @@ pub record Drawn : Type 0 where
 abbrev pub drawnOf : Offer → Drawn
 drawnOf o = record { line = isEdge (o .kind); numbers = numbersOf o }
 
--- those that words from reset offer at a place
-abbrev pub drawnAt : List Word → Memories → ℕ → List Drawn
-drawnAt ws m at = map drawnOf (offersOf (length (m .i)) (length (m .z)) ws at)
+-- those that words from a record offer at a place
+abbrev pub drawnAt : Registers → List Word → Memories → ℕ → List Drawn
+drawnAt r ws m at = map drawnOf (offersOf r (length (m .i)) (length (m .z)) ws at)
 
 -- no two of some pairs of numbers share a depth
 abbrev pub Apart : List Cell → Type 0
 Apart os = Pairwise (λ (o : Cell) (p : Cell). o .z ≢ p .z) os
 
--- demand 3's premises hold of both runs, memory is equal at a place, and what is offered there is the same up to order
-pub record Reordered (ws vs : List Word) (m n : Memories) (at : ℕ) : Type 0 where
-  pub one : supposed (length (m .i)) (length (m .z)) ws ≡ true
-  pub other : supposed (length (n .i)) (length (n .z)) vs ≡ true
+-- demand 3's premises hold of both runs, each from its record, memory is equal at a place, and what is offered there is the same up to order
+pub record Reordered (r s : Registers) (ws vs : List Word) (m n : Memories) (at : ℕ) : Type 0 where
+  pub one : supposed r (length (m .i)) (length (m .z)) ws ≡ true
+  pub other : supposed s (length (n .i)) (length (n .z)) vs ≡ true
   pub start : SameThere at m n
-  pub same : Perm (offeredAt ws m at) (offeredAt vs n at)
+  pub same : Perm (offeredAt r ws m at) (offeredAt s vs n at)
 
 -- the place ends with equal depth
-pub record Agrees (ws vs : List Word) (m n : Memories) (at : ℕ) (left other : Memories) : Type 0 where
+pub record Agrees (r s : Registers) (ws vs : List Word) (m n : Memories) (at : ℕ) (left other : Memories) : Type 0 where
   pub depth : cellIn left at .z ≡ cellIn other at .z
   -- and with equal intensity, if no two of the offers there share a depth and none has the starting depth
-  pub shown : Apart (cellIn m at ∷ offeredAt ws m at) → cellIn left at .i ≡ cellIn other at .i
+  pub shown : Apart (cellIn m at ∷ offeredAt r ws m at) → cellIn left at .i ≡ cellIn other at .i
   -- or if no two share a depth and lines bring the same of them, whatever the starting depth
-  pub drawn : Apart (offeredAt ws m at) → Perm (drawnAt ws m at) (drawnAt vs n at) → cellIn left at .i ≡ cellIn other at .i
+  pub drawn : Apart (offeredAt r ws m at) → Perm (drawnAt r ws m at) (drawnAt s vs n at) → cellIn left at .i ≡ cellIn other at .i
 
--- so it is, if the two runs were such
-pub record AnyOrder : Type 0 where
+-- so it is, if the two runs were such, each in the layout that its reset chose
+pub record AnyOrder (layout other : ℕ) : Type 0 where
   -- of any words from reset, a refused one among them changing nothing
-  pub words : (numbers others : List ℕ) (m n : Memories) (at : ℕ) → Reordered (map wordOf numbers) (map wordOf others) m n at
-      → Agrees (map wordOf numbers) (map wordOf others) m n at (leftBy resetOf (map wordOf numbers) m) (leftBy resetOf (map wordOf others) n)
+  pub words : (numbers others : List ℕ) (m n : Memories) (at : ℕ) → Reordered (resetAs layout) (resetAs other) (map wordOf numbers) (map wordOf others) m n at
+      → Agrees (resetAs layout) (resetAs other) (map wordOf numbers) (map wordOf others) m n at
+      (leftBy (resetAs layout) (map wordOf numbers) m) (leftBy (resetAs other) (map wordOf others) n)
   -- of the calls of `step` that they are
-  pub calls : (numbers others : List ℕ) (m n : Memories) (at : ℕ) → Reordered (map wordOf numbers) (map wordOf others) m n at
-      → AfterBoth (Agrees (map wordOf numbers) (map wordOf others) m n at) resetOf numbers others m n
-  -- of any packed streams, and each outcome that the promise of `run` allows
-  pub streams : (bytes others i z j y : List ℕ) (o : Ended bytes i z) (p : Ended others j y) (at : ℕ)
-      → Reordered (wordsTaken (length i) (length z) bytes) (wordsTaken (length j) (length y) others) (memories i z) (memories j y) at
-      → Agrees (wordsTaken (length i) (length z) bytes) (wordsTaken (length j) (length y) others) (memories i z) (memories j y) at
-      (memories (o .i-left) (o .z-left)) (memories (p .i-left) (p .z-left))
+  pub calls : (numbers others : List ℕ) (m n : Memories) (at : ℕ) → Reordered (resetAs layout) (resetAs other) (map wordOf numbers) (map wordOf others) m n at
+      → AfterBoth (Agrees (resetAs layout) (resetAs other) (map wordOf numbers) (map wordOf others) m n at) (resetAs layout) (resetAs other) numbers others m n
+  -- of any packed streams, and each outcome that the promises of `run` and `run_tiled` allow
+  pub streams : (bytes others i z j y : List ℕ) (o : Ended (resetAs layout) bytes i z) (p : Ended (resetAs other) others j y) (at : ℕ)
+      → Reordered (resetAs layout) (resetAs other) (wordsTaken (resetAs layout) (length i) (length z) bytes) (wordsTaken (resetAs other) (length j) (length y) others)
+      (memories i z) (memories j y) at
+      → Agrees (resetAs layout) (resetAs other) (wordsTaken (resetAs layout) (length i) (length z) bytes) (wordsTaken (resetAs other) (length j) (length y) others)
+      (memories i z) (memories j y) at (memories (o .i-left) (o .z-left)) (memories (p .i-left) (p .z-left))
 
 -- ---- without any premise
 
@@ -102,7 +104,7 @@ pub record NoOtherPlace : Type 0 where
   -- of any words from any registers
   pub words : (ws : List Word) (r : Registers) (m n : Memories) (at : ℕ) → AlikeAt at m n → SameThere at (leftBy r ws m) (leftBy r ws n)
   -- of the calls of `step` that they are
-  pub calls : (numbers : List ℕ) (r : Registers) (m n : Memories) (at : ℕ) → AlikeAt at m n → AfterBoth (SameThere at) r numbers numbers m n
-  -- of any packed stream, and each outcome that the promise of `run` allows
-  pub streams : (bytes i z j y : List ℕ) (o : Ended bytes i z) (p : Ended bytes j y) (at : ℕ) → AlikeAt at (memories i z) (memories j y)
+  pub calls : (numbers : List ℕ) (r : Registers) (m n : Memories) (at : ℕ) → AlikeAt at m n → AfterBoth (SameThere at) r r numbers numbers m n
+  -- of any packed stream, and each outcome that the promises of `run` and `run_tiled` allow
+  pub streams : (start : Registers) (bytes i z j y : List ℕ) (o : Ended start bytes i z) (p : Ended start bytes j y) (at : ℕ) → AlikeAt at (memories i z) (memories j y)
       → SameThere at (memories (o .i-left) (o .z-left)) (memories (p .i-left) (p .z-left))

@@ -75,18 +75,18 @@ blank = memories (replicate 512 0) (replicate 512 65535)
 
 -- what a run offers at a place, and how the place ends
 pub record Owned (numbers : List ℕ) (at : ℕ) (os : List Offer) (i z : ℕ) : Type 0 where
-  pub offers : offersOf 512 512 (map wordOf numbers) at ≡ os
+  pub offers : offersOf resetOf 512 512 (map wordOf numbers) at ≡ os
   pub ends : cellIn (allOf (stepOf chip) resetOf (map wordOf numbers) blank .memories) at ≡ cell i z
 
 pub record Worked : Type 0 where
-  pub meets : supposed 512 512 (map wordOf scene) ≡ true
+  pub meets : supposed resetOf 512 512 (map wordOf scene) ≡ true
   -- each of the three owns a place
   pub far-face : Owned scene 0 (offer Gouraud 0 0 100 20 ∷ []) 100 20
   pub near-face : Owned scene 1 (offer Gouraud 1 0 200 10 ∷ offer Gouraud 1 0 100 20 ∷ []) 200 10
   pub line : Owned scene 2 (offer Gouraud 2 0 200 10 ∷ offer Gouraud 2 0 100 20 ∷ offer Line2 2 0 300 5 ∷ []) 300 5
   -- (0, 1) was at the place where (256, 0) is now
   pub after-init : Owned scene 256 (offer Gouraud 0 1 100 20 ∷ offer Line2 256 0 400 15 ∷ []) 400 15
-  pub outlined : supposed 512 512 (map wordOf outline) ≡ true
+  pub outlined : supposed resetOf 512 512 (map wordOf outline) ≡ true
   -- of a face and lines at its depth the last line shows, and
   pub edge : Owned outline 0 (offer Gouraud 0 0 100 20 ∷ offer Line2 0 0 300 20 ∷ offer Line2 0 0 400 20 ∷ []) 400 20
   -- stays over a face of that depth that comes later

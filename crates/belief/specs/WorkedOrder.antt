@@ -44,13 +44,13 @@ farthestEdge = init ++ farthestLine
 
 -- what a run offers at a place, and how the place ends
 pub record Left (numbers : List ℕ) (m : Memories) (at : ℕ) (os : List Cell) (i z : ℕ) : Type 0 where
-  pub offers : offeredAt (map wordOf numbers) m at ≡ os
+  pub offers : offeredAt resetOf (map wordOf numbers) m at ≡ os
   pub ends : cellIn (leftBy resetOf (map wordOf numbers) m) at ≡ cell i z
 
 -- the scene and another run have the same offers at a place up to order, no two of one depth nor any of the starting depth, and both leave it so
 pub record Matched (others : List ℕ) (n : Memories) (at : ℕ) (os us : List Cell) (i z : ℕ) : Type 0 where
-  pub reordered : Reordered (map wordOf scene) (map wordOf others) blank n at
-  pub apart : Apart (cellIn blank at ∷ offeredAt (map wordOf scene) blank at)
+  pub reordered : Reordered resetOf resetOf (map wordOf scene) (map wordOf others) blank n at
+  pub apart : Apart (cellIn blank at ∷ offeredAt resetOf (map wordOf scene) blank at)
   pub one : Left scene blank at os i z
   pub other : Left others n at us i z
 
@@ -61,12 +61,12 @@ pub record WorkedOrder : Type 0 where
   -- in lines of another length, over memories of another length that have other numbers elsewhere
   pub wide : Matched wideFaces elsewhere 1 (cell 200 10 ∷ cell 100 20 ∷ []) (cell 100 20 ∷ cell 200 10 ∷ []) 200 10
   -- where two share a depth the depths agree, and the intensities need not
-  pub tied : Reordered (map wordOf tiedLast) (map wordOf tiedFirst) blank blank 1
-  pub shared : Apart (offeredAt (map wordOf tiedLast) blank 1) → ⊥
+  pub tied : Reordered resetOf resetOf (map wordOf tiedLast) (map wordOf tiedFirst) blank blank 1
+  pub shared : Apart (offeredAt resetOf (map wordOf tiedLast) blank 1) → ⊥
   pub tied-last : Left tiedLast blank 1 (cell 100 20 ∷ cell 200 20 ∷ []) 100 20
   pub tied-first : Left tiedFirst blank 1 (cell 200 20 ∷ cell 100 20 ∷ []) 200 20
   -- nor where one has the starting depth, and a line brings it in one of the runs alone
-  pub farthest : Reordered (map wordOf farthestFace) (map wordOf farthestEdge) blank blank 6
-  pub alone : Apart (offeredAt (map wordOf farthestFace) blank 6)
+  pub farthest : Reordered resetOf resetOf (map wordOf farthestFace) (map wordOf farthestEdge) blank blank 6
+  pub alone : Apart (offeredAt resetOf (map wordOf farthestFace) blank 6)
   pub farthest-face : Left farthestFace blank 6 (cell 500 65535 ∷ []) 0 65535
   pub farthest-edge : Left farthestEdge blank 6 (cell 500 65535 ∷ []) 500 65535

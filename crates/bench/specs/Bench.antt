@@ -6,20 +6,22 @@ use mathlib.Core.List.{List}
 use lib.Dec.{eqb}
 use Rattle.picture.specs.declared.Pen.{Pen}
 use Rattle.picture.specs.declared.Vertex.{Vertex}
+use Rattle.picture.specs.Limits.{largestBorder}
+use Rattle.picture.specs.Place.{frameOf}
 use Rattle.line.specs.declared.Mode.{Mode}
 use Rattle.line.specs.declared.Mode.the-variants.{Zero, One, Two}
 use Rattle.line.specs.declared.Style.{Style}
 use Rattle.stream.specs.Calls.{Outcome}
 
 -- depth test on, both enables, all planes, the widest window, a transparency pattern that keeps everything
-abbrev pub penOf : ℕ → Pen
-penOf line =
+abbrev pub penOf : ℕ → ℕ → Pen
+penOf line layout =
     record {
-      frame = record { line = line };
+      frame = frameOf line layout;
       left = 0;
-      right = 8192;
+      right = largestBorder;
       bottom = 0;
-      top = 8192;
+      top = largestBorder;
       transparency = 65535;
       planes = 65535;
       depth = true;

@@ -12,19 +12,20 @@ use line::Style;
 use picture::Frame;
 use picture::Pen;
 use picture::Vertex;
+use picture::limits::LARGEST_BORDER;
 use stream::Coded;
 
 // The pen of the benchmark: depth test on, both enables, all planes, the widest window.
-fn pen_of(line: u16) -> Pen
-    ensures { λ r. ⌜ r ≡ penOf line ⌝ }
+fn pen_of(line: u16, layout: u16) -> Pen
+    ensures { λ r. ⌜ r ≡ penOf line layout ⌝ }
 {
-    let frame = Frame { line };
+    let frame = Frame { line, layout };
     Pen {
         frame,
         left: 0,
-        right: 8192,
+        right: LARGEST_BORDER,
         bottom: 0,
-        top: 8192,
+        top: LARGEST_BORDER,
         transparency: 65535,
         planes: 65535,
         depth: true,
@@ -37,6 +38,7 @@ fn pen_of(line: u16) -> Pen
 #[no_mangle]
 pub extern "C" fn dextolumen_bench_triangle(
     line: u16,
+    layout: u16,
     constant: bool,
     ax: u16,
     ay: u16,
@@ -53,7 +55,7 @@ pub extern "C" fn dextolumen_bench_triangle(
     im: &mut [u16],
     zm: &mut [u16],
 ) -> u64
-    ensures { λ r. ⌜ picture (now (im .exit)) (now (zm .exit)) r ≡ drawn (penOf line) (triangleOffers (penOf line) (rowsOf (penOf line .frame) (length (now (im .entry))) (length (now (zm .entry)))) constant (vertexOf ax ay ai az) (vertexOf bx by bi bz) (vertexOf cx cy ci cz)) (picture (now (im .entry)) (now (zm .entry)) 0) ⌝ }
+    ensures { λ r. ⌜ picture (now (im .exit)) (now (zm .exit)) r ≡ drawn (penOf line layout) (triangleOffers (penOf line layout) (rowsOf (penOf line layout .frame) (length (now (im .entry))) (length (now (zm .entry)))) constant (vertexOf ax ay ai az) (vertexOf bx by bi bz) (vertexOf cx cy ci cz)) (picture (now (im .entry)) (now (zm .entry)) 0) ⌝ }
 {
     let a = Vertex {
         x: ax,
@@ -73,7 +75,7 @@ pub extern "C" fn dextolumen_bench_triangle(
         i: ci,
         z: cz,
     };
-    triangle::draw::triangle(pen_of(line), constant, a, b, c, im, zm)
+    triangle::draw::triangle(pen_of(line, layout), constant, a, b, c, im, zm)
 }
 
 // The line mode of a number.
@@ -93,6 +95,7 @@ fn mode_of(mode: u8) -> Mode
 #[no_mangle]
 pub extern "C" fn dextolumen_bench_segment(
     line: u16,
+    layout: u16,
     mode: u8,
     pattern: u32,
     foreground: u16,
@@ -108,7 +111,7 @@ pub extern "C" fn dextolumen_bench_segment(
     im: &mut [u16],
     zm: &mut [u16],
 ) -> u64
-    ensures { λ r. ⌜ picture (now (im .exit)) (now (zm .exit)) r ≡ drawn (penOf line) (segmentOffers (penOf line) (rowsOf (penOf line .frame) (length (now (im .entry))) (length (now (zm .entry)))) (styleOf mode pattern foreground background) (vertexOf ax ay ai az) (vertexOf bx by bi bz)) (picture (now (im .entry)) (now (zm .entry)) 0) ⌝ }
+    ensures { λ r. ⌜ picture (now (im .exit)) (now (zm .exit)) r ≡ drawn (penOf line layout) (segmentOffers (penOf line layout) (rowsOf (penOf line layout .frame) (length (now (im .entry))) (length (now (zm .entry)))) (styleOf mode pattern foreground background) (vertexOf ax ay ai az) (vertexOf bx by bi bz)) (picture (now (im .entry)) (now (zm .entry)) 0) ⌝ }
 {
     let a = Vertex {
         x: ax,
@@ -131,7 +134,7 @@ pub extern "C" fn dextolumen_bench_segment(
         steps: 0,
         joined: false,
     };
-    line::segment(pen_of(line), style, a, b, im, zm)
+    line::segment(pen_of(line, layout), style, a, b, im, zm)
 }
 
 // The length that a call on packed streams tells.

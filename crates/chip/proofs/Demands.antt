@@ -7,7 +7,6 @@ use borrow.Author.Tests.{eq-eqb, ne-eqb}
 use Rattle.picture.specs.Cell.{Cell}
 use Rattle.stream.proofs.Settled.{words-back, bytes-back}
 use Rattle.registers.specs.declared.Registers.{Registers}
-use Rattle.registers.specs.Record.{resetOf}
 use Rattle.registers.specs.Word.{decode, wordOf}
 use Rattle.machine.specs.Run.{Outcome, Ran, ran, runOf}
 use Rattle.machine.specs.Along.{Stopped}
@@ -15,7 +14,7 @@ use Rattle.machine.specs.Machine.{Memories, memories, stepOf}
 use Rattle.machine.specs.Touched.{cellIn}
 use Rattle.machine.proofs.Steps.{step-number, refused-leaves, accepted-leaves}
 use Rattle.machine.proofs.Runs.{zero-or-not, run-stopped, index-whole}
-use Rattle.machine.proofs.Touched.{step-counts, step-untouched, run-untouched, reset-counts}
+use Rattle.machine.proofs.Touched.{step-counts, step-untouched, run-untouched, start-counts}
 use Rattle.chip.specs.Chip.{chip}
 use Rattle.chip.specs.Stream.{wordsOf, flawOf, running}
 use Rattle.chip.specs.Demands.{Stepped, Ended, SameAt, Refuses, Halts, Demand1, Accepts, Runs, Demand2}
@@ -59,29 +58,29 @@ module _ (r : Registers) (command d : ℕ) (i z : List ℕ) where
 
 -- ---- a recording
 
-module _ (bytes i z : List ℕ) where
+module _ (start : Registers) (bytes i z : List ℕ) where
   whole-run : Ran Registers Memories
-  whole-run = runOf (stepOf chip) resetOf (wordsOf bytes) (memories i z)
+  whole-run = runOf (stepOf chip) start (wordsOf bytes) (memories i z)
 
-  ended : Ended bytes i z
+  ended : Ended start bytes i z
   ended =
-      let o = running bytes (memories i z) in
+      let o = running start bytes (memories i z) in
       record { refusal = o .refusal; index = o .index; sum = o .sum; registers = o .registers; i-left = o .memories .i; z-left = o .memories .z; promise = refl }
 
-  flawed : flawOf bytes (memories i z) ≢ 0 → running bytes (memories i z) ≡ ran (flawOf bytes (memories i z)) 0 0 resetOf (memories i z)
+  flawed : flawOf bytes (memories i z) ≢ 0 → running start bytes (memories i z) ≡ ran (flawOf bytes (memories i z)) 0 0 start (memories i z)
   unfolding running
   flawed some = rw (ne-eqb _ _ some)
 
-  good : flawOf bytes (memories i z) ≡ 0 → running bytes (memories i z) ≡ whole-run
+  good : flawOf bytes (memories i z) ≡ 0 → running start bytes (memories i z) ≡ whole-run
   unfolding running whole-run
   good none = rw (eq-eqb _ _ none)
 
-  module _ (o : Ended bytes i z) where
+  module _ (o : Ended start bytes i z) where
     told : Ran Registers Memories
     told = ran (o .refusal) (o .index) (o .sum) (o .registers) (memories (o .i-left) (o .z-left))
 
     -- refused before the first word, and not
-    stopped : flawOf bytes (memories i z) ≢ 0 → told ≡ ran (flawOf bytes (memories i z)) 0 0 resetOf (memories i z)
+    stopped : flawOf bytes (memories i z) ≢ 0 → told ≡ ran (flawOf bytes (memories i z)) 0 0 start (memories i z)
     unfolding told
     stopped some = o .promise ∙ flawed some
 
@@ -89,7 +88,7 @@ module _ (bytes i z : List ℕ) where
     unfolding told
     ran-through none = o .promise ∙ good none
 
-    halts : Halts bytes i z o
+    halts : Halts start bytes i z o
     unfolding told whole-run
     halts =
         record {
@@ -103,28 +102,28 @@ module _ (bytes i z : List ℕ) where
               );
           at-word = λ none some.
               let e = ran-through none in
-              subst (Stopped (stepOf chip) (wordOf 0) (ran 0 0 0 resetOf (memories i z)) (wordsOf bytes)) (sym e)
-              (run-stopped (stepOf chip) (wordOf 0) (wordsOf bytes) (ran 0 0 0 resetOf (memories i z)) refl
+              subst (Stopped (stepOf chip) (wordOf 0) (ran 0 0 0 start (memories i z)) (wordsOf bytes)) (sym e)
+              (run-stopped (stepOf chip) (wordOf 0) (wordsOf bytes) (ran 0 0 0 start (memories i z)) refl
               (λ q. some (ap (λ (a : Ran Registers Memories). a .refusal) e ∙ q)));
           whole = λ accepted.
               zero-or-not (flawOf bytes (memories i z))
               (λ none.
               let e = ran-through none in
               ap (λ (a : Ran Registers Memories). a .index) e
-              ∙ index-whole (stepOf chip) resetOf (wordsOf bytes) (memories i z) (sym (ap (λ (a : Ran Registers Memories). a .refusal) e) ∙ accepted))
+              ∙ index-whole (stepOf chip) start (wordsOf bytes) (memories i z) (sym (ap (λ (a : Ran Registers Memories). a .refusal) e) ∙ accepted))
               (λ some. absurd (some (sym (ap (λ (a : Ran Registers Memories). a .refusal) (stopped some)) ∙ accepted)));
         }
 
-    runs : flawOf bytes (memories i z) ≡ 0 → Runs bytes i z o
+    runs : flawOf bytes (memories i z) ≡ 0 → Runs start bytes i z o
     unfolding told whole-run
     runs none =
         let e = ran-through none in
         record {
           words = e;
-          sum = ap (λ (a : Ran Registers Memories). a .sum) e ∙ reset-counts chip (wordsOf bytes) (memories i z);
+          sum = ap (λ (a : Ran Registers Memories). a .sum) e ∙ start-counts chip start (wordsOf bytes) (memories i z);
           untouched = λ at away.
               same-at at (memories i z) (memories (o .i-left) (o .z-left))
-              (ap (λ (a : Ran Registers Memories). cellIn (a .memories) at) e ∙ run-untouched chip (wordsOf bytes) (ran 0 0 0 resetOf (memories i z)) at away);
+              (ap (λ (a : Ran Registers Memories). cellIn (a .memories) at) e ∙ run-untouched chip (wordsOf bytes) (ran 0 0 0 start (memories i z)) at away);
         }
 
 -- ---- the two demands

@@ -10,6 +10,8 @@ use lib.Dec.{leb, eqb}
 use lib.ListN.{length}
 use borrow.Author.Tests.{leb-true}
 use Rattle.picture.specs.declared.Vertex.{Vertex}
+use Rattle.picture.specs.Limits.{largestCoordinate, mostRows}
+use Rattle.picture.specs.Place.{layoutOf, widthOf, inMemory}
 use Rattle.picture.specs.Offer.{Offer, offered}
 use Rattle.picture.specs.Picture.{isDeep, Picture, picture, drawn}
 use Rattle.picture.specs.Store.{Store}
@@ -32,13 +34,13 @@ use Rattle.registers.specs.declared.shape.Completed.{Completed}
 use Rattle.registers.specs.declared.shape.Completed.the-variants.{Nothing, Triangle, Segment}
 use Rattle.registers.specs.declared.shape.Shape.the-variants.{Line}
 use Rattle.registers.specs.declared.subcommand.Subcommand.the-variants.{Hcontrol}
-use Rattle.registers.specs.Record.{isOn, invBit, iBit, zBit, resetOf}
+use Rattle.registers.specs.Record.{isOn, invBit, iBit, zBit, resetAs}
 use Rattle.registers.specs.Figure.{shapeOf, vertexOf, completes, vertexCompletes}
 use Rattle.registers.specs.Next.{awaited, coordinateCompletes, after, completedBy, penOf}
 use Rattle.registers.specs.Bounds.{frameFits, inBounds}
 use Rattle.registers.specs.Refusal.{isInit, isParm, isPtrn, refusalOf}
 use Rattle.registers.proofs.Truth.{both, chosen}
-use Rattle.registers.proofs.Kept.{parts, reset-kept, after-kept}
+use Rattle.registers.proofs.Kept.{parts, reset-kept-as, after-kept}
 use Rattle.registers.proofs.Refusals.{accepted-when}
 use Rattle.registers.proofs.Forms.{AllVertices, Near, completed-near, hcontrol-alone, hcontrol-init}
 use Rattle.machine.specs.Run.{Ran, runFrom, runOf}
@@ -59,9 +61,10 @@ use Rattle.chip.proofs.Figures.{offers-held}
 pub step-kept : (r : Registers) (w : Word) (m : Memories) → inBounds r ≡ true → inBounds (stepOf chip r w m .registers) ≡ true
 step-kept r w m h = step-either chip r w m (λ o. inBounds (o .registers) ≡ true) (λ e. after-kept (length (m .i)) (length (m .z)) r w e) (λ e. h)
 
--- so does a run; from reset, no record breaks a bound
-pub run-kept : (ws : List Word) (m : Memories) → inBounds (runOf (stepOf chip) resetOf ws m .registers) ≡ true
-run-kept ws m = run-invariant chip ws _ (λ r. inBounds r ≡ true) (λ r w k e h. after-kept (length (k .i)) (length (k .z)) r w e) reset-kept
+-- so does a run; from reset in either layout, no record breaks a bound
+pub run-kept : (layout : ℕ) → layout ≤ 1 → (ws : List Word) (m : Memories) → inBounds (runOf (stepOf chip) (resetAs layout) ws m .registers) ≡ true
+run-kept layout low ws m =
+    run-invariant chip ws _ (λ r. inBounds r ≡ true) (λ r w k e h. after-kept (length (k .i)) (length (k .z)) r w e) (reset-kept-as layout low)
 
 -- ---- where pixels lie
 
@@ -103,7 +106,7 @@ word-unstored rows r Unmodelled e = refl
 word-unstored rows r Unknown e = refl
 
 -- and that inside the memory
-word-inside : (rows : ℕ) (r : Registers) (w : Word) (s : Store) → List·Memᴰ s (wordStores rows r w) → (s .x < r .frame .line) × (s .y < rows)
+word-inside : (rows : ℕ) (r : Registers) (w : Word) (s : Store) → List·Memᴰ s (wordStores rows r w) → inMemory (r .frame) rows (s .x) (s .y) ≡ true
 unfolding wordStores
 word-inside rows r (Init d) s u = absurd (List·Memᴰ·not-nil u)
 word-inside rows r (Aux n) s u = absurd (List·Memᴰ·not-nil u)
@@ -115,12 +118,12 @@ word-inside rows r Reserved s u = absurd (List·Memᴰ·not-nil u)
 word-inside rows r Unmodelled s u = absurd (List·Memᴰ·not-nil u)
 word-inside rows r Unknown s u = absurd (List·Memᴰ·not-nil u)
 
--- every pixel that the chip offers or stores has x below the line length, and lies in a row in use
+-- every pixel that the chip offers or stores lies inside the memory
 pub inside : Inside chip
 inside = record { at = λ rows r w o u. offered-at (penOf r) rows o (figure-offered rows r (completedBy r w) o u); stores = word-inside }
 
--- a word leaves both numbers at every place from the rows in use times the line length on
-pub step-beyond : (r : Registers) (w : Word) (m : Memories) (at : ℕ) → rowsIn chip r m * r .frame .line ≤ at → cellIn (stepOf chip r w m .memories) at ≡ cellIn m at
+-- a word leaves both numbers at every place from the rows in use times the places of a row on
+pub step-beyond : (r : Registers) (w : Word) (m : Memories) (at : ℕ) → rowsIn chip r m * widthOf (layoutOf (r .frame)) (r .frame .line) ≤ at → cellIn (stepOf chip r w m .memories) at ≡ cellIn m at
 step-beyond r w m at h = step-above chip r w m inside at h
 
 -- and so does a run, where that is so at each of its words
@@ -224,30 +227,31 @@ unstored ws a off unset =
 
 -- ---- how many pixels pass
 
-larger-low : (a b : Vertex) → Near a → Near b → larger a b ≤ 8191
+larger-low : (a b : Vertex) → Near a → Near b → larger a b ≤ largestCoordinate
 unfolding larger
 larger-low a b h k = omega (arith, h .across, h .up, k .across, k .up)
 
 pub line-low : (r : Registers) → inBounds r ≡ true → r .frame .line ≤ 8768
 unfolding frameFits
 line-low r h =
-    let k = both (leb 256 (r .frame .line) && leb (r .frame .line) 8768) (eqb (r .frame .line % 64) 0) (parts r h .frame) in
+    let j = both (leb 256 (r .frame .line) && leb (r .frame .line) 8768 && eqb (r .frame .line % 64) 0) (leb (r .frame .layout) 1) (parts r h .frame) in
+    let k = both (leb 256 (r .frame .line) && leb (r .frame .line) 8768) (eqb (r .frame .line % 64) 0) (j .0) in
     leb-true _ _ (both (leb 256 (r .frame .line)) (leb (r .frame .line) 8768) (k .0) .1)
 
 -- no more than the rows in use have
-whole-counts : (rows : ℕ) (r : Registers) (f : Completed) (p : Picture) → AllVertices Near f → rows ≤ 8192 → r .frame .line ≤ 8768
-    → drawn (penOf r) (wholeOffers rows r f) p .passed ≤ p .passed + 71827456
+whole-counts : (rows : ℕ) (r : Registers) (f : Completed) (p : Picture) → AllVertices Near f → rows ≤ mostRows → r .frame .line ≤ 8768
+    → drawn (penOf r) (wholeOffers rows r f) p .passed ≤ p .passed + mostRows * 8768
 unfolding wholeOffers
 whole-counts rows r Nothing p near h k = rw (drawn-nil (penOf r) p) (omega arith)
 whole-counts rows r (Triangle a b c) p near h k =
-    omega (arith, triangle-counts (penOf r) rows (isConstant r) a b c p, mul-le-mul {n₁ = rows} {m₁ = r .frame .line} {n₂ = 8192} {m₂ = 8768} h k)
+    omega (arith, triangle-counts (penOf r) rows (isConstant r) a b c p, mul-le-mul {n₁ = rows} {m₁ = r .frame .line} {n₂ = mostRows} {m₂ = 8768} h k)
 whole-counts rows r (Segment a b) p near h k = omega (arith, segment-counts (penOf r) rows (styleOf r) a b p, larger-low a b (near .0) (near .1))
 
-pub figure-counts : (rows : ℕ) (r : Registers) (f : Completed) (p : Picture) → AllVertices Near f → rows ≤ 8192 → r .frame .line ≤ 8768
-    → drawn (penOf r) (figureOffers rows r f) p .passed ≤ p .passed + 71827456
+pub figure-counts : (rows : ℕ) (r : Registers) (f : Completed) (p : Picture) → AllVertices Near f → rows ≤ mostRows → r .frame .line ≤ 8768
+    → drawn (penOf r) (figureOffers rows r f) p .passed ≤ p .passed + mostRows * 8768
 unfolding figureOffers
 figure-counts rows r f p near h k =
-    chosen (λ (os : List Offer). drawn (penOf r) os p .passed ≤ p .passed + 71827456) (isCut r f) [] (wholeOffers rows r f)
+    chosen (λ (os : List Offer). drawn (penOf r) os p .passed ≤ p .passed + mostRows * 8768) (isCut r f) [] (wholeOffers rows r f)
     (λ t. rw (drawn-nil (penOf r) p) (omega arith)) (λ t. whole-counts rows r f p near h k)
 
 -- the count of one word is below 2 ^ 32
@@ -274,7 +278,7 @@ ptrn-counts r v m =
 
 -- ---- divisions
 
-near-below : {v : Vertex} → Near v → Below 16383 v
+near-below : {v : Vertex} → Near v → Below largestCoordinate v
 near-below h = record { across = omega (arith, h .across); up = omega (arith, h .up) }
 
 -- no triangle that an accepted word completes is too large for carried numbers, whichever way its corners turn; and only such triangles may be

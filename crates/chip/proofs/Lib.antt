@@ -6,5 +6,6 @@ pub mod Demands
 pub mod Laws
 pub mod Section
 pub mod Dashes
+pub mod WorkedLine
 pub mod Settled
 pub mod Reading

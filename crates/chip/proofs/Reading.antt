@@ -3,14 +3,14 @@ use mathlib.Core.Path.{_≡_, refl, sym, ap, _∙_, subst}
 use mathlib.Core.Logic.{_≢_}
 use mathlib.Core.Bool.{true}
 use mathlib.Core.List.{List, [], _∷_, foldl}
-use Prim.Native.Nat.{ℕ}
+use Prim.Native.Nat.{ℕ, _≤_}
 use lib.ListN.{length}
 use borrow.Author.Tests.{eq-eqb, ne-eqb}
 use Rattle.registers.specs.declared.Registers.{Registers}
-use Rattle.registers.specs.Record.{resetOf}
+use Rattle.registers.specs.Record.{resetAs}
 use Rattle.registers.specs.Next.{transferredOf}
 use Rattle.registers.specs.Bounds.{inBounds}
-use Rattle.registers.proofs.Kept.{reset-kept, read-kept}
+use Rattle.registers.proofs.Kept.{reset-kept-as, read-kept}
 use Rattle.machine.specs.Machine.{Memories}
 use Rattle.machine.specs.Offers.{State, state}
 use Rattle.machine.proofs.Runs.{zero-or-not}
@@ -40,9 +40,9 @@ module _ (r : Registers) (m : Memories) where
       (λ e. subst (λ (a : Reading). inBounds (a .registers) ≡ true) (sym (read-accepted e)) (read-kept (length (m .i)) (length (m .z)) r e))
       (λ e. subst (λ (a : Reading). inBounds (a .registers) ≡ true) (sym (read-refused e)) h)
 
--- from reset, no words and reads leave a record that breaks a bound
-pub calls-kept : (cs : List Call) (m : Memories) → inBounds (foldl called (state resetOf m) cs .registers) ≡ true
-calls-kept cs m = go cs (state resetOf m) reset-kept
+-- from reset, in either layout, no words and reads leave a record that breaks a bound
+pub calls-kept : (layout : ℕ) → layout ≤ 1 → (cs : List Call) (m : Memories) → inBounds (foldl called (state (resetAs layout) m) cs .registers) ≡ true
+calls-kept layout low cs m = go cs (state (resetAs layout) m) (reset-kept-as layout low)
   where
     go : (cs : List Call) (a : State Registers Memories) → inBounds (a .registers) ≡ true → inBounds (foldl called a cs .registers) ≡ true
     go [] a h = h

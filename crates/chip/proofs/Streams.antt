@@ -13,7 +13,6 @@ use Rattle.stream.specs.Calls.{checked}
 use Rattle.stream.proofs.Calls.{next-told, flaw-told, good}
 use Rattle.registers.specs.declared.Registers.{Registers}
 use Rattle.registers.specs.declared.word.Word.{Word}
-use Rattle.registers.specs.Record.{resetOf}
 use Rattle.registers.specs.Word.{wordOf}
 use Rattle.machine.specs.Run.{outcome, Ran, ran, runFrom, runOf}
 use Rattle.machine.specs.Machine.{Memories, stepOf}
@@ -38,35 +37,36 @@ module _ (bytes : List ℕ) where
   pub words-length : length (wordsOf bytes) ≡ length (unpackOf bytes)
   words-length = length-map (unpackOf bytes) wordOf
 
-  -- ---- the loop
+-- ---- the loop
 
+module _ (start : Registers) (bytes : List ℕ) where
   module _ (m₀ : Memories) where
     -- the whole run is the run of the words that are left, from where k words came to
     pub record Reached (m : Memories) (r : Registers) (sum k : ℕ) : Type 0 where
-      pub same : runOf (stepOf chip) resetOf (wordsOf bytes) m₀ ≡ runFrom (stepOf chip) (ran 0 k sum r m) (drop k (wordsOf bytes))
+      pub same : runOf (stepOf chip) start (wordsOf bytes) m₀ ≡ runFrom (stepOf chip) (ran 0 k sum r m) (drop k (wordsOf bytes))
 
-    pub reached-start : {r : Registers} → r ≡ resetOf → Reached m₀ r 0 0
+    pub reached-start : {r : Registers} → r ≡ start → Reached m₀ r 0 0
     reached-start e = record { same = ap (λ (q : Registers). runFrom (stepOf chip) (ran 0 0 0 q m₀) (wordsOf bytes)) (sym e) }
 
     module _ {m : Memories} {r : Registers} {sum k : ℕ} (so : Reached m r sum k) where
       module _ (left : k < length (unpackOf bytes)) {n p : ℕ} {r′ : Registers} {m′ : Memories} (told : outcome n p r′ m′ ≡ stepOf chip r (wordOf (wordAt bytes k)) m) where
         below : k < length (wordsOf bytes)
-        below = rw words-length left
+        below = rw (words-length bytes) left
 
         here : outcome n p r′ m′ ≡ stepOf chip r (getD (wordsOf bytes) k (wordOf 0)) m
-        here = told ∙ ap (λ (w : Word). stepOf chip r w m) (sym (word-at k))
+        here = told ∙ ap (λ (w : Word). stepOf chip r w m) (sym (word-at bytes k))
 
         -- the next word is accepted
         pub reached-more : n ≡ 0 → Reached m′ r′ ((sum + p) % 2 ^ 64) (k + 1)
         reached-more e = record { same = so .same ∙ turn-accepted (stepOf chip) (wordsOf bytes) k (wordOf 0) below sum r m here e }
 
         -- the next word is refused
-        pub reached-halt : n ≢ 0 → ran n k sum r′ m′ ≡ runOf (stepOf chip) resetOf (wordsOf bytes) m₀
+        pub reached-halt : n ≢ 0 → ran n k sum r′ m′ ≡ runOf (stepOf chip) start (wordsOf bytes) m₀
         reached-halt e = sym (so .same ∙ turn-halts chip (wordsOf bytes) k (wordOf 0) below sum r m here e)
 
       -- no word is left
-      pub reached-end : length (unpackOf bytes) ≤ k → ran 0 k sum r m ≡ runOf (stepOf chip) resetOf (wordsOf bytes) m₀
-      reached-end h = sym (so .same ∙ turn-none (stepOf chip) (wordsOf bytes) k (ran 0 k sum r m) (rw words-length h))
+      pub reached-end : length (unpackOf bytes) ≤ k → ran 0 k sum r m ≡ runOf (stepOf chip) start (wordsOf bytes) m₀
+      reached-end h = sym (so .same ∙ turn-none (stepOf chip) (wordsOf bytes) k (ran 0 k sum r m) (rw (words-length bytes) h))
 
 -- ---- before the first word
 
@@ -74,37 +74,38 @@ abbrev pub endedOf : Told → Memories → Ran Registers Memories
 endedOf a m = ran (a .refusal) (a .index) (a .sum) (a .registers) m
 
 -- an answer of a run that took no word
-abbrev pub stopped : ℕ → Told
-stopped number = record { refusal = number; index = 0; sum = 0; registers = resetOf }
+abbrev pub stopped : Registers → ℕ → Told
+stopped start number = record { refusal = number; index = 0; sum = 0; registers = start }
 
 module _ (bytes : List ℕ) (m : Memories) where
-  -- a number that the checks give stops the run before its first word
-  running-refused : {n : ℕ} → flawOf bytes m ≡ n → n ≢ 0 → ran n 0 0 resetOf m ≡ running bytes m
-  unfolding running
-  running-refused {n} e some = rw (e, ne-eqb n 0 some)
-
-  running-good : flawOf bytes m ≡ 0 → runOf (stepOf chip) resetOf (wordsOf bytes) m ≡ running bytes m
-  unfolding running
-  running-good e = rw e
-
   -- past 11 and 12 the lengths decide
   pub lengths-told : checked bytes 0 ≡ 0 → (b : Bool) → eqb (length (m .i)) (length (m .z)) ≡ b → flawOf bytes m ≡ cond b 0 2
   unfolding flawOf
   lengths-told e b f = let g = good bytes 0 e in next-told bytes (cond (eqb (length (m .i)) (length (m .z))) 0 2) (g .0) (g .1) ∙ ap (λ (t : Bool). cond t 0 2) f
 
+module _ (start : Registers) (bytes : List ℕ) (m : Memories) where
+  -- a number that the checks give stops the run before its first word
+  running-refused : {n : ℕ} → flawOf bytes m ≡ n → n ≢ 0 → ran n 0 0 start m ≡ running start bytes m
+  unfolding running
+  running-refused {n} e some = rw (e, ne-eqb n 0 some)
+
+  running-good : flawOf bytes m ≡ 0 → runOf (stepOf chip) start (wordsOf bytes) m ≡ running start bytes m
+  unfolding running
+  running-good e = rw e
+
   module _ {n : ℕ} (number : n ≡ checked bytes 0) where
     -- a stream with a flaw
-    pub run-flawed : {a : Told} → a ≡ stopped n → n ≢ 0 → endedOf a m ≡ running bytes m
+    pub run-flawed : {a : Told} → a ≡ stopped start n → n ≢ 0 → endedOf a m ≡ running start bytes m
     unfolding flawOf
     run-flawed answer some =
         ap (λ (b : Told). endedOf b m) answer ∙ running-refused (flaw-told bytes (cond (eqb (length (m .i)) (length (m .z))) 0 2) (λ e. some (number ∙ e)) ∙ sym number) some
 
     module _ (none : n ≡ 0) where
       -- memories that differ in length
-      pub run-unlike : {a : Told} → a ≡ stopped 2 → (length (m .i) ≡ length (m .z) → ⊥) → endedOf a m ≡ running bytes m
+      pub run-unlike : {a : Told} → a ≡ stopped start 2 → (length (m .i) ≡ length (m .z) → ⊥) → endedOf a m ≡ running start bytes m
       run-unlike answer unlike =
-          ap (λ (b : Told). endedOf b m) answer ∙ running-refused (lengths-told (sym number ∙ none) false (ne-eqb _ _ unlike)) (λ e. absurd (omega arith))
+          ap (λ (b : Told). endedOf b m) answer ∙ running-refused (lengths-told bytes m (sym number ∙ none) false (ne-eqb _ _ unlike)) (λ e. absurd (omega arith))
 
       -- a good stream over memories of one length
-      pub run-good : {a : Ran Registers Memories} → a ≡ runOf (stepOf chip) resetOf (wordsOf bytes) m → length (m .i) ≡ length (m .z) → a ≡ running bytes m
-      run-good ran like = ran ∙ running-good (lengths-told (sym number ∙ none) true (eq-eqb _ _ like))
+      pub run-good : {a : Ran Registers Memories} → a ≡ runOf (stepOf chip) start (wordsOf bytes) m → length (m .i) ≡ length (m .z) → a ≡ running start bytes m
+      run-good ran like = ran ∙ running-good (lengths-told bytes m (sym number ∙ none) true (eq-eqb _ _ like))

@@ -17,7 +17,7 @@ use Rattle.registers.specs.declared.word.Word.{Word}
 use Rattle.registers.specs.declared.word.Word.the-variants.{Init, Aux, Parm, At, Img, Ptrn, Reserved, Unmodelled, Unknown}
 use Rattle.registers.specs.declared.shape.Completed.{Completed}
 use Rattle.registers.specs.declared.shape.Completed.the-variants.{Nothing, Triangle, Segment}
-use Rattle.registers.specs.Record.{isOn, sectionBit, resetOf}
+use Rattle.registers.specs.Record.{isOn, sectionBit}
 use Rattle.registers.specs.Next.{after, completedBy, penOf, isDeepPicture}
 use Rattle.registers.specs.Refusal.{refusalOf}
 use Rattle.machine.specs.Machine.{Machine}
@@ -80,7 +80,6 @@ chip =
     record {
       Registers = Registers;
       Word = Word;
-      reset = resetOf;
       refusal = refusalOf;
       next = after;
       pen = penOf;

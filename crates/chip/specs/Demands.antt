@@ -14,7 +14,6 @@ use Rattle.stream.specs.Calls.{checked, over, told, sizeOf, packing, unpacking}
 use Rattle.stream.specs.declared.Coded.{Coded}
 use Rattle.stream.specs.declared.Coded.the-variants.{Done}
 use Rattle.registers.specs.declared.Registers.{Registers}
-use Rattle.registers.specs.Record.{resetOf}
 use Rattle.registers.specs.Word.{decode, wordOf}
 use Rattle.registers.specs.Next.{after, completedBy, penOf}
 use Rattle.registers.specs.Refusal.{refusalOf}
@@ -36,15 +35,15 @@ pub record Stepped (r : Registers) (command d : ℕ) (i z : List ℕ) : Type 0 w
   pub z-left : List ℕ
   pub promise : outcome refusal passed registers (memories i-left z-left) ≡ stepOf chip r (decode command d) (memories i z)
 
--- an outcome of a recording that the promise of `run` allows
-pub record Ended (bytes i z : List ℕ) : Type 0 where
+-- an outcome of a recording from a record, which is reset's, that the promise of `run` allows
+pub record Ended (start : Registers) (bytes i z : List ℕ) : Type 0 where
   pub refusal : ℕ
   pub index : ℕ
   pub sum : ℕ
   pub registers : Registers
   pub i-left : List ℕ
   pub z-left : List ℕ
-  pub promise : ran refusal index sum registers (memories i-left z-left) ≡ running bytes (memories i z)
+  pub promise : ran refusal index sum registers (memories i-left z-left) ≡ running start bytes (memories i z)
 
 -- both memories are as they were
 abbrev pub Same : List ℕ → List ℕ → List ℕ → List ℕ → Type 0
@@ -66,11 +65,11 @@ pub record Refuses (r : Registers) (command d : ℕ) (i z : List ℕ) (o : Stepp
 
 -- a recording is refused by 11, 12 or 2 before its first word, and then nothing is touched; or by the first of its words that is refused,
 -- and then the words before it keep their effect
-pub record Halts (bytes i z : List ℕ) (o : Ended bytes i z) : Type 0 where
+pub record Halts (start : Registers) (bytes i z : List ℕ) (o : Ended start bytes i z) : Type 0 where
   pub before : flawOf bytes (memories i z) ≢ 0
-      → (o .refusal ≡ flawOf bytes (memories i z)) × (o .index ≡ 0) × (o .sum ≡ 0) × (o .registers ≡ resetOf) × Same i z (o .i-left) (o .z-left)
+      → (o .refusal ≡ flawOf bytes (memories i z)) × (o .index ≡ 0) × (o .sum ≡ 0) × (o .registers ≡ start) × Same i z (o .i-left) (o .z-left)
   pub at-word : flawOf bytes (memories i z) ≡ 0 → o .refusal ≢ 0
-      → Stopped (stepOf chip) (wordOf 0) (ran 0 0 0 resetOf (memories i z)) (wordsOf bytes)
+      → Stopped (stepOf chip) (wordOf 0) (ran 0 0 0 start (memories i z)) (wordsOf bytes)
       (ran (o .refusal) (o .index) (o .sum) (o .registers) (memories (o .i-left) (o .z-left)))
   pub whole : o .refusal ≡ 0 → o .index ≡ length (wordsOf bytes)
 
@@ -78,8 +77,8 @@ pub record Halts (bytes i z : List ℕ) (o : Ended bytes i z) : Type 0 where
 pub record Demand1 : Type 0 where
   pub answers : (r : Registers) (command d : ℕ) (i z : List ℕ) → Stepped r command d i z
   pub refuses : (r : Registers) (command d : ℕ) (i z : List ℕ) (o : Stepped r command d i z) → Refuses r command d i z o
-  pub ends : (bytes i z : List ℕ) → Ended bytes i z
-  pub halts : (bytes i z : List ℕ) (o : Ended bytes i z) → Halts bytes i z o
+  pub ends : (start : Registers) (bytes i z : List ℕ) → Ended start bytes i z
+  pub halts : (start : Registers) (bytes i z : List ℕ) (o : Ended start bytes i z) → Halts start bytes i z o
 
 -- ---- demand 2
 
@@ -93,16 +92,16 @@ pub record Accepts (r : Registers) (command d : ℕ) (i z : List ℕ) (o : Stepp
   pub count : o .passed ≡ length (passedBy chip r (decode command d) (memories i z))
   pub untouched : (at : ℕ) → (List·Memᴰ at (touchedBy chip r (decode command d) (memories i z)) → ⊥) → SameAt at i z (o .i-left) (o .z-left)
 
--- a recording that is good, over memories of one length, is its words one after the other from reset
-pub record Runs (bytes i z : List ℕ) (o : Ended bytes i z) : Type 0 where
+-- a recording that is good, over memories of one length, is its words one after the other from its start
+pub record Runs (start : Registers) (bytes i z : List ℕ) (o : Ended start bytes i z) : Type 0 where
   pub words : ran (o .refusal) (o .index) (o .sum) (o .registers) (memories (o .i-left) (o .z-left))
-      ≡ runOf (stepOf chip) resetOf (wordsOf bytes) (memories i z)
-  pub sum : o .sum ≡ length (passedOf chip (wordsOf bytes) (memories i z)) % 2 ^ 64
-  pub untouched : (at : ℕ) → (List·Memᴰ at (touchedOf chip (wordsOf bytes) (memories i z)) → ⊥) → SameAt at i z (o .i-left) (o .z-left)
+      ≡ runOf (stepOf chip) start (wordsOf bytes) (memories i z)
+  pub sum : o .sum ≡ length (passedOf chip start (wordsOf bytes) (memories i z)) % 2 ^ 64
+  pub untouched : (at : ℕ) → (List·Memᴰ at (touchedOf chip start (wordsOf bytes) (memories i z)) → ⊥) → SameAt at i z (o .i-left) (o .z-left)
 
 pub record Demand2 : Type 0 where
   pub accepts : (r : Registers) (command d : ℕ) (i z : List ℕ) (o : Stepped r command d i z) → o .refusal ≡ 0 → Accepts r command d i z o
-  pub runs : (bytes i z : List ℕ) (o : Ended bytes i z) → flawOf bytes (memories i z) ≡ 0 → Runs bytes i z o
+  pub runs : (start : Registers) (bytes i z : List ℕ) (o : Ended start bytes i z) → flawOf bytes (memories i z) ≡ 0 → Runs start bytes i z o
   -- with room enough, packing words of 20 bits and unpacking them gives the same words
   pub words-back : (words out packed room unpacked : List ℕ) (first second : Coded) → fit 20 words ≡ true → length (packOf words) ≤ length out
       → told first packed ≡ packing words out → length words ≤ length room → told second unpacked ≡ unpacking (take (sizeOf first) packed) room

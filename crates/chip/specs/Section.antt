@@ -5,7 +5,7 @@ use Prim.Native.Nat.{_≤_}
 use Rattle.registers.specs.declared.Registers.{Registers}
 use Rattle.registers.specs.declared.word.Word.{Word}
 use Rattle.registers.specs.declared.shape.Shape.the-variants.{Line}
-use Rattle.registers.specs.Record.{isOn, sectionBit, resetOf}
+use Rattle.registers.specs.Record.{isOn, sectionBit}
 use Rattle.registers.specs.Figure.{shapeOf}
 use Rattle.registers.specs.Next.{after, completedBy, penOf}
 use Rattle.registers.specs.Refusal.{refusalOf}
@@ -18,7 +18,6 @@ uncut =
     record {
       Registers = Registers;
       Word = Word;
-      reset = resetOf;
       refusal = refusalOf;
       next = after;
       pen = penOf;

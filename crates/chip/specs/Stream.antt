@@ -8,7 +8,6 @@ use Rattle.stream.specs.Format.{unpackOf}
 use Rattle.stream.specs.Calls.{checked}
 use Rattle.registers.specs.declared.Registers.{Registers}
 use Rattle.registers.specs.declared.word.Word.{Word}
-use Rattle.registers.specs.Record.{resetOf}
 use Rattle.registers.specs.Word.{wordOf}
 use Rattle.machine.specs.Run.{Ran, ran, runOf}
 use Rattle.machine.specs.Machine.{Memories, stepOf}
@@ -25,7 +24,7 @@ flawIn bytes ni nz = checked bytes (cond (eqb ni nz) 0 2)
 unfoldable pub flawOf : List ℕ → Memories → ℕ
 flawOf bytes m = flawIn bytes (length (m .i)) (length (m .z))
 
--- a stream runs from reset, word by word until one is refused; refused before the first word, index and sum are 0, the registers
--- reset's, and the memories untouched
-unfoldable pub running : List ℕ → Memories → Ran Registers Memories
-running bytes m = cond (eqb (flawOf bytes m) 0) (runOf (stepOf chip) resetOf (wordsOf bytes) m) (ran (flawOf bytes m) 0 0 resetOf m)
+-- a stream runs from a record, word by word until one is refused; refused before the first word, index and sum are 0, the registers
+-- that record, and the memories untouched
+unfoldable pub running : Registers → List ℕ → Memories → Ran Registers Memories
+running r bytes m = cond (eqb (flawOf bytes m) 0) (runOf (stepOf chip) r (wordsOf bytes) m) (ran (flawOf bytes m) 0 0 r m)

@@ -1,8 +1,8 @@
-// A packed stream, from reset.
+// A packed stream, from reset, in either layout.
 ghost use mathlib.Core.Path.{_≡_};
 ghost use Rattle.stream.specs.Format.{wordAt};
 ghost use Rattle.registers.specs.Word.{wordOf};
-ghost use Rattle.registers.specs.Record.{resetOf};
+ghost use Rattle.registers.specs.Record.{resetAs, resetOf};
 ghost use Rattle.machine.specs.Run.{outcome, ran, runOf};
 ghost use Rattle.machine.specs.Machine.{memories, stepOf};
 ghost use Rattle.chip.specs.Chip.{chip};
@@ -32,11 +32,11 @@ fn step_at(r: Registers, bytes: &[u8], k: usize, im: &mut [u16], zm: &mut [u16])
 }
 
 // The words of a stream, one after the other, until one is refused.
-fn run_words(bytes: &[u8], im: &mut [u16], zm: &mut [u16]) -> Ran
-    ensures { λ a. ⌜ ran (a .refusal) (a .index) (a .sum) (a .registers) (memories (now (im .exit)) (now (zm .exit))) ≡ runOf (stepOf chip) resetOf (wordsOf (now (bytes .entry))) (memories (now (im .entry)) (now (zm .entry))) ⌝ }
+fn run_words(start: Registers, bytes: &[u8], im: &mut [u16], zm: &mut [u16]) -> Ran
+    ensures { λ a. ⌜ ran (a .refusal) (a .index) (a .sum) (a .registers) (memories (now (im .exit)) (now (zm .exit))) ≡ runOf (stepOf chip) start (wordsOf (now (bytes .entry))) (memories (now (im .entry)) (now (zm .entry))) ⌝ }
 {
     let count = held(bytes);
-    let mut r = Registers::reset();
+    let mut r = start;
     let mut sum: u64 = 0;
     let mut k = 0;
     while k < count {
@@ -63,28 +63,43 @@ fn run_words(bytes: &[u8], im: &mut [u16], zm: &mut [u16]) -> Ran
 }
 
 // A run that is refused before its first word.
-fn refused(number: u64) -> Ran
-    ensures { λ a. ⌜ a ≡ record { refusal = number; index = 0; sum = 0; registers = resetOf } ⌝ }
+fn refused(start: Registers, number: u64) -> Ran
+    ensures { λ a. ⌜ a ≡ record { refusal = number; index = 0; sum = 0; registers = start } ⌝ }
 {
-    let r = Registers::reset();
     Ran {
         refusal: number,
         index: 0,
         sum: 0,
-        registers: r,
+        registers: start,
     }
 }
 
-// Runs a packed stream from reset: checks it and the memories, then takes word after word until one is refused.
-pub fn run(bytes: &[u8], im: &mut [u16], zm: &mut [u16]) -> Ran
-    ensures { λ a. ⌜ ran (a .refusal) (a .index) (a .sum) (a .registers) (memories (now (im .exit)) (now (zm .exit))) ≡ running (now (bytes .entry)) (memories (now (im .entry)) (now (zm .entry))) ⌝ }
+// Runs a packed stream from a record: checks it and the memories, then takes word after word until one is refused.
+fn run_from(start: Registers, bytes: &[u8], im: &mut [u16], zm: &mut [u16]) -> Ran
+    ensures { λ a. ⌜ ran (a .refusal) (a .index) (a .sum) (a .registers) (memories (now (im .exit)) (now (zm .exit))) ≡ running start (now (bytes .entry)) (memories (now (im .entry)) (now (zm .entry))) ⌝ }
 {
     let number = flaw(bytes);
     if number != 0 {
-        return refused(number);
+        return refused(start, number);
     }
     if im.len() != zm.len() {
-        return refused(2);
+        return refused(start, 2);
     }
-    run_words(bytes, im, zm)
+    run_words(start, bytes, im, zm)
+}
+
+// Runs a packed stream from reset, over memories of rows one after the other.
+pub fn run(bytes: &[u8], im: &mut [u16], zm: &mut [u16]) -> Ran
+    ensures { λ a. ⌜ ran (a .refusal) (a .index) (a .sum) (a .registers) (memories (now (im .exit)) (now (zm .exit))) ≡ running resetOf (now (bytes .entry)) (memories (now (im .entry)) (now (zm .entry))) ⌝ }
+{
+    let start = Registers::reset();
+    run_from(start, bytes, im, zm)
+}
+
+// Runs a packed stream from reset, over memories of tiles.
+pub fn run_tiled(bytes: &[u8], im: &mut [u16], zm: &mut [u16]) -> Ran
+    ensures { λ a. ⌜ ran (a .refusal) (a .index) (a .sum) (a .registers) (memories (now (im .exit)) (now (zm .exit))) ≡ running (resetAs 1) (now (bytes .entry)) (memories (now (im .entry)) (now (zm .entry))) ⌝ }
+{
+    let start = Registers::reset_tiled();
+    run_from(start, bytes, im, zm)
 }

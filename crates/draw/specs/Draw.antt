@@ -7,6 +7,7 @@ use lib.Dec.{ltb}
 use Rattle.registers.specs.declared.Registers.{Registers}
 use Rattle.machine.specs.Run.{Ran}
 use Rattle.machine.specs.Machine.{Memories, memories}
+use Rattle.registers.specs.Record.{resetOf}
 use Rattle.chip.specs.Stream.{running}
 use Rattle.report.specs.Text.{report}
 
@@ -16,7 +17,7 @@ textOf a = report (a .index) (a .refusal) (a .sum) (a .registers .frame .line) (
 
 -- the text of a stream drawn on a picture of 8,192 places, I all 0 and Z all 65535
 unfoldable pub drawn : List ℕ → List ℕ
-drawn bytes = textOf (running bytes (memories (replicate 8192 0) (replicate 8192 65535)))
+drawn bytes = textOf (running resetOf bytes (memories (replicate 8192 0) (replicate 8192 65535)))
 
 -- `too long`, and the line's end
 abbrev pub tooLong : List ℕ

@@ -1,9 +1,10 @@
 // The drawing program: reads a packed stream from standard input, draws it, and prints the picture as text. What it prints for what it
-// reads is `printed` (specs/Draw.antt). Where a read or a write fails, it says so on standard error.
+// reads is `printed` (specs/Draw.antt). Where a read or a write fails, or where it is given arguments, it says so on standard error.
 mod text;
 
 use input::Taken;
 use input::take;
+use libc::STDERR_FILENO;
 use libc::STDOUT_FILENO;
 use text::put_printed;
 
@@ -18,6 +19,10 @@ fn print(bytes: &[u8]) {
 
 // One byte more than a stream may have is enough to tell that it is too long.
 fn main() {
+    if 1 < os::arg_count() {
+        io::write_all(STDERR_FILENO, b"usage: draw < RECORDING > TEXT\n");
+        return;
+    }
     let mut bytes = [0u8; 8193];
     let taken = take(&mut bytes);
     match taken {

@@ -14,7 +14,7 @@ use Rattle.stream.specs.Calls.{badLength, badTail, checked, wordCount, entry}
 use Rattle.stream.proofs.Stream.{length-unpack}
 use Rattle.stream.proofs.Calls.{cut-told, count-good}
 use Rattle.picture.specs.declared.Vertex.{Vertex}
-use Rattle.picture.specs.Place.{inMemory}
+use Rattle.picture.specs.Place.{layoutOf, mine, inMemory}
 use Rattle.picture.specs.Offer.{Offer, hasBit, patternBit, shows, inWindow, offered, keep}
 use Rattle.picture.specs.Draw.{spans}
 use Rattle.picture.proofs.Places.{both, same-test}
@@ -196,7 +196,7 @@ small p q r ps e h o =
         (ltb-true _ _ (h .0), ltb-true _ _ (h .1), g .1)
 
 pub examples : Claim
-unfolding table checked badLength badTail walk through larger smaller xLeads sideAt xAt yAt numberAt every agree inSquare among covered covers closed inside plusOf minusOf inMemory inWindow shows offered keep spans shadeOffers segmentOffers mixed shade pixelAt offersAt triangleOffers lineOf
+unfolding table checked badLength badTail walk through larger smaller xLeads sideAt xAt yAt numberAt every agree inSquare among covered covers closed inside plusOf minusOf inMemory mine layoutOf inWindow shows offered keep spans shadeOffers segmentOffers mixed shade pixelAt offersAt triangleOffers lineOf
 examples =
     lines _ _ _ refl refl also lines _ _ _ refl refl
     also ramped _ _ _ _ refl refl refl also ramped _ _ _ _ refl refl refl

@@ -8,6 +8,8 @@ use lib.ListN.{length, replicate}
 use Rattle.stream.specs.Calls.{checked, wordCount}
 use Rattle.picture.specs.declared.Vertex.{Vertex}
 use Rattle.picture.specs.declared.Pen.{Pen}
+use Rattle.picture.specs.Limits.{largestBorder}
+use Rattle.picture.specs.Place.{plainFrame}
 use Rattle.picture.specs.Offer.{Offer, shows}
 use Rattle.line.specs.declared.Mode.the-variants.{Two}
 use Rattle.line.specs.declared.Style.{Style}
@@ -59,11 +61,11 @@ covered a b c x y =
 abbrev pub bare : Pen
 bare =
     record {
-      frame = record { line = 4 };
+      frame = plainFrame 4;
       left = 0;
-      right = 8192;
+      right = largestBorder;
       bottom = 0;
-      top = 8192;
+      top = largestBorder;
       transparency = 65535;
       planes = 65535;
       depth = false;

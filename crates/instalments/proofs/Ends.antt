@@ -10,7 +10,7 @@ use native.Mathlib.Omega.{arith}
 use lib.Dec.{eqb}
 use lib.ListN.{length, getD, drop, length-drop, length-map, drop-of-length-le}
 use lib.Seq.{drop-drop, getD-drop}
-use borrow.Author.Tests.{eq-eqb, ne-eqb, le-ltb, eqb-false}
+use borrow.Author.Tests.{eq-eqb, ne-eqb, eqb-false}
 use Rattle.stream.specs.Format.{bits, number, joined, unpackOf}
 use Rattle.stream.specs.Calls.{badLength, badTail, checked}
 use Rattle.stream.proofs.Bits.{Fits, none, more, number-bits}
@@ -21,8 +21,7 @@ use Rattle.stream.proofs.Round.{unpack-fits}
 use Rattle.registers.specs.declared.Registers.{Registers}
 use Rattle.registers.specs.Record.{resetOf}
 use Rattle.registers.specs.Word.{wordOf}
-use Rattle.registers.specs.Refusal.{isUnknown, refusalOf}
-use Rattle.registers.proofs.Commands.{decode-unknown}
+use Rattle.registers.specs.Refusal.{refusalOf}
 use Rattle.registers.proofs.Refusals.{given-2}
 use Rattle.machine.specs.Run.{Ran, ran, advance, runFrom, runOf}
 use Rattle.machine.specs.Machine.{Memories, stepOf}
@@ -34,7 +33,7 @@ use Rattle.chip.specs.Stream.{wordsOf, flawIn, flawOf, running}
 use Rattle.instalments.specs.Instalments.{numbered, holding, endNumber, endNumberOf}
 use Rattle.instalments.specs.Delivered.{wordsRun, endedBy}
 use Rattle.instalments.proofs.Rows.{past, past-length}
-use Rattle.instalments.proofs.Words.{counted-low}
+use Rattle.instalments.proofs.Words.{counted-low, known}
 
 -- ---- the bits that are left over
 
@@ -100,11 +99,6 @@ end-number bytes m =
     left-told bytes (length (wordsRun bytes m .memories .i)) (length (wordsRun bytes m .memories .z))
     ∙ ap₂ (flawIn bytes) (run-length-i chip (wordsOf bytes) (ran 0 0 0 resetOf m)) (run-length-z chip (wordsOf bytes) (ran 0 0 0 resetOf m))
 
--- a word of 20 bits has a known command
-known : (w : ℕ) → w < 2 ^ 20 → isUnknown (wordOf w) ≡ false
-unfolding wordOf
-known w h = decode-unknown (w / 65536) (w % 65536) ∙ le-ltb 15 (w / 65536) (omega arith)
-
 module _ (m : Memories) (unlike : length (m .i) ≢ length (m .z)) where
   -- over memories that differ in length the first word gets 2
   first-refused : (w : ℕ) → w < 2 ^ 20 → advance (stepOf chip) (ran 0 0 0 resetOf m) (wordOf w) ≡ ran 2 0 0 resetOf m
@@ -137,7 +131,7 @@ all-counted bytes m h =
     (omega (arith, h, index-low (stepOf chip) resetOf (wordsOf bytes) m, length-map (unpackOf bytes) wordOf, length-unpack bytes))
 
 -- a stream that 11 and 12 don't touch ends as if it were run at once
-pub ended-once : (bytes : List ℕ) (m : Memories) → length bytes < 2 ^ 64 → checked bytes 0 ≡ 0 → endedBy (flawOf bytes m) (wordsRun bytes m) ≡ running bytes m
+pub ended-once : (bytes : List ℕ) (m : Memories) → length bytes < 2 ^ 64 → checked bytes 0 ≡ 0 → endedBy (flawOf bytes m) (wordsRun bytes m) ≡ running resetOf bytes m
 unfolding running flawOf
 ended-once bytes m h e =
     ap (endedBy (flawOf bytes m)) (all-counted bytes m h)

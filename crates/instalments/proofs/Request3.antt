@@ -41,7 +41,7 @@ ending-closes t sound = go (isClosed (t .so .refusal) (t .over)) refl
 
 -- ---- parts
 
--- calls of `feed` come to what one call with all their bytes comes to
+-- calls of `dextolumen_feed` come to what one call with all their bytes comes to
 pub fed-together : {s s′ : Intake} {m m′ : Memories} {parts : List (List ℕ)} → isSound s ≡ true → Fed s m parts s′ m′
     → taking s′ m′ ≡ bytesIn (taking s m) (flatten parts)
 unfolding bytesIn flatten
@@ -101,7 +101,7 @@ ended-fresh bytes m = zero-or-not (a .refusal) going stopped
 
 -- ---- answers
 
--- what calls of `feed` leave
+-- what calls of `dextolumen_feed` leave
 left : Intake → Memories → List (List ℕ) → Taking
 left s m [] = taking s m
 left s m (part ∷ parts) = let t = feeding (taking s m) part in left (intakeOf t) (t .so .memories) parts
@@ -140,7 +140,7 @@ answered parts i z =
 -- ---- the request
 
 module _ (parts : List (List ℕ)) (first last : Intake) (m m′ : Memories) (begins : first ≡ fresh) (feeds : Fed first m parts last m′) where
-  -- a call of `feed` answers as one call with all bytes so far would
+  -- a call of `dextolumen_feed` answers as one call with all bytes so far would
   last-is : taking last m′ ≡ bytesIn (taking fresh m) (flatten parts)
   last-is = fed-together (rw begins fresh-sound) feeds ∙ ap (λ (s : Intake). bytesIn (taking s m) (flatten parts)) begins
 

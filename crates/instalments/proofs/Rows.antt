@@ -1,10 +1,10 @@
 -- Rows of bits as the code holds them, a number and how many they are: a byte more, a word off the front, and what is left behind the
 -- words. Assumes nothing.
-use mathlib.Core.Path.{_≡_, sym, ap, ap₂, _∙_}
-use mathlib.Core.Bool.{true, _&&_}
+use mathlib.Core.Path.{_≡_, refl, sym, ap, ap₂, _∙_}
+use mathlib.Core.Bool.{true, false, _&&_}
 use mathlib.Core.List.{List, [], _∷_, _++_}
-use Prim.Native.Nat.{ℕ, suc, _+_, _-_, _*_, _/_, _%_, _^_, _≤_, _<_}
-use native.Mathlib.Nat.{div-eq-of-lt, div-lt-iff-lt-mul, mod-eq-of-lt}
+use Prim.Native.Nat.{ℕ, zero, suc, _+_, _-_, _*_, _/_, _%_, _^_, _≤_, _<_}
+use native.Mathlib.Nat.{div-eq-of-lt, div-lt-iff-lt-mul, mod-eq-of-lt, mod-lt, mul-add-mod-self-right}
 use native.Mathlib.Omega.{arith}
 use lib.Arith.{digits-lt}
 use lib.Dec.{ltb, eqb}
@@ -19,19 +19,47 @@ use Rattle.instalments.specs.Instalments.{bitsFit}
 
 -- ---- bits that are held
 
--- bits that bytes may have left are fewer than twenty, a multiple of four, and a number of no more bits
-pub bits-parts : (h k : ℕ) → bitsFit h k ≡ true → (k < 20) × (k % 4 ≡ 0) × (h < 2 ^ k)
+-- bits that bytes may have left are fewer than twenty, whole bytes with those of the words, and a number of no more bits
+pub bits-open : (index h k : ℕ) → bitsFit false index h k ≡ true → (k < 20) × ((20 * index + k) % 8 ≡ 0) × (h < 2 ^ k)
 unfolding bitsFit
-bits-parts h k e =
-    let p = both (ltb k 20) (eqb (k % 4) 0 && eqb (h / 2 ^ k) 0) e in
-    let q = both (eqb (k % 4) 0) (eqb (h / 2 ^ k) 0) (p .1) in
+bits-open index h k e =
+    let eights = eqb ((20 * index + k) % 8) 0 in
+    let p = both (ltb k 20) (eights && eqb (h / 2 ^ k) 0) e in
+    let q = both eights (eqb (h / 2 ^ k) 0) (p .1) in
     let none : h / 2 ^ k < 1 = omega (arith, eqb-true (h / 2 ^ k) 0 (q .1)) in
-    (ltb-true k 20 (p .0), eqb-true (k % 4) 0 (q .0), omega (arith, div-lt-iff-lt-mul (pow-pos k) .0 none))
+    (ltb-true k 20 (p .0), eqb-true ((20 * index + k) % 8) 0 (q .0), omega (arith, div-lt-iff-lt-mul (pow-pos k) .0 none))
 
 -- and the other way round
-pub parts-bits : (h k : ℕ) → k < 20 → k % 4 ≡ 0 → h < 2 ^ k → bitsFit h k ≡ true
+pub open-bits : (index h k : ℕ) → k < 20 → (20 * index + k) % 8 ≡ 0 → h < 2 ^ k → bitsFit false index h k ≡ true
 unfolding bitsFit
-parts-bits h k few fours fits = rw (lt-ltb _ _ few, fours, div-eq-of-lt fits)
+open-bits index h k few eights fits = rw (lt-ltb _ _ few, eights, div-eq-of-lt fits)
+
+-- whole bytes may be left out of a count of bits
+eights-out : (q m n : ℕ) → m ≡ q * 8 + n → n % 8 ≡ m % 8
+eights-out q m n e = sym (ap (λ (k : ℕ). k % 8) e ∙ mul-add-mod-self-right q 8 n)
+
+module _ (index k : ℕ) where
+  -- so of the words it matters whether they are even
+  pub even-words : (20 * (index % 2) + k) % 8 ≡ (20 * index + k) % 8
+  even-words = eights-out (5 * (index / 2)) (20 * index + k) (20 * (index % 2) + k) (omega arith)
+
+  -- and they may be counted modulo 2 ^ 64
+  pub counted-words : (20 * (index % 2 ^ 64) + k) % 8 ≡ (20 * index + k) % 8
+  counted-words = eights-out (5 * 2 ^ 63 * (index / 2 ^ 64)) (20 * index + k) (20 * (index % 2 ^ 64) + k) (omega arith)
+
+-- half a byte is left only behind an odd number of words
+pub half-odd : (index : ℕ) → (20 * index + 4) % 8 ≡ 0 → index % 2 ≡ 1
+half-odd index e = go (index % 2) refl (mod-lt index (omega arith))
+  where
+    go : (q : ℕ) → index % 2 ≡ q → q < 2 → q ≡ 1
+    go zero z h = absurd (omega (arith, ap (λ (r : ℕ). (20 * r + 4) % 8) (sym z) ∙ even-words index 4 ∙ e))
+    go (suc zero) z h = refl
+    go (suc (suc q)) z h = absurd (omega arith)
+
+-- where none are held, a record may be closed
+pub closed-bits : (index : ℕ) → bitsFit true index 0 0 ≡ true
+unfolding bitsFit
+closed-bits index = refl
 
 -- a row, as the number that it is
 pub number-row : (k v : ℕ) → v < 2 ^ k → number (bits k v) ≡ v

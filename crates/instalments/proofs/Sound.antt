@@ -1,15 +1,18 @@
 -- Records that break no bound: what that comes to, that every call leaves one, and what a call makes of any other. Assumes nothing.
-use mathlib.Core.Path.{_≡_, refl, sym, _∙_}
-use mathlib.Core.Bool.{Bool, true, false, not, _&&_, _||_, true≢false}
+use mathlib.Core.Path.{_≡_, refl, ap, _∙_}
+use mathlib.Core.Logic.{_≢_}
+use mathlib.Core.Bool.{Bool, true, false, cond, not, _&&_, _||_}
 use mathlib.Core.List.{List, [], _∷_, _++_}
-use Prim.Native.Nat.{ℕ, _+_, _-_, _%_, _^_, _<_}
+use Prim.Native.Nat.{ℕ, _+_, _*_, _%_, _^_, _<_}
 use native.Mathlib.Omega.{arith}
 use lib.Dec.{ltb, eqb}
 use lib.ListN.{length, take, drop, length-append, length-drop}
-use borrow.Author.Tests.{lt-ltb, ltb-true, ltb-false, eq-eqb, eqb-true}
+use lib.Seq.{length-take-le}
+use borrow.Author.Tests.{ltb-true, ltb-false, eq-eqb, eqb-true, eqb-false}
 use Rattle.stream.specs.Format.{bits, number}
-use Rattle.stream.proofs.Bits.{Fits, fits-append, fits-drop, bits-fit, length-bits, number-lt}
+use Rattle.stream.proofs.Bits.{Fits, fits-append, fits-drop, fits-take, bits-fit, length-bits, number-lt}
 use Rattle.registers.specs.declared.Registers.{Registers}
+use Rattle.registers.specs.Record.{settings}
 use Rattle.registers.specs.Bounds.{inBounds}
 use Rattle.registers.proofs.Truth.{both, and-both}
 use Rattle.registers.proofs.Kept.{reset-kept}
@@ -17,55 +20,38 @@ use Rattle.machine.specs.Run.{Ran}
 use Rattle.machine.specs.Machine.{Memories}
 use Rattle.machine.proofs.Runs.{zero-or-not}
 use Rattle.instalments.specs.declared.Intake.{Intake}
-use Rattle.instalments.specs.Instalments.{Taking, intakeOf, fresh, isClosed, bitsFit, isSound, unsound, given, wordIn, waiting, poured, byteIn, bytesIn, feeding, told, ending}
-use Rattle.instalments.proofs.Rows.{bits-parts, parts-bits}
-use Rattle.instalments.proofs.Words.{word-kept}
-use Rattle.instalments.proofs.Bytes.{open-before, waiting-open, waiting-closed, poured-short, poured-word, byte-open, byte-closed, bytes-append}
+use Rattle.instalments.specs.Instalments.{Taking, intakeOf, fresh, isClosed, isWordNumber, isEndNumber, numberFits, bitsFit, begunFits, isSound, unsound, given, wordIn, waiting, poured, byteIn, bytesIn, feeding, endNumber, endNumberOf, told, ending}
+use Rattle.instalments.proofs.Rows.{bits-open, open-bits, half-odd, closed-bits}
+use Rattle.instalments.proofs.Words.{Fine, word-fine, word-bits}
+use Rattle.instalments.proofs.Bytes.{closed-refused, closed-told, open-before, open-parts, waiting-open, waiting-closed, poured-short, poured-word, byte-open, byte-closed, bytes-append, bytes-closed}
 
 -- ---- the bounds, one by one
 
 pub record Parts (s : Intake) : Type 0 where
-  pub few : s .count < 20
-  pub fours : s .count % 4 ≡ 0
-  pub fits : s .held < 2 ^ s .count
-  pub once : s .over < 2
-  pub none : isClosed (s .refusal) (s .over) ≡ true → s .count ≡ 0
+  pub bits : bitsFit (isClosed (s .refusal) (s .over)) (s .index) (s .held) (s .count) ≡ true
+  pub tells : numberFits (s .over) (s .index) (s .refusal) ≡ true
+  pub begun : begunFits (s .index) (s .sum) (s .registers) ≡ true
   pub kept : inBounds (s .registers) ≡ true
-
--- where a test holds, so does another
-follows : (a b : Bool) → not a || b ≡ true → a ≡ true → b ≡ true
-follows true b e h = e
-follows false b e h = absurd (true≢false (sym h))
-
-or-follows : (a b : Bool) → (a ≡ true → b ≡ true) → not a || b ≡ true
-or-follows true b h = h refl
-or-follows false b h = refl
 
 module _ (s : Intake) where
   pub sound-parts : isSound s ≡ true → Parts s
   unfolding isSound
   sound-parts e =
-      let closed = isClosed (s .refusal) (s .over) in
-      let idle = not closed || eqb (s .count) 0 in
-      let p = both (bitsFit (s .held) (s .count)) (ltb (s .over) 2 && (idle && inBounds (s .registers))) e in
-      let q = both (ltb (s .over) 2) (idle && inBounds (s .registers)) (p .1) in
-      let r = both idle (inBounds (s .registers)) (q .1) in
-      let b = bits-parts (s .held) (s .count) (p .0) in
-      record {
-        few = b .0;
-        fours = b .1;
-        fits = b .2;
-        once = ltb-true (s .over) 2 (q .0);
-        none = λ h. eqb-true (s .count) 0 (follows closed (eqb (s .count) 0) (r .0) h);
-        kept = r .1;
-      }
+      let tells = numberFits (s .over) (s .index) (s .refusal) in
+      let begun = begunFits (s .index) (s .sum) (s .registers) in
+      let p = both (bitsFit (isClosed (s .refusal) (s .over)) (s .index) (s .held) (s .count)) (tells && (begun && inBounds (s .registers))) e in
+      let q = both tells (begun && inBounds (s .registers)) (p .1) in
+      let r = both begun (inBounds (s .registers)) (q .1) in
+      record { bits = p .0; tells = q .0; begun = r .0; kept = r .1 }
 
   pub parts-sound : Parts s → isSound s ≡ true
   unfolding isSound
-  parts-sound p =
-      and-both (parts-bits (s .held) (s .count) (p .few) (p .fours) (p .fits))
-      (and-both (lt-ltb (s .over) 2 (p .once))
-      (and-both (or-follows (isClosed (s .refusal) (s .over)) (eqb (s .count) 0) (λ h. eq-eqb (s .count) 0 (p .none h))) (p .kept)))
+  parts-sound p = and-both (p .bits) (and-both (p .tells) (and-both (p .begun) (p .kept)))
+
+  -- what an open one holds
+  pub open-holds : isSound s ≡ true → isClosed (s .refusal) (s .over) ≡ false
+      → (s .count < 20) × ((20 * s .index + s .count) % 8 ≡ 0) × (s .held < 2 ^ s .count)
+  open-holds e opened = bits-open (s .index) (s .held) (s .count) (rw opened at (sound-parts e .bits))
 
 -- ---- what a call comes to
 
@@ -106,48 +92,60 @@ module _ (t : Taking) where
   unfolding ending
   ending-refused e = given-unsound t _ e
 
--- and refused again by the next call
-pub unsound-stays : (t : Taking) → isSound (intakeOf t) ≡ false → isSound (intakeOf (unsound t)) ≡ false
-unsound-stays t e = go (isSound (intakeOf (unsound t))) refl
+-- what was refused is refused again by the next instalment, or repeated where only the number broke a bound
+pub refused-again : (t : Taking) (bytes : List ℕ) → feeding (unsound t) bytes ≡ unsound t
+refused-again t bytes = go (isSound (intakeOf (unsound t))) refl
   where
-    go : (b : Bool) → isSound (intakeOf (unsound t)) ≡ b → b ≡ false
-    go true h =
-        let p = sound-parts (intakeOf (unsound t)) h in
-        let same : Parts (intakeOf t) = record { few = p .few; fours = p .fours; fits = p .fits; once = p .once; none = λ c. p .none refl; kept = p .kept } in
-        absurd (true≢false (sym (parts-sound (intakeOf t) same) ∙ e))
-    go false h = refl
+    go : (b : Bool) → isSound (intakeOf (unsound t)) ≡ b → feeding (unsound t) bytes ≡ unsound t
+    go true e = feeding-bytes (unsound t) e bytes ∙ bytes-closed bytes (unsound t) refl
+    go false e = feeding-refused (unsound t) e bytes
 
 -- ---- every call leaves a record that breaks no bound
 
 -- the first
 pub fresh-sound : isSound fresh ≡ true
-fresh-sound = parts-sound fresh (record { few = omega arith; fours = refl; fits = omega arith; once = omega arith; none = λ h. refl; kept = reset-kept })
+unfolding settings
+fresh-sound = parts-sound fresh (record { bits = open-bits 0 0 0 (omega arith) refl (omega arith); tells = refl; begun = refl; kept = reset-kept })
 
 -- bits that wait
-waiting-sound : (a : Ran Registers Memories) (row : List ℕ) → inBounds (a .registers) ≡ true → Fits 1 row → length row < 20 → length row % 4 ≡ 0
+waiting-sound : (a : Ran Registers Memories) (row : List ℕ) → Fine a → Fits 1 row
+    → (a .refusal ≡ 0 → (length row < 20) × ((20 * a .index + length row) % 8 ≡ 0))
     → isSound (intakeOf (waiting a row)) ≡ true
 unfolding number
-waiting-sound a row h f few fours =
-    zero-or-not (a .refusal)
-    (λ e.
-    rw (waiting-open a row e)
-    (parts-sound _ (record { few = few; fours = fours; fits = number-lt f; once = omega arith; none = λ c. absurd (true≢false (sym c ∙ open-before (a .refusal) e)); kept = h })))
-    (λ e.
-    rw (waiting-closed a row e)
-    (parts-sound _ (record { few = omega arith; fours = refl; fits = omega arith; once = omega arith; none = λ c. refl; kept = h })))
+waiting-sound a row h f left = zero-or-not (a .refusal) goes stopped
+  where
+    tells : numberFits 0 (a .index) (a .refusal) ≡ true
+    tells = rw (h .tells)
+
+    goes : a .refusal ≡ 0 → isSound (intakeOf (waiting a row)) ≡ true
+    goes e =
+        let bits = open-bits (a .index) (number row) (length row) (left e .0) (left e .1) (number-lt f) in
+        rw (waiting-open a row e)
+        (parts-sound _ (record { bits = rw (open-before (a .refusal) e) bits; tells = tells; begun = h .begun; kept = h .kept }))
+
+    stopped : a .refusal ≢ 0 → isSound (intakeOf (waiting a row)) ≡ true
+    stopped e =
+        let bits = closed-bits (a .index) in
+        rw (waiting-closed a row e)
+        (parts-sound _ (record { bits = rw (closed-refused (a .refusal) 0 e) bits; tells = tells; begun = h .begun; kept = h .kept }))
 
 -- a byte's bits behind fewer than twenty
-poured-sound : (a : Ran Registers Memories) (row : List ℕ) → inBounds (a .registers) ≡ true → Fits 1 row → length row < 28 → length row % 4 ≡ 0
+poured-sound : (a : Ran Registers Memories) (row : List ℕ) → Fine a → Fits 1 row → length row < 28 → (20 * a .index + length row) % 8 ≡ 0
     → isSound (intakeOf (poured a row)) ≡ true
-poured-sound a row h f few fours = go (ltb (length row) 20) refl
+poured-sound a row h f few left = go (ltb (length row) 20) refl
   where
     go : (b : Bool) → ltb (length row) 20 ≡ b → isSound (intakeOf (poured a row)) ≡ true
-    go true e = let short = ltb-true (length row) 20 e in rw (poured-short a row short) (waiting-sound a row h f short fours)
+    go true e = let short = ltb-true (length row) 20 e in rw (poured-short a row short) (waiting-sound a row h f (λ z. (short, left)))
     go false e =
         let enough = ltb-false (length row) 20 e in
         let w = number (take 20 row) in
+        let twenty : length (take 20 row) ≡ 20 = length-take-le 20 row enough in
+        let low : w < 2 ^ 20 = rw twenty at (number-lt (fits-take 20 f)) in
         rw (poured-word a row enough)
-        (waiting-sound (wordIn a w) (drop 20 row) (word-kept a w h) (fits-drop 20 f) (omega (arith, few, length-drop 20 row)) (omega (arith, fours, enough, length-drop 20 row)))
+        (waiting-sound (wordIn a w) (drop 20 row) (word-fine a w low h) (fits-drop 20 f)
+        (λ z.
+        let behind : length row ≡ 20 + length (drop 20 row) = omega (arith, enough, length-drop 20 row) in
+        (omega (arith, few, behind), word-bits a w z (length (drop 20 row)) (rw behind at left))))
 
 -- a byte
 pub byte-sound : (t : Taking) (b : ℕ) → isSound (intakeOf t) ≡ true → isSound (intakeOf (byteIn t b)) ≡ true
@@ -157,16 +155,36 @@ byte-sound t b h = go (isClosed (t .so .refusal) (t .over)) refl
     go true e = rw (byte-closed t b e) h
     go false e =
         let p = sound-parts (intakeOf t) h in
+        let q = open-holds (intakeOf t) h e in
+        let goes = open-parts (t .so .refusal) (t .over) e .0 in
+        let fine : Fine (t .so) = record { kept = p .kept; tells = ap isWordNumber goes; begun = p .begun } in
         let row = bits (t .count) (t .held) ++ bits 8 b in
         let size : length row ≡ t .count + 8 = length-append (bits (t .count) (t .held)) (bits 8 b) ∙ omega (arith, length-bits (t .count) (t .held), length-bits 8 b) in
         rw (byte-open t b e)
-        (poured-sound (t .so) row (p .kept) (fits-append (bits-fit (t .count) (t .held)) (bits-fit 8 b)) (omega (arith, size, p .few)) (omega (arith, size, p .fours)))
+        (poured-sound (t .so) row fine (fits-append (bits-fit (t .count) (t .held)) (bits-fit 8 b)) (omega (arith, size, q .0)) (omega (arith, size, q .1)))
 
 -- bytes
 pub bytes-sound : (bytes : List ℕ) (t : Taking) → isSound (intakeOf t) ≡ true → isSound (intakeOf (bytesIn t bytes)) ≡ true
 unfolding bytesIn
 bytes-sound [] t h = h
 bytes-sound (b ∷ bytes) t h = bytes-sound bytes (byteIn t b) (byte-sound t b h)
+
+-- the end tells one of its numbers
+end-tells : (index held count ni nz : ℕ) → (20 * index + count) % 8 ≡ 0 → held < 2 ^ count → isEndNumber index (endNumber held count ni nz) ≡ true
+end-tells index held count ni nz left fits = go (eqb count 0) (eqb count 4) (eqb held 0) (eqb ni nz) refl refl refl
+  where
+    go : (none half still same : Bool) → eqb count 0 ≡ none → eqb count 4 ≡ half → eqb held 0 ≡ still
+        → isEndNumber index (cond (not (none || half)) 11 (cond (not still) 12 (cond same 0 2))) ≡ true
+    go true half true true p q r = refl
+    go true half true false p q r = refl
+    go true half false same p q r =
+        let empty = eqb-true count 0 p in
+        let low : held < 2 ^ 0 = rw empty at fits in
+        absurd (eqb-false held 0 r (omega arith))
+    go false true true true p q r = refl
+    go false true true false p q r = refl
+    go false true false same p q r = let half = eqb-true count 4 q in eq-eqb (index % 2) 1 (half-odd index (rw half at left))
+    go false false still same p q r = refl
 
 module _ (t : Taking) (h : isSound (intakeOf t) ≡ true) where
   -- an instalment
@@ -179,7 +197,12 @@ module _ (t : Taking) (h : isSound (intakeOf t) ≡ true) where
     where
       go : (c : Bool) → isClosed (t .so .refusal) (t .over) ≡ c → isSound (intakeOf (ending t)) ≡ true
       go true e = rw (ending-stays t h e) h
-      go false e = rw (ending-open t h e) (parts-sound _ (record { few = omega arith; fours = refl; fits = omega arith; once = omega arith; none = λ c. refl; kept = sound-parts (intakeOf t) h .kept }))
+      go false e =
+          let p = sound-parts (intakeOf t) h in
+          let q = open-holds (intakeOf t) h e in
+          let tells = end-tells (t .so .index) (t .held) (t .count) (length (t .so .memories .i)) (length (t .so .memories .z)) (q .1) (q .2) in
+          rw (ending-open t h e)
+          (parts-sound _ (record { bits = rw (closed-told (endNumberOf t)) (closed-bits (t .so .index)); tells = tells; begun = p .begun; kept = p .kept }))
 
 -- ---- an instalment in two parts
 
@@ -190,4 +213,4 @@ feeding-append t bytes more = go (isSound (intakeOf t)) refl
     go : (b : Bool) → isSound (intakeOf t) ≡ b → feeding t (bytes ++ more) ≡ feeding (feeding t bytes) more
     go true e =
         rw (feeding-bytes t e (bytes ++ more), feeding-bytes t e bytes, feeding-bytes (bytesIn t bytes) (bytes-sound bytes t e) more) (bytes-append t bytes more)
-    go false e = rw (feeding-refused t e (bytes ++ more), feeding-refused t e bytes, feeding-refused (unsound t) (unsound-stays t e) more)
+    go false e = rw (feeding-refused t e (bytes ++ more), feeding-refused t e bytes, refused-again t more)

@@ -17,7 +17,7 @@ use Rattle.instalments.specs.declared.Intake.{Intake}
 use Rattle.instalments.specs.Instalments.{Taking, soFar, taking, isClosed, isSound, wordIn, poured, bytesIn}
 use Rattle.instalments.proofs.Rows.{byte-fits}
 use Rattle.instalments.proofs.Bytes.{closed-refused, open-before, open-parts, byte-taken, heldOf, pour-short, pour-word, pour-refused, turn, turn-none, bytes-closed}
-use Rattle.instalments.proofs.Sound.{sound-parts}
+use Rattle.instalments.proofs.Sound.{open-holds}
 
 -- having taken k bytes: no word was refused, fewer bits are held than a word has, and the bytes that are left come to what all come to
 pub record Turned (bytes : List ℕ) (t : Taking) (a : Ran Registers Memories) (held count k : ℕ) : Type 0 where
@@ -30,12 +30,12 @@ pub record Turned (bytes : List ℕ) (t : Taking) (a : Ran Registers Memories) (
 pub turned-first : (bytes : List ℕ) (s : Intake) (m : Memories) → isSound s ≡ true → isClosed (s .refusal) (s .over) ≡ false
     → Turned bytes (taking s m) (soFar s m) (s .held) (s .count) 0
 turned-first bytes s m sound opened =
-    let p = sound-parts s sound in
+    let p = open-holds s sound opened in
     let q = open-parts (s .refusal) (s .over) opened in
     record {
       goes = q .0;
-      few = p .few;
-      fits = p .fits;
+      few = p .0;
+      fits = p .2;
       same = ap (λ (over : ℕ). bytesIn (record { so = soFar s m; held = s .held; count = s .count; over = over }) bytes) (sym (q .1));
     }
 

@@ -1,5 +1,5 @@
--- What document 02's request 3 asks of a recording in instalments, said of each outcome that the promises of `begin`, `feed` and `finish`,
--- and of the chip's `run`, allow.
+-- What document 02's request 3 asks of a recording in instalments, said of each outcome that the promises of `dextolumen_begin`,
+-- `dextolumen_feed` and `dextolumen_finish`, and of the chip's `run`, allow.
 use mathlib.Core.Path.{_≡_}
 use mathlib.Core.Bool.{true, false, cond}
 use mathlib.Core.List.{List, [], _∷_, flatten}
@@ -19,13 +19,13 @@ use Rattle.instalments.specs.Instalments.{soFar, taking, fresh, isClosed
 
 -- ---- outcomes
 
--- calls of `feed`, one for each part, each with the record and the memories that the one before it left
+-- calls of `dextolumen_feed`, one for each part, each with the record and the memories that the one before it left
 pub data Fed : Intake → Memories → List (List ℕ) → Intake → Memories → Type 0 where
   no-part : {s : Intake} {m : Memories} → Fed s m [] s m
   a-part : {s s₁ s₂ : Intake} {m m₁ m₂ : Memories} {part : List ℕ} {parts : List (List ℕ)}
       → taking s₁ m₁ ≡ feeding (taking s m) part → Fed s₁ m₁ parts s₂ m₂ → Fed s m (part ∷ parts) s₂ m₂
 
--- an outcome of a recording that came in parts: what the last call of `feed` answered, what the end did, and what they left
+-- an outcome of a recording that came in parts: what the last call of `dextolumen_feed` answered, what the end did, and what they left
 pub record Delivered (parts : List (List ℕ)) (i z : List ℕ) : Type 0 where
   pub first : Intake
   pub last : Intake
@@ -57,7 +57,7 @@ pub record Cut (parts : List (List ℕ)) (i z : List ℕ) (d : Delivered parts i
   -- it checks 11, 12, then 2
   pub at-end : soFar (d .end) (memories (d .i-left) (d .z-left)) ≡ endedBy (flawOf (flatten parts) (memories i z)) (wordsRun (flatten parts) (memories i z))
   -- a stream that 11 and 12 don't touch ends as if it were run at once: the same answer, registers and memories
-  pub at-once : length (flatten parts) < 2 ^ 64 → checked (flatten parts) 0 ≡ 0 → (o : Ended (flatten parts) i z)
+  pub at-once : length (flatten parts) < 2 ^ 64 → checked (flatten parts) 0 ≡ 0 → (o : Ended resetOf (flatten parts) i z)
       → soFar (d .end) (memories (d .i-left) (d .z-left)) ≡ ran (o .refusal) (o .index) (o .sum) (o .registers) (memories (o .i-left) (o .z-left))
 
 pub record Request3 : Type 0 where

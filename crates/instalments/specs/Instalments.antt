@@ -1,6 +1,6 @@
 -- Recordings in instalments (document 02, request 3): bytes are taken as they come, a word is run once its twenty bits are there, and what
 -- is checked of a whole stream waits for the end.
-use Prim.Native.Nat.{ℕ, _/_, _%_, _^_}
+use Prim.Native.Nat.{ℕ, _+_, _*_, _/_, _%_, _^_}
 use mathlib.Core.Bool.{Bool, cond, not, _&&_, _||_}
 use mathlib.Core.List.{List, [], _++_, foldl}
 use lib.ListN.{length, take, drop}
@@ -10,13 +10,14 @@ use Rattle.registers.specs.declared.Registers.{Registers}
 use Rattle.registers.specs.Record.{resetOf}
 use Rattle.registers.specs.Word.{wordOf}
 use Rattle.registers.specs.Bounds.{inBounds}
+use Rattle.registers.specs.Refusal.{isCold}
 use Rattle.machine.specs.Run.{Ran, ran, advance}
 use Rattle.machine.specs.Machine.{Memories, stepOf}
 use Rattle.chip.specs.Chip.{chip}
 use Rattle.instalments.specs.declared.Intake.{Intake}
 
 -- how far a recording has come, with the lent memories: its run so far; the bits of a word that has not come whole, as a number, and how
--- many they are; and 1 once the end was told, else 0
+-- many they are; and 1 once the end was told with no word refused before it, else 0
 pub record Taking : Type 0 where
   pub so : Ran Registers Memories
   pub held : ℕ
@@ -56,15 +57,34 @@ isClosed refusal over = not (eqb refusal 0) || not (eqb over 0)
 
 -- ---- records that break a bound
 
--- bytes leave 0, 4, 8, 12 or 16 bits of a word, and a number of no more bits than are counted
-unfoldable pub bitsFit : ℕ → ℕ → Bool
-bitsFit held count = ltb count 20 && (eqb (count % 4) 0 && eqb (held / 2 ^ count) 0)
+-- the numbers that a word of a stream gets: not 1, since twenty bits hold no command above 15, and not 11, 12 or 13, which refuse no word
+abbrev pub isWordNumber : ℕ → Bool
+isWordNumber n = (ltb n 11 && not (eqb n 1)) || eqb n 14
 
--- the bounds on the fields of the record (docs/CALLS.md lists them): none is broken by a record that a call leaves
+-- the numbers that the end tells: 12 is of half a byte, which is left over only behind an odd number of words
+abbrev pub isEndNumber : ℕ → ℕ → Bool
+isEndNumber index n = (eqb n 0 || eqb n 2) || (eqb n 11 || (eqb n 12 && eqb (index % 2) 1))
+
+-- before the end a word's number is told, and then the end's
+abbrev pub numberFits : ℕ → ℕ → ℕ → Bool
+numberFits over index n = (eqb over 0 && isWordNumber n) || (eqb over 1 && isEndNumber index n)
+
+-- fewer bits are held than a word has; those of the words that were run and these are whole bytes; and they are a number of no more bits. A
+-- closed record holds none
+unfoldable pub bitsFit : Bool → ℕ → ℕ → ℕ → Bool
+bitsFit closed index held count =
+    cond closed (eqb held 0 && eqb count 0) (ltb count 20 && (eqb ((20 * index + count) % 8) 0 && eqb (held / 2 ^ count) 0))
+
+-- before the first accepted INIT no word was run
+abbrev pub begunFits : ℕ → ℕ → Registers → Bool
+begunFits index sum r = not (isCold r) || (eqb index 0 && eqb sum 0)
+
+-- the bounds on the fields of the record (docs/CALLS.md lists them): none is broken by a record that the calls from the
+-- beginning on leave
 unfoldable pub isSound : Intake → Bool
 isSound s =
-    bitsFit (s .held) (s .count)
-    && (ltb (s .over) 2 && ((not (isClosed (s .refusal) (s .over)) || eqb (s .count) 0) && inBounds (s .registers)))
+    bitsFit (isClosed (s .refusal) (s .over)) (s .index) (s .held) (s .count)
+    && (numberFits (s .over) (s .index) (s .refusal) && (begunFits (s .index) (s .sum) (s .registers) && inBounds (s .registers)))
 
 -- a run's number is told anew
 abbrev pub numbered : ℕ → Ran Registers Memories → Ran Registers Memories

@@ -1,16 +1,16 @@
 // Recordings in instalments: the bytes of a packed stream are taken as they come, and each word is run once its twenty bits are there.
-// specs/Instalments.antt says what each call tells and leaves.
+// specs/Instalments.antt says what each call tells and leaves. The calls are entries for C as they stand (include/dextolumen.h).
 ghost use mathlib.Core.Path.{_≡_};
 ghost use mathlib.Core.Bool.{true, false};
 ghost use Prim.Native.Nat.{_^_, _<_};
 ghost use Rattle.machine.specs.Machine.{memories};
-ghost use Rattle.instalments.specs.Instalments.{soFar, taking, fresh, isClosed, bitsFit, isSound, wordIn, bytesIn, feeding, endNumber, ending};
+ghost use Rattle.instalments.specs.Instalments.{soFar, taking, fresh, isClosed, isWordNumber, isEndNumber, numberFits, bitsFit, isSound, wordIn, bytesIn, feeding, endNumber, ending};
 use chip::step::step;
 use registers::Registers;
 
 // How far a recording has come, which is also the answer of each call: the number that refused a word or the end, 0 for none; how many words
 // were run, and the sum of their counts, both modulo 2^64; the bits of a word that has not come whole, and how many they are; 1 once the
-// end was told, else 0; and the registers.
+// end was told with no word refused before it, else 0; and the registers.
 #[repr(C)]
 pub struct Intake {
     pub refusal: u64,
@@ -23,7 +23,8 @@ pub struct Intake {
 }
 
 // Before the first byte.
-pub fn begin() -> Intake
+#[no_mangle]
+pub extern "C" fn dextolumen_begin() -> Intake
     ensures { λ s. ⌜ s ≡ fresh ⌝ }
 {
     let r = Registers::reset();
@@ -45,23 +46,50 @@ fn is_closed(refusal: u64, over: u32) -> bool
     !(refusal == 0) | !(over == 0)
 }
 
-// Whether bytes may have left these bits: fewer than a word has, a multiple of four, and a number of no more bits.
-fn bits_fit(held: u32, count: u32) -> bool
-    ensures { λ r. ⌜ r ≡ bitsFit held count ⌝ }
+// Whether it is a number that a word of a stream gets.
+fn is_word_number(n: u64) -> bool
+    ensures { λ r. ⌜ r ≡ isWordNumber n ⌝ }
 {
+    ((n < 11) & !(n == 1)) | (n == 14)
+}
+
+// Whether it is a number that the end tells behind so many words.
+fn is_end_number(index: u64, n: u64) -> bool
+    ensures { λ r. ⌜ r ≡ isEndNumber index n ⌝ }
+{
+    ((n == 0) | (n == 2)) | ((n == 11) | ((n == 12) & (index % 2 == 1)))
+}
+
+// Whether the number is a word's before the end, and the end's after it.
+fn number_fits(over: u32, index: u64, n: u64) -> bool
+    ensures { λ r. ⌜ r ≡ numberFits over index n ⌝ }
+{
+    ((over == 0) & is_word_number(n)) | ((over == 1) & is_end_number(index, n))
+}
+
+// Whether bytes may have left these bits behind so many words: fewer than a word has, whole bytes with those of the words, and a number of no
+// more bits. A closed record holds none.
+fn bits_fit(closed: bool, index: u64, held: u32, count: u32) -> bool
+    ensures { λ r. ⌜ r ≡ bitsFit closed index held count ⌝ }
+{
+    if closed {
+        return (held == 0) & (count == 0);
+    }
     if count < 20 {
-        return (count % 4 == 0) & (held >> count == 0);
+        return ((20 * (index % 2) + count as u64) % 8 == 0) & (held >> count == 0);
     }
     false
 }
 
-// Whether a record breaks no bound. None does that a call leaves.
+// Whether a record breaks no bound. None does that the calls from the beginning on leave.
 fn is_sound(s: Intake) -> bool
     ensures { λ r. ⌜ r ≡ isSound s ⌝ }
 {
     let registers = s.registers;
-    bits_fit(s.held, s.count)
-        & ((s.over < 2) & ((!is_closed(s.refusal, s.over) | (s.count == 0)) & registers.is_sound()))
+    let cold = registers.started == 0;
+    bits_fit(is_closed(s.refusal, s.over), s.index, s.held, s.count)
+        & (number_fits(s.over, s.index, s.refusal)
+            & ((!cold | ((s.index == 0) & (s.sum == 0))) & registers.is_sound()))
 }
 
 // The same words run, with another number, other bits held and another end.
@@ -135,7 +163,8 @@ fn take_all(s: Intake, bytes: &[u8], im: &mut [u16], zm: &mut [u16]) -> Intake
 
 // Takes an instalment. Before the end the answer has 0, and the words run and their sum so far; after a refused word or the end, a call
 // changes nothing and answers as before. A record that breaks a bound is refused with 2.
-pub fn feed(s: Intake, bytes: &[u8], im: &mut [u16], zm: &mut [u16]) -> Intake
+#[no_mangle]
+pub extern "C" fn dextolumen_feed(s: Intake, bytes: &[u8], im: &mut [u16], zm: &mut [u16]) -> Intake
     ensures { λ a. ⌜ taking a (memories (now (im .exit)) (now (zm .exit))) ≡ feeding (taking s (memories (now (im .entry)) (now (zm .entry)))) (now (bytes .entry)) ⌝ }
 {
     if is_sound(s) {
@@ -165,7 +194,8 @@ fn end_number(held: u32, count: u32, ni: usize, nz: usize) -> u64
 
 // Ends a recording: no more bytes come. After a refused word or the end it changes nothing and answers as before. A record that breaks a
 // bound is refused with 2.
-pub fn finish(s: Intake, im: &[u16], zm: &[u16]) -> Intake
+#[no_mangle]
+pub extern "C" fn dextolumen_finish(s: Intake, im: &[u16], zm: &[u16]) -> Intake
     ensures { λ a. ⌜ taking a (memories (now (im .entry)) (now (zm .entry))) ≡ ending (taking s (memories (now (im .entry)) (now (zm .entry)))) ⌝ }
 {
     if is_sound(s) {

@@ -9,7 +9,7 @@ use lib.Dec.{leb}
 use borrow.Author.Tests.{leb-false}
 use Rattle.picture.specs.declared.Frame.{Frame}
 use Rattle.picture.specs.declared.Vertex.{Vertex}
-use Rattle.picture.specs.Place.{placeOf}
+use Rattle.picture.specs.Place.{liesPlain, layoutOf, spotOf, placeOf}
 use Rattle.line.specs.declared.slope.Slope.{Slope}
 use Rattle.line.specs.declared.course.Move.{Move}
 use Rattle.line.specs.declared.course.Course.{Course}
@@ -35,10 +35,10 @@ along from to far width h = go (leb from to) refl
 
 -- the place of step k, and what the course takes
 pub course-place : (frame : Frame) (a b : Vertex) (s : Slope) (k side : ℕ) (c : Course) → c ≡ courseOf frame a b (s .level) → OnStep a b s k
-    → side ≡ sideAt (s .n) (s .m) k
+    → side ≡ sideAt (s .n) (s .m) k → liesPlain frame ≡ true
     → c .first + (k * c .ahead .up + side * c .aside .up) ≡ placeOf frame (xAt a b k) (yAt a b k) + (k * c .ahead .down + side * c .aside .down)
-unfolding courseOf placeOf
-course-place frame a b s k side c e h f = rw e (go (s .level) refl)
+unfolding courseOf placeOf spotOf layoutOf
+course-place frame a b s k side c e h f lies = rw (e, lies) (go (s .level) refl)
   where
     x : Move
     x = moveOf (a .x) (b .x) 1

@@ -4,20 +4,21 @@ use mathlib.Core.Path.{_≡_, refl, sym, _∙_}
 use mathlib.Core.Bool.{Bool, true, false, cond, not, _&&_, _||_}
 use Prim.Native.Nat.{ℕ, _+_, _-_, _≤_, min, max}
 use native.Mathlib.Omega.{arith}
-use lib.Dec.{leb, eqb}
-use borrow.Author.Tests.{leb-true, leb-false, eqb-true}
+use lib.Dec.{leb, ltb, eqb}
+use borrow.Author.Tests.{leb-true, leb-false, ltb-true, eqb-true}
 use Rattle.picture.specs.declared.Pen.{Pen}
 use Rattle.picture.specs.declared.Vertex.{Vertex}
 use Rattle.picture.specs.declared.Kind.{Kind}
 use Rattle.picture.specs.declared.Kind.the-variants.{Line2}
-use Rattle.picture.specs.Offer.{offer, offered, isMasked}
-use Rattle.picture.proofs.Places.{both}
+use Rattle.picture.specs.Place.{liesPlain}
+use Rattle.picture.specs.Offer.{offer, inWindow, offered, isMasked}
+use Rattle.picture.proofs.Places.{both, inside-of, plain-mine}
 use Rattle.picture.proofs.Offers.{box-offered}
 use Rattle.picture.proofs.Rows.{shows-all}
 use Rattle.line.specs.declared.slope.Slope.{Slope}
 use Rattle.line.specs.declared.slope.Pixel.{Pixel}
-use Rattle.line.specs.Segment.{distance, towards, sideAt}
-use Rattle.line.specs.Step.{pixelAt, OnStep, within, endsWithin, Inside}
+use Rattle.line.specs.Segment.{distance, towards, larger, sideAt, xAt, yAt}
+use Rattle.line.specs.Step.{slopeOf, pixelAt, OnStep, within, endsWithin, Inside}
 use Rattle.line.proofs.Steps.{Lands, lands-level, lands-steep}
 
 -- ---- the box between two points
@@ -38,13 +39,28 @@ lands a b s k h = go (s .level) refl
     go true e = (k, sideAt (s .n) (s .m) k, lands-level a b s k _ h refl e)
     go false e = (sideAt (s .n) (s .m) k, k, lands-steep a b s k _ h refl e)
 
+-- no step leaves the box between the two ends: neither of its coordinates is above both of theirs
+pub step-low : (a b : Vertex) (k : ℕ) → k ≤ larger a b → (xAt a b k ≤ max (a .x) (b .x)) × (yAt a b k ≤ max (a .y) (b .y))
+step-low a b k h =
+    let l = lands a b (slopeOf a b) k (record { slope = refl; step = h }) in
+    (rw (← l .2 .x) (towards-between (a .x) (b .x) (l .0) (l .2 .across-fits) .1), rw (← l .2 .y) (towards-between (a .y) (b .y) (l .1) (l .2 .up-fits) .1))
+
 -- ---- a segment whose ends are inside
 
-within-offered : (pen : Pen) (rows : ℕ) (v : Vertex) → within pen rows v ≡ true → offered pen rows (offer Line2 (v .x) (v .y) 0 0) ≡ true
+within-offered : (pen : Pen) (rows : ℕ) (v : Vertex) → liesPlain (pen .frame) ≡ true → within pen rows v ≡ true
+    → offered pen rows (offer Line2 (v .x) (v .y) 0 0) ≡ true
 unfolding within offered
-within-offered pen rows v h = rw h
+within-offered pen rows v lies h =
+    let k = both (inWindow pen (v .x) (v .y)) (ltb (v .x) (pen .frame .line) && ltb (v .y) rows) h in
+    let m = both (ltb (v .x) (pen .frame .line)) (ltb (v .y) rows) (k .1) in
+    rw (k .0, inside-of (pen .frame) rows (v .x) (v .y) (ltb-true _ _ (m .0)) (ltb-true _ _ (m .1)) (plain-mine (pen .frame) (v .x) lies))
 
 module _ (pen : Pen) (rows : ℕ) (kind : Kind) (a b : Vertex) where
+  -- rows lie one after the other
+  pub inside-plain : Inside pen rows kind a b → liesPlain (pen .frame) ≡ true
+  inside-plain i =
+      both (liesPlain (pen .frame)) (within pen rows a) (both (liesPlain (pen .frame) && within pen rows a) (within pen rows b) (i .ends) .0) .0
+
   -- each step of it is offered
   pub step-offered : (s : Slope) (k : ℕ) (p : Pixel) → p ≡ pixelAt a b k → OnStep a b s k → Inside pen rows kind a b
       → offered pen rows (offer kind (p .x) (p .y) 0 0) ≡ true
@@ -52,9 +68,11 @@ module _ (pen : Pen) (rows : ℕ) (kind : Kind) (a b : Vertex) where
       let l = lands a b s k h in
       let x = towards-between (a .x) (b .x) (l .0) (l .2 .across-fits) in
       let y = towards-between (a .y) (b .y) (l .1) (l .2 .up-fits) in
-      let ends = both (within pen rows a) (within pen rows b) (i .ends) in
+      let ends = both (liesPlain (pen .frame) && within pen rows a) (within pen rows b) (i .ends) in
+      let lies = inside-plain i in
+      let first = both (liesPlain (pen .frame)) (within pen rows a) (ends .0) .1 in
       rw (e, ← l .2 .x, ← l .2 .y)
-      (box-offered pen rows (a .x) (a .y) (b .x) (b .y) _ _ kind (within-offered pen rows a (ends .0)) (within-offered pen rows b (ends .1)) (x .0) (x .1) (y .0) (y .1) (i .shown _ _))
+      (box-offered pen rows lies (a .x) (a .y) (b .x) (b .y) _ _ kind (within-offered pen rows a lies first) (within-offered pen rows b lies (ends .1)) (x .0) (x .1) (y .0) (y .1) (i .shown _ _))
 
   -- a pattern of all ones hides nothing, whatever the kind
   pub inside-open : {t : Bool} → t ≡ endsWithin pen rows a b → t && eqb (pen .transparency) 65535 ≡ true → Inside pen rows kind a b

@@ -1,7 +1,9 @@
-// The places of a segment's steps, from the first place and from what a pixel along either axis adds or takes: no pixel is computed.
+// The places of a segment's steps, from the first place and from what a pixel along either axis adds or takes: no pixel is computed. Rows
+// lie one after the other here.
 ghost use mathlib.Core.Path.{_≡_};
+ghost use mathlib.Core.Bool.{true};
 ghost use Prim.Native.Nat.{_*_, _≤_};
-ghost use Rattle.picture.specs.Place.{placeOf};
+ghost use Rattle.picture.specs.Place.{liesPlain, placeOf};
 ghost use Rattle.line.specs.Segment.{sideAt, xAt, yAt};
 ghost use Rattle.line.specs.Step.{OnStep};
 ghost use Rattle.line.specs.Course.{moveOf, courseOf, OnCourse};
@@ -72,7 +74,7 @@ pub(crate) fn place_at(
     k: u64,
     side: u16,
 ) -> usize
-    requires { ⌜ OnCourse pen a b s c × OnStep a b s k × (side ≡ sideAt (s .n) (s .m) k) ⌝ }
+    requires { ⌜ OnCourse pen a b s c × OnStep a b s k × (side ≡ sideAt (s .n) (s .m) k) × (liesPlain (pen .frame) ≡ true) ⌝ }
     ensures { λ r. ⌜ r ≡ placeOf (pen .frame) (xAt a b k) (yAt a b k) ⌝ }
 {
     let ahead = c.ahead;

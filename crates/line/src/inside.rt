@@ -1,4 +1,4 @@
-// Segments whose ends are both inside the window and the memory: so is the whole of them, and no step asks about it. These loops stand apart
+// Segments whose ends are both inside the window and a memory of rows one after the other: so is the whole of them, and no step asks about it. These loops stand apart
 // from those that ask, so that what a step does is little enough to be compiled into its loop.
 ghost use mathlib.Core.Path.{_≡_};
 ghost use Prim.Native.Nat.{_+_, _≤_};
@@ -29,6 +29,7 @@ use picture::Kind;
 use picture::Pen;
 use picture::Vertex;
 use picture::draw::put_placed;
+use picture::place::lies_plain;
 use picture::place::rows_of;
 
 // Whether a point is inside the window and the memory, with so many rows in use.
@@ -41,13 +42,13 @@ fn is_within(pen: Pen, v: Vertex, rows: usize) -> bool
     window & memory
 }
 
-// Whether both ends of a segment are, with memories of these lengths.
+// Whether both ends of a segment are, with memories of these lengths, and rows lie one after the other.
 pub(crate) fn has_ends(pen: Pen, a: Vertex, b: Vertex, ni: usize, nz: usize) -> bool
     ensures { λ r. ⌜ r ≡ endsWithin pen (rowsOf (pen .frame) ni nz) a b ⌝ }
 {
     let frame = pen.frame;
     let rows = rows_of(frame, ni, nz);
-    is_within(pen, a, rows) & is_within(pen, b, rows)
+    lies_plain(frame) & is_within(pen, a, rows) & is_within(pen, b, rows)
 }
 
 // Draws step k, which is offered since the ends are.

@@ -1,5 +1,5 @@
 // Lists a recording: reads a packed stream from standard input and prints its words, a line each (`listing`, of listing's specs/Text.antt),
-// or the number that refuses the stream. `assemble` turns the lines back into the recording.
+// or the number that refuses the stream, which it says on standard error as well. `assemble` turns the lines back into the recording.
 mod page;
 
 ghost use Prim.Native.Nat.{_≤_};
@@ -43,6 +43,13 @@ fn print_words(words: &[u32]) -> bool
     true
 }
 
+// Prints what refuses a stream, and says it as well. It is no text of words, so that nothing takes it for the listing of an empty recording.
+fn refuse(text: &[u8]) -> bool {
+    say(b"list: ");
+    say(text);
+    print(text)
+}
+
 // Prints the words of a stream, or the number that refuses it. There is room for the words of 1,048,576 bytes, and words that are unpacked
 // have 20 bits, so that the last two cases never come (by reasoning, not by proof).
 fn print_stream(bytes: &[u8]) -> bool {
@@ -50,14 +57,14 @@ fn print_stream(bytes: &[u8]) -> bool {
     let answer = unpack(bytes, &mut words);
     match answer {
         Coded::Done(n) => print_words(&words[..n]),
-        Coded::BadLength => print(b"refusal 11\n"),
-        Coded::BadTail => print(b"refusal 12\n"),
-        Coded::NoRoom => print(b"refusal 13\n"),
-        Coded::BadWord => print(b"refusal 1\n"),
+        Coded::BadLength => refuse(b"refusal 11\n"),
+        Coded::BadTail => refuse(b"refusal 12\n"),
+        Coded::NoRoom => refuse(b"refusal 13\n"),
+        Coded::BadWord => refuse(b"refusal 1\n"),
     }
 }
 
-// Lists the bytes that were read. `too long` is no text of words, so that nothing takes it for the listing of an empty recording.
+// Lists the bytes that were read. `too long` is no text of words either.
 fn list(bytes: &[u8]) {
     if 1048576 < bytes.len() {
         say(b"list: the recording is longer than 1048576 bytes\n");

@@ -1,9 +1,8 @@
 -- What is listed reads back: the text that `list` writes of some words is read as the same words. Digits come to their number, a line to its
 -- word and the next line, and so all lines to all words. Assumes nothing.
 use mathlib.Core.Path.{_≡_, refl, sym, ap, ap₂, _∙_, subst}
-use mathlib.Core.Bool.{Bool, true, false, cond, not, _&&_}
+use mathlib.Core.Bool.{Bool, true, false, cond, _&&_}
 use mathlib.Core.List.{List, [], _∷_, _++_, foldl-append}
-use mathlib.Core.Logic.{_≢_}
 use Prim.Native.Nat.{ℕ, zero, suc, _+_, _-_, _*_, _/_, _%_, _^_, _≤_, _<_}
 use native.Mathlib.Nat.{mod-lt, zero-add, mul-comm, pow-succ', div-lt-iff-lt-mul}
 use native.Mathlib.Numerals.{add-one}
@@ -11,7 +10,7 @@ use native.Mathlib.Omega.{arith}
 use lib.ListN.{length, getD, set, take, drop}
 use lib.Seq.{sets, length-sets, take-suc, take-length, length-take-le, take-append-seam}
 use lib.Dec.{T, ltb, eqb}
-use borrow.Author.Tests.{lt-ltb, le-ltb, ne-eqb, ltb-true, ltb-false, eqb-false}
+use borrow.Author.Tests.{lt-ltb, le-ltb, ne-eqb, ltb-true, ltb-false}
 use Rattle.stream.specs.Format.{unpackOf, packOf}
 use Rattle.stream.specs.Calls.{checked, over}
 use Rattle.stream.proofs.Bits.{Fits, fits-at}
@@ -59,19 +58,19 @@ digit-glyph d h = go (ltb d 10) refl
     go false e = digit-high d (ltb-false d 10 e) h
 
 -- and it ends no line
-glyph-quiet : (d : ℕ) → glyph d ≢ 10
+glyph-quiet : (d : ℕ) → 13 < glyph d
 unfolding glyph
 glyph-quiet d = go (ltb d 10)
   where
-    go : (b : Bool) → cond b (48 + d) (55 + d) ≢ 10
-    go true e = omega (arith, e)
-    go false e = omega (arith, e)
+    go : (b : Bool) → 13 < cond b (48 + d) (55 + d)
+    go true = omega arith
+    go false = omega arith
 
--- ---- texts without a line's end
+-- ---- texts without a line's end, which is 10 or 13
 
 pub data Quiet : List ℕ → Type 0 where
   none : Quiet []
-  more : {b : ℕ} {text : List ℕ} → b ≢ 10 → Quiet text → Quiet (b ∷ text)
+  more : {b : ℕ} {text : List ℕ} → 13 < b → Quiet text → Quiet (b ∷ text)
 
 quiet-append : {a b : List ℕ} → Quiet a → Quiet b → Quiet (a ++ b)
 quiet-append none r = r
@@ -95,16 +94,16 @@ quiet-digits base (suc k) n = quiet-append (quiet-digits base k (n / base)) (mor
 -- a test of it, which is computed for the names
 isQuiet : List ℕ → Bool
 isQuiet [] = true
-isQuiet (b ∷ text) = not (eqb b 10) && isQuiet text
+isQuiet (b ∷ text) = ltb 13 b && isQuiet text
 
 quiet-test : (text : List ℕ) → T (isQuiet text) → Quiet text
 unfolding isQuiet
 quiet-test [] t = none
-quiet-test (b ∷ text) t = go (eqb b 10) refl (quiet-test text) t
+quiet-test (b ∷ text) t = go (ltb 13 b) refl (quiet-test text) t
   where
-    go : (x : Bool) → eqb b 10 ≡ x → (T (isQuiet text) → Quiet text) → T (not x && isQuiet text) → Quiet (b ∷ text)
-    go true e rest u = absurd u
-    go false e rest u = more (eqb-false b 10 e) (rest u)
+    go : (x : Bool) → ltb 13 b ≡ x → (T (isQuiet text) → Quiet text) → T (x && isQuiet text) → Quiet (b ∷ text)
+    go true e rest u = more (ltb-true 13 b e) (rest u)
+    go false e rest u = absurd u
 
 quiet-names : Quiet names
 unfolding names isQuiet
@@ -152,9 +151,9 @@ module _ (held ln : ℕ) (ws : List ℕ) where
   takes-end = refl
 
   -- and nothing else does
-  takes-quiet : (b : ℕ) → b ≢ 10 → taken (reading (reader Remark 0 0 held ln) ws) b ≡ reading (reader Remark 0 0 held ln) ws
+  takes-quiet : (b : ℕ) → 13 < b → taken (reading (reader Remark 0 0 held ln) ws) b ≡ reading (reader Remark 0 0 held ln) ws
   unfolding taken remarked
-  takes-quiet b e = rw (ne-eqb b 10 e)
+  takes-quiet b h = rw (ne-eqb b 10 (λ (e : b ≡ 10). omega (arith, e, h)), ne-eqb b 13 (λ (e : b ≡ 13). omega (arith, e, h)))
 
   takes-remark : {text : List ℕ} → Quiet text → readOn (reading (reader Remark 0 0 held ln) ws) text ≡ reading (reader Remark 0 0 held ln) ws
   unfolding readOn

@@ -36,7 +36,7 @@ module _ (n : ℕ) where
 
   remarked-held : (r : Reader) (b : ℕ) → Held r → Held (remarked r b)
   unfolding remarked
-  remarked-held r b h = either Held (eqb b 10) (λ _. h) (λ _. h)
+  remarked-held r b h = either Held (eqb b 10) (λ _. h) (λ _. either Held (eqb b 13) (λ _. h) (λ _. h))
 
   stored-kept : (s : Reading) → Kept s → Kept (stored s)
   unfolding stored

@@ -1,6 +1,6 @@
 -- Text as words: words of five hexadecimal digits, in capital or small letters, with spaces, tabs or line ends between them; from # to the
--- line's end stands a remark. It is read byte by byte, so that a text may come in pieces. The words are stored from the front of a lent
--- buffer on.
+-- line's end stands a remark. A line ends with 10, 13 and 10, or 13 alone; lines are counted by 10. It is read byte by byte, so that a text may
+-- come in pieces. The words are stored from the front of a lent buffer on.
 use Prim.Native.Nat.{ℕ, _+_, _-_, _*_, _%_, _^_}
 use mathlib.Core.Bool.{Bool, cond, _||_}
 use mathlib.Core.List.{List, foldl}
@@ -81,9 +81,9 @@ inWords s b =
     cond (ltb (digitOf b) 16) (reading (grown (s .reader) (digitOf b)) (s .words))
     (cond (isEnd b) (ended (closed s) b) (reading (inMood NotWord (s .reader)) (s .words)))
 
--- a byte of a remark
+-- a byte of a remark: 10 ends it and the line, and 13 ends it, be it before 10 or alone
 unfoldable pub remarked : Reader → ℕ → Reader
-remarked r b = cond (eqb b 10) (lined r) r
+remarked r b = cond (eqb b 10) (lined r) (cond (eqb b 13) (inMood Words r) r)
 
 -- a byte, by the mood; where the text is no text of words, or there is no room, reading stays where it stands
 abbrev pub taking : Mood → Reading → ℕ → Reading

@@ -191,6 +191,9 @@ fn take_in_remark(r: Reader, b: u8) -> Reader
     if b == 10 {
         return next_line(r);
     }
+    if b == 13 {
+        return in_mood(Mood::Words, r);
+    }
     r
 }
 

@@ -3,3 +3,5 @@ pub mod Steps
 pub mod Kept
 pub mod Touched
 pub mod Offers
+pub mod Pixels
+pub mod Alike

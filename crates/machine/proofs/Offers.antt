@@ -16,7 +16,7 @@ use Rattle.picture.specs.Store.{Store, site, afterStore, storesAt}
 use Rattle.picture.proofs.Stores.{filled-cell}
 use Rattle.picture.proofs.Fold.{drawn-i, drawn-z}
 use Rattle.picture.specs.Cell.{Cell, after, there}
-use Rattle.picture.proofs.Places.{both, inside-of, place-below}
+use Rattle.picture.proofs.Places.{both, place-below}
 use Rattle.picture.proofs.Cells.{drawn-cell, there-member}
 use Rattle.machine.specs.Run.{Ran, ran, runFrom}
 use Rattle.machine.specs.Machine.{Machine, Memories, rowsIn, numberOf, stepOf}
@@ -78,13 +78,11 @@ module _ (M : Machine) (r : M .Registers) (w : M .Word) (m : Memories) where
   offer-below : Inside M → (o : Offer) → List·Memᴰ o (M .offers (rowsIn M r m) r w)
       → (placeOf (M .pen r .frame) (o .x) (o .y) < length (m .i)) × (placeOf (M .pen r .frame) (o .x) (o .y) < length (m .z))
   offer-below inside o u =
-      let k = inside .at (rowsIn M r m) r w o u in
-      place-below (M .pen r .frame) (length (m .i)) (length (m .z)) (o .x) (o .y) (inside-of (M .pen r .frame) (rowsIn M r m) (o .x) (o .y) (k .0) (k .1))
+      place-below (M .pen r .frame) (length (m .i)) (length (m .z)) (o .x) (o .y) (inside .at (rowsIn M r m) r w o u)
 
   store-below : Inside M → (s : Store) → List·Memᴰ s (M .stores (rowsIn M r m) r w) → (site (M .pen r) s < length (m .i)) × (site (M .pen r) s < length (m .z))
   store-below inside s u =
-      let k = inside .stores (rowsIn M r m) r w s u in
-      place-below (M .pen r .frame) (length (m .i)) (length (m .z)) (s .x) (s .y) (inside-of (M .pen r .frame) (rowsIn M r m) (s .x) (s .y) (k .0) (k .1))
+      place-below (M .pen r .frame) (length (m .i)) (length (m .z)) (s .x) (s .y) (inside .stores (rowsIn M r m) r w s u)
 
   -- and what a word leaves at a place is what its offers and its stores there leave
   pub step-cell : Inside M → (at : ℕ)

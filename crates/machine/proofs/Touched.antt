@@ -8,6 +8,7 @@ use native.Mathlib.Nat.{add-assoc, add-zero, zero-add, mod-add-mod, mod-eq-of-lt
 use native.Mathlib.Omega.{arith}
 use lib.ListN.{length, length-append}
 use borrow.Author.Tests.{eq-eqb, ne-eqb}
+use Rattle.picture.specs.Place.{layoutOf, widthOf}
 use Rattle.picture.specs.Picture.{picture, drawn}
 use Rattle.picture.specs.Store.{site}
 use Rattle.picture.proofs.Stores.{filled-passed, filled-away, sites-low}
@@ -61,12 +62,12 @@ module _ (M : Machine) (r : M .Registers) (w : M .Word) (m : Memories) where
 
   module _ (inside : Inside M) where
     -- a machine that draws inside passes pixels of the rows in use only
-    pub touched-low : (at : ℕ) → List·Memᴰ at (touchedBy M r w m) → at < rowsIn M r m * M .pen r .frame .line
+    pub touched-low : (at : ℕ) → List·Memᴰ at (touchedBy M r w m) → at < rowsIn M r m * widthOf (layoutOf (M .pen r .frame)) (M .pen r .frame .line)
     touched-low at u =
         zero-or-not (numberOf M r w m)
         (λ e. ⊎-elim
-        (λ v. passed-low (M .pen r) (rowsIn M r m) (M .offers (rowsIn M r m) r w) (picture (m .i) (m .z) 0) (inside .at (rowsIn M r m) r w) at (rw (touched-accepted e) at v))
-        (λ v. sites-low (M .pen r) (rowsIn M r m) (M .stores (rowsIn M r m) r w) (inside .stores (rowsIn M r m) r w) at (rw (sites-accepted e) at v))
+        (λ v. passed-low (M .pen r) (length (m .i)) (length (m .z)) (M .offers (rowsIn M r m) r w) (picture (m .i) (m .z) 0) (inside .at (rowsIn M r m) r w) at (rw (touched-accepted e) at v))
+        (λ v. sites-low (M .pen r) (length (m .i)) (length (m .z)) (M .stores (rowsIn M r m) r w) (inside .stores (rowsIn M r m) r w) at (rw (sites-accepted e) at v))
         (List·Memᴰ·append-cases (passedBy M r w m) u))
         (λ e. absurd (List·Memᴰ·not-nil (rw (touched-refused e, sites-refused e) at u)))
 
@@ -144,6 +145,6 @@ module _ (M : Machine) where
     run-above inside =
         run-leaves (stepOf M) (λ (c : Memories). cellIn c at) (Above M at) (λ r w m. step-above M r w m inside at) ws a
 
-  -- from reset, a run's sum is the number of places where its pixels pass, modulo 2 ^ 64
-  pub reset-counts : (ws : List (M .Word)) (m : Memories) → runOf (stepOf M) (M .reset) ws m .sum ≡ length (passedOf M ws m) % 2 ^ 64
-  reset-counts ws m = run-counts ws (ran 0 0 0 (M .reset) m) (omega arith) ∙ ap (λ (n : ℕ). n % 2 ^ 64) (zero-add _)
+  -- from its first word on, a run's sum is the number of places where its pixels pass, modulo 2 ^ 64
+  pub start-counts : (r : M .Registers) (ws : List (M .Word)) (m : Memories) → runOf (stepOf M) r ws m .sum ≡ length (passedOf M r ws m) % 2 ^ 64
+  start-counts r ws m = run-counts ws (ran 0 0 0 r m) (omega arith) ∙ ap (λ (n : ℕ). n % 2 ^ 64) (zero-add _)

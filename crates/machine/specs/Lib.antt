@@ -4,3 +4,4 @@ pub mod Along
 pub mod Touched
 pub mod Promises
 pub mod Offers
+pub mod Alike

@@ -15,7 +15,6 @@ use Rattle.machine.specs.Run.{Outcome, outcome, Step}
 pub record Machine : Type 1 where
   pub Registers : Type 0
   pub Word : Type 0
-  pub reset : Registers
   -- the lowest number that refuses a word, over memories of two lengths; 0 accepts it
   pub refusal : ℕ → ℕ → Registers → Word → ℕ
   -- the registers after an accepted word

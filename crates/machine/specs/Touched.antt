@@ -44,10 +44,10 @@ unfoldable pub passedFrom : (M : Machine) → Ran (M .Registers) Memories → Li
 passedFrom M a [] = []
 passedFrom M a (w ∷ ws) = passedNext M a w ++ passedFrom M (advance (stepOf M) a w) ws
 
--- the places where pixels pass of some words from reset
-abbrev pub passedOf : (M : Machine) → List (M .Word) → Memories → List ℕ
-passedOf M ws m = passedFrom M (ran 0 0 0 (M .reset) m) ws
+-- the places where pixels pass of some words from a record
+abbrev pub passedOf : (M : Machine) → M .Registers → List (M .Word) → Memories → List ℕ
+passedOf M r ws m = passedFrom M (ran 0 0 0 r m) ws
 
 -- and those that they touch
-abbrev pub touchedOf : (M : Machine) → List (M .Word) → Memories → List ℕ
-touchedOf M ws m = touchedFrom M (ran 0 0 0 (M .reset) m) ws
+abbrev pub touchedOf : (M : Machine) → M .Registers → List (M .Word) → Memories → List ℕ
+touchedOf M r ws m = touchedFrom M (ran 0 0 0 r m) ws

@@ -1,5 +1,6 @@
 // Mends a recording: reads damaged bytes from standard input and writes the good stream of the whole words that are not refused. On
-// standard error it lists the words that it dropped, a line each, and tells what was kept, dropped, cut and cleared.
+// standard error it lists the words that it dropped, a line each, and tells what was kept, dropped, cut and cleared; of a recording with nothing
+// to mend it says nothing.
 mod say;
 mod space;
 
@@ -11,7 +12,7 @@ use input::recording;
 use input::take;
 use libc::STDOUT_FILENO;
 use mending::Mended;
-use mending::mend;
+use mending::dextolumen_mend;
 use say::say;
 use say::say_list;
 use say::say_summary;
@@ -27,10 +28,10 @@ fn repair(bytes: &[u8], out: &mut [u8], indices: &mut [u64], numbers: &mut [u8])
 {
     let mut im = [0u16; 0];
     let mut zm = [0u16; 0];
-    mend(bytes, out, indices, numbers, &mut im, &mut zm)
+    dextolumen_mend(bytes, out, indices, numbers, &mut im, &mut zm)
 }
 
-// Writes the new stream and says what became of the old one.
+// Writes the new stream and says what was mended, if anything was.
 fn write_mended(bytes: &[u8])
     requires { ⌜ length (now bytes) ≤ 1048576 ⌝ }
 {
@@ -42,6 +43,10 @@ fn write_mended(bytes: &[u8])
     let dropped = told.dropped;
     if !io::write_all(STDOUT_FILENO, &out[..size]) {
         os::fail(b"mend: standard output");
+        return;
+    }
+    let whole = (dropped == 0) & (told.cut == 0) & (told.cleared == 0);
+    if whole {
         return;
     }
     say_list(bytes, &indices[..dropped], &numbers[..dropped]);

@@ -83,7 +83,7 @@ module _ (bytes stream indices numbers : List ℕ) (m : Memories) where
 
       -- the new stream and the list stand, and the run of the new stream leaves what all words leave
       pub mend-done : {out′ indices′ numbers′ : List ℕ} → Sorted bytes stream indices numbers out′ indices′ numbers′
-          → {b : Ran Registers Memories} → b ≡ running (take ((count * 5 + 1) / 2) out′) m → {cut : ℕ} → cut ≡ cutOf bytes → {cleared : ℕ} → cleared ≡ clearedOf bytes
+          → {b : Ran Registers Memories} → b ≡ running resetOf (take ((count * 5 + 1) / 2) out′) m → {cut : ℕ} → cut ≡ cutOf bytes → {cleared : ℕ} → cleared ≡ clearedOf bytes
           → mending (record { refusal = 0; size = (count * 5 + 1) / 2; dropped = words - count; cut = cut; cleared = cleared }) out′ indices′ numbers′ (b .memories)
           ≡ mendingOf bytes stream indices numbers m
       unfolding mendingOf refusalIn over
@@ -95,7 +95,7 @@ module _ (bytes stream indices numbers : List ℕ) (m : Memories) where
           let front : take ((count * 5 + 1) / 2) out′ ≡ mendedOf bytes n =
           ap₂ (λ (k : ℕ) (l : List ℕ). take k l) (size-told bytes counted all 0) (so .stream) ∙ take-append-seam (mendedOf bytes 0) _ ∙ new in
           let leaves : b .memories ≡ drawn =
-          ap (λ (x : Ran Registers Memories). x .memories) (ran ∙ ap (λ (s : List ℕ). running s m) front)
+          ap (λ (x : Ran Registers Memories). x .memories) (ran ∙ ap (λ (s : List ℕ). running resetOf s m) front)
           ∙ ap (λ (a : State Registers Memories). a .memories) (mended-runs bytes m like .left) in
           let told : _≡_ {A = Mended} (record { refusal = 0; size = (count * 5 + 1) / 2; dropped = words - count; cut = cut; cleared = cleared }) (done bytes n) =
           rw (size-told bytes counted all n, rest-told bytes counted all n, c, t) in

@@ -219,12 +219,12 @@ kept-unlisted n is (w ∷ ws) k r same =
 
 module _ (bytes : List ℕ) (m : Memories) (like : length (m .i) ≡ length (m .z)) where
   -- the new stream runs without a refusal, and ends with the registers and memories of the old words, refused ones skipped
-  pub mended-runs : Completes (keptOf bytes (length (m .i))) (unpackOf bytes) 0 resetOf m (running (mendedOf bytes (length (m .i))) m)
+  pub mended-runs : Completes (keptOf bytes (length (m .i))) (unpackOf bytes) 0 resetOf m (running resetOf (mendedOf bytes (length (m .i))) m)
   mended-runs =
       let kept = keptOf bytes (length (m .i)) in
       let words : unpackOf (packOf kept) ≡ kept = unpack-pack (kept-fits 20 (length (m .i)) (unpackOf bytes) resetOf (unpack-fits bytes)) in
       subst (Completes kept (unpackOf bytes) 0 resetOf m)
-      (ap (λ (vs : List ℕ). runOf (stepOf chip) resetOf (map wordOf vs) m) (sym words) ∙ run-good (packOf kept) m (sym (packed-good kept)) refl refl like)
+      (ap (λ (vs : List ℕ). runOf (stepOf chip) resetOf (map wordOf vs) m) (sym words) ∙ run-good resetOf (packOf kept) m (sym (packed-good kept)) refl refl like)
       (mends (length (m .i)) (unpackOf bytes) 0 0 resetOf m refl (sym like))
 
   -- a word is on the list exactly where it is refused, with its index and its number
@@ -255,7 +255,7 @@ mended-words bytes n = unpack-pack (kept-fits 20 n (unpackOf bytes) resetOf (unp
 -- ---- a recording with nothing to mend
 
 -- a run that is not refused found no flaw
-unflawed : (bytes : List ℕ) (m : Memories) → running bytes m .refusal ≡ 0 → flawOf bytes m ≡ 0
+unflawed : (bytes : List ℕ) (m : Memories) → running resetOf bytes m .refusal ≡ 0 → flawOf bytes m ≡ 0
 unfolding running
 unflawed bytes m = go (eqb (flawOf bytes m) 0) refl
   where
@@ -276,7 +276,7 @@ like-told a b = go (eqb a b) refl
     go true e z = eqb-true a b e
     go false e z = absurd (omega arith)
 
-module _ (bytes : List ℕ) (m : Memories) (whole : running bytes m .refusal ≡ 0) where
+module _ (bytes : List ℕ) (m : Memories) (whole : running resetOf bytes m .refusal ≡ 0) where
   -- the checks that were passed
   pub sound : (badLength bytes ≡ false) × (badTail bytes ≡ false) × (length (m .i) ≡ length (m .z))
   unfolding flawOf
@@ -287,7 +287,7 @@ module _ (bytes : List ℕ) (m : Memories) (whole : running bytes m .refusal ≡
   -- all words are kept
   pub kept-all : keptOf bytes (length (m .i)) ≡ unpackOf bytes
   kept-all =
-      let good-run = run-good bytes m (sym (next-told bytes 0 (sound .0) (sound .1))) refl refl (sound .2) in
+      let good-run = run-good resetOf bytes m (sym (next-told bytes 0 (sound .0) (sound .1))) refl refl (sound .2) in
       keeps (length (m .i)) (unpackOf bytes) 0 0 resetOf m refl (sym (sound .2)) (ap (λ (b : Ran Registers Memories). b .refusal) good-run ∙ whole)
 
   -- none is dropped
@@ -301,7 +301,7 @@ module _ (bytes : List ℕ) (m : Memories) (whole : running bytes m .refusal ≡
   mended-same f = ap packOf kept-all ∙ pack-unpack (fits 8 bytes f) (next-told bytes 0 (sound .0) (sound .1))
 
   -- and the memories are those of its run
-  pub memories-same : fit 8 bytes ≡ true → allOf (stepOf chip) resetOf (wordsOf bytes) m .memories ≡ running bytes m .memories
+  pub memories-same : fit 8 bytes ≡ true → allOf (stepOf chip) resetOf (wordsOf bytes) m .memories ≡ running resetOf bytes m .memories
   memories-same f =
       sym (ap (λ (a : State Registers Memories). a .memories) (mended-runs bytes m (sound .2) .left))
-      ∙ ap (λ (s : List ℕ). running s m .memories) (mended-same f)
+      ∙ ap (λ (s : List ℕ). running resetOf s m .memories) (mended-same f)

@@ -1,4 +1,4 @@
--- Request 13, of each outcome that the promise of `mend` allows: each follows from the definition's own cases and from what a mended recording
+-- Request 13, of each outcome that the promise of `dextolumen_mend` allows: each follows from the definition's own cases and from what a mended recording
 -- does (proofs/Recording). Assumes nothing.
 use mathlib.Core.Path.{_≡_, refl, sym, ap, ap₂, _∙_}
 use mathlib.Core.Logic.{_≢_}
@@ -60,8 +60,8 @@ module _ (bytes out indices numbers : List ℕ) (m : Memories) where
   -- ---- a recording with nothing to mend
 
   -- comes back as it was
-  pub same-again : fit 8 bytes ≡ true → running bytes m .refusal ≡ 0 → length bytes ≤ length out
-      → mendingOf bytes out indices numbers m ≡ mending (whole bytes) (over bytes out) indices numbers (running bytes m .memories)
+  pub same-again : fit 8 bytes ≡ true → running resetOf bytes m .refusal ≡ 0 → length bytes ≤ length out
+      → mendingOf bytes out indices numbers m ≡ mending (whole bytes) (over bytes out) indices numbers (running resetOf bytes m .memories)
   unfolding over
   same-again f good room =
       let n = length (m .i) in
@@ -113,14 +113,14 @@ module _ (bytes out indices numbers : List ℕ) (m : Memories) where
           rises = in-order bytes (length (m .i));
         }
 
-    new-ends : state (running (streamIn o) m .registers) (running (streamIn o) m .memories) ≡ allOf (stepOf chip) resetOf (wordsOf bytes) m
+    new-ends : state (running resetOf (streamIn o) m .registers) (running resetOf (streamIn o) m .memories) ≡ allOf (stepOf chip) resetOf (wordsOf bytes) m
     new-ends = rw new-stream (mended-runs bytes m (fine .0) .left)
 
     mends : Mends bytes m o
     mends =
         let n = length (m .i) in
         record {
-          runs = ap (λ (s : List ℕ). running s m .refusal) new-stream ∙ mended-runs bytes m (fine .0) .refusal;
+          runs = ap (λ (s : List ℕ). running resetOf s m .refusal) new-stream ∙ mended-runs bytes m (fine .0) .refusal;
           ends = new-ends;
           drawn = ap (λ (x : Mending). x .memories) done-all ∙ sym (ap (λ (a : State Registers Memories). a .memories) new-ends);
           lists = lists;

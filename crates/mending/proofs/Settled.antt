@@ -1,4 +1,4 @@
--- What the promise of `mend` settles: one outcome, and how much room it takes at most. Assumes nothing.
+-- What the promise of `dextolumen_mend` settles: one outcome, and how much room it takes at most. Assumes nothing.
 use mathlib.Core.Path.{_≡_, sym, ap, _∙_}
 use mathlib.Core.List.{List}
 use Prim.Native.Nat.{ℕ, _≤_}

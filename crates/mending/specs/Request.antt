@@ -1,4 +1,4 @@
--- What request 13 asks (document 02), said of each outcome that the promise of `mend` allows.
+-- What request 13 asks (document 02), said of each outcome that the promise of `dextolumen_mend` allows.
 use mathlib.Core.Path.{_≡_}
 use mathlib.Core.Logic.{_≢_, _↔_}
 use mathlib.Core.Bool.{Bool, true, false, cond, _||_}
@@ -69,9 +69,9 @@ pub record Lists (bytes : List ℕ) (m : Memories) (o : Mending) : Type 0 where
 -- refused ones skipped; these are the memories that are left; the list is exactly the refused words, and the words of the new stream are
 -- exactly those that are not on it; the bits cut and the half byte cleared are told
 pub record Mends (bytes : List ℕ) (m : Memories) (o : Mending) : Type 0 where
-  pub runs : running (streamIn o) m .refusal ≡ 0
-  pub ends : state (running (streamIn o) m .registers) (running (streamIn o) m .memories) ≡ allOf (stepOf chip) resetOf (wordsOf bytes) m
-  pub drawn : o .memories ≡ running (streamIn o) m .memories
+  pub runs : running resetOf (streamIn o) m .refusal ≡ 0
+  pub ends : state (running resetOf (streamIn o) m .registers) (running resetOf (streamIn o) m .memories) ≡ allOf (stepOf chip) resetOf (wordsOf bytes) m
+  pub drawn : o .memories ≡ running resetOf (streamIn o) m .memories
   pub lists : Lists bytes m o
   pub keeps : unpackOf (streamIn o) ≡ unlisted (indicesIn o) 0 (unpackOf bytes)
   pub cut-told : o .told .cut ≡ cutOf bytes
@@ -81,7 +81,7 @@ pub record Mends (bytes : List ℕ) (m : Memories) (o : Mending) : Type 0 where
 abbrev pub whole : List ℕ → Mended
 whole bytes = record { refusal = 0; size = length bytes; dropped = 0; cut = 0; cleared = 0 }
 
--- what every call of `mend` comes to, over what it was lent
+-- what every call of `dextolumen_mend` comes to, over what it was lent
 pub record Request13 (bytes out indices numbers : List ℕ) (m : Memories) (o : Mending) : Type 0 where
   -- memories of unlike length are refused with 2, and nothing is touched
   pub unlike : length (m .i) ≢ length (m .z) → o ≡ mending (refused 2) out indices numbers m
@@ -95,5 +95,5 @@ pub record Request13 (bytes out indices numbers : List ℕ) (m : Memories) (o : 
   -- where it is not refused, it mends
   pub mends : o .told .refusal ≡ 0 → Mends bytes m o
   -- a recording of bytes that runs without a refusal comes back as it was, with an empty list, over the memories that it draws
-  pub same : fit 8 bytes ≡ true → running bytes m .refusal ≡ 0 → length bytes ≤ length out
-      → o ≡ mending (whole bytes) (over bytes out) indices numbers (running bytes m .memories)
+  pub same : fit 8 bytes ≡ true → running resetOf bytes m .refusal ≡ 0 → length bytes ≤ length out
+      → o ≡ mending (whole bytes) (over bytes out) indices numbers (running resetOf bytes m .memories)

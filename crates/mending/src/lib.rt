@@ -1,5 +1,5 @@
 // Mending damaged recordings: the whole words that are not refused make a good stream, and the others are listed. specs/Mend.antt says
-// what is kept, what is dropped, and what the call tells and leaves.
+// what is kept, what is dropped, and what the call tells and leaves. The call is an entry for C as it stands (include/dextolumen.h).
 mod sort;
 
 ghost use mathlib.Core.Path.{_≡_};
@@ -55,7 +55,8 @@ fn refusing(number: u64) -> Mended
 
 // Mends a recording: writes the good stream of the whole words that are not refused, from reset on, lists the others, and leaves in the
 // memories what all words leave, refused ones skipped. Refuses memories that differ in length, then too little room.
-pub fn mend(
+#[no_mangle]
+pub extern "C" fn dextolumen_mend(
     bytes: &[u8],
     out: &mut [u8],
     indices: &mut [u64],

@@ -9,9 +9,9 @@ use native.Mathlib.Omega.{arith}
 use Rattle.picture.specs.declared.Pen.{Pen}
 use Rattle.picture.specs.declared.Vertex.{Vertex}
 use Rattle.picture.specs.declared.Kind.{Kind}
+use Rattle.picture.specs.Place.{inMemory}
 use Rattle.picture.specs.Offer.{Offer, offered, keep}
 use Rattle.picture.specs.Draw.{spans}
-use Rattle.picture.proofs.Places.{inside-parts}
 use Rattle.picture.proofs.Offers.{offered-inside}
 
 -- a vertex's numbers are at most n
@@ -26,10 +26,10 @@ pub record Member (pen : Pen) (rows : ℕ) (kind : Kind) (n : ℕ) (o : Offer) :
   pub i : o .i ≤ n
   pub z : o .z ≤ n
 
--- an offered pixel lies in a column of the line and in a row in use
-pub offered-at : (pen : Pen) (rows : ℕ) (o : Offer) → offered pen rows o ≡ true → (o .x < pen .frame .line) × (o .y < rows)
+-- an offered pixel lies inside the memory
+pub offered-at : (pen : Pen) (rows : ℕ) (o : Offer) → offered pen rows o ≡ true → inMemory (pen .frame) rows (o .x) (o .y) ≡ true
 unfolding offered
-offered-at pen rows o h = inside-parts (pen .frame) rows (o .x) (o .y) (offered-inside pen rows (o .kind) (o .x) (o .y) h)
+offered-at pen rows o h = offered-inside pen rows (o .kind) (o .x) (o .y) h
 
 -- what holds of each offer of f 0, f 1, .. below n holds of each of them laid end to end
 pub every-span : (P : Offer → Type 0) (f : ℕ → List Offer) (n : ℕ) → ((k : ℕ) → k < n → (o : Offer) → List·Memᴰ o (f k) → P o)

@@ -13,11 +13,11 @@ use Rattle.picture.specs.declared.Pen.{Pen}
 use Rattle.picture.specs.declared.Kind.{Kind}
 use Rattle.picture.specs.declared.Kind.the-variants.{Line2}
 use Rattle.picture.specs.declared.Compared.the-variants.{Nearer, Equal, Farther}
-use Rattle.picture.specs.Place.{placeOf, rowsOf, inMemory}
+use Rattle.picture.specs.Place.{liesPlain, placeOf, rowsOf, inMemory}
 use Rattle.picture.specs.Offer.{Offer, offer, isMasked, inWindow, shows, offered, keep}
 use Rattle.picture.specs.Picture.{isDeep, comparedOf, wins, passes, inPlanes, newI, newZ, Picture, picture, stepAt, step, drawn}
 use Rattle.picture.specs.Draw.{placed, shown, seen}
-use Rattle.picture.proofs.Places.{both, place-below}
+use Rattle.picture.proofs.Places.{both, inside-parts, inside-of, plain-mine, place-below}
 use Rattle.picture.proofs.Fold.{drawn-passed}
 
 -- inside the window, the window asks nothing more
@@ -142,26 +142,25 @@ keep-placed pen ni nz kind x y i z at im zm n li lz h e =
     keep-drawn pen (rowsOf (pen .frame) ni nz) kind x y i z (picture im zm n) _ h
     (placed-in pen kind at i z (picture im zm n) within ∙ ap (λ (a : ℕ). stepAt pen kind a i z (picture im zm n)) e)
 
--- where both ends of a box are inside the window and the memory, so is every pixel of it
-pub box-offered : (pen : Pen) (rows : ℕ) (ax ay bx by x y : ℕ) (kind : Kind)
+-- where both ends of a box are inside the window and a memory of rows one after the other, so is every pixel of it
+pub box-offered : (pen : Pen) (rows : ℕ) → liesPlain (pen .frame) ≡ true → (ax ay bx by x y : ℕ) (kind : Kind)
     → offered pen rows (offer Line2 ax ay 0 0) ≡ true → offered pen rows (offer Line2 bx by 0 0) ≡ true
     → min ax bx ≤ x → x ≤ max ax bx → min ay by ≤ y → y ≤ max ay by → (not (isMasked kind) || shows pen x y) ≡ true
     → offered pen rows (offer kind x y 0 0) ≡ true
-unfolding offered inMemory
-box-offered pen rows ax ay bx by x y kind p q l r b t s =
+unfolding offered
+box-offered pen rows lies ax ay bx by x y kind p q l r b t s =
     let w = parts ax ay p in
     let v = parts bx by q in
     rw (
       window-in pen x y (omega (arith, w .0, v .0)) (omega (arith, w .1, v .1)) (omega (arith, w .2, v .2)) (omega (arith, w .3, v .3)),
-      lt-ltb x (pen .frame .line) (omega (arith, w .4, v .4)),
-      lt-ltb y rows (omega (arith, w .5, v .5)),
+      inside-of (pen .frame) rows x y (omega (arith, w .4, v .4)) (omega (arith, w .5, v .5)) (plain-mine (pen .frame) x lies),
     )
     s
   where
-    parts : (cx cy : ℕ) → inWindow pen cx cy && (ltb cx (pen .frame .line) && ltb cy rows) && true ≡ true
+    parts : (cx cy : ℕ) → inWindow pen cx cy && inMemory (pen .frame) rows cx cy && true ≡ true
         → (pen .left ≤ cx) × (cx ≤ pen .right) × (pen .bottom ≤ cy) × (cy ≤ pen .top) × (cx < pen .frame .line) × (cy < rows)
     parts cx cy e =
-        let m = both (inWindow pen cx cy) (ltb cx (pen .frame .line) && ltb cy rows) (both (inWindow pen cx cy && (ltb cx (pen .frame .line) && ltb cy rows)) true e .0) in
+        let m = both (inWindow pen cx cy) (inMemory (pen .frame) rows cx cy) (both (inWindow pen cx cy && inMemory (pen .frame) rows cx cy) true e .0) in
         let w = window-of pen cx cy (m .0) in
-        let k = both (ltb cx (pen .frame .line)) (ltb cy rows) (m .1) in
-        (w .0, w .1, w .2, w .3, ltb-true _ _ (k .0), ltb-true _ _ (k .1))
+        let k = inside-parts (pen .frame) rows cx cy (m .1) in
+        (w .0, w .1, w .2, w .3, k .0, k .1)

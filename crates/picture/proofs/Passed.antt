@@ -8,6 +8,7 @@ use Prim.Native.Nat.{ℕ, _+_, _*_, _≤_, _<_}
 use native.Mathlib.Omega.{arith}
 use lib.ListN.{length, getD, set}
 use Rattle.picture.specs.declared.Pen.{Pen}
+use Rattle.picture.specs.Place.{layoutOf, widthOf, rowsOf, inMemory}
 use Rattle.picture.specs.Offer.{Offer}
 use Rattle.picture.specs.Picture.{isDeep, passes, newI, newZ, Picture, picture, stepAt, step, drawn}
 use Rattle.picture.specs.Cell.{cellAt}
@@ -78,17 +79,18 @@ passed-every pen P [] p h at m = absurd (List·Memᴰ·not-nil m)
 passed-every pen P (o ∷ os) p h at m =
     one-every pen o os p P (h o (List·Memᴰ·head refl)) (passed-every pen P os (step pen p o) (λ q u. h q (List·Memᴰ·tail u))) at m
 
--- where every offer lies in a column of the line and in one of the first rows
-module _ (pen : Pen) (rows : ℕ) (os : List Offer) (p : Picture) (inside : (o : Offer) → List·Memᴰ o os → (o .x < pen .frame .line) × (o .y < rows)) where
-  -- every passed place is one of theirs
-  pub passed-low : (at : ℕ) → List·Memᴰ at (passedAt pen os p) → at < rows * pen .frame .line
-  passed-low =
-      passed-every pen (λ at. at < rows * pen .frame .line) os p
-      (λ o m. let k = inside o m in place-low (pen .frame) rows (o .x) (o .y) (k .0) (k .1))
+-- where every offer lies inside memories of two lengths
+module _ (pen : Pen) (ni nz : ℕ) (os : List Offer) (p : Picture)
+    (inside : (o : Offer) → List·Memᴰ o os → inMemory (pen .frame) (rowsOf (pen .frame) ni nz) (o .x) (o .y) ≡ true)
+  where
+    -- every passed place is one of the rows in use
+    pub passed-low : (at : ℕ) → List·Memᴰ at (passedAt pen os p) → at < rowsOf (pen .frame) ni nz * widthOf (layoutOf (pen .frame)) (pen .frame .line)
+    passed-low =
+        passed-every pen (λ at. at < rowsOf (pen .frame) ni nz * widthOf (layoutOf (pen .frame)) (pen .frame .line)) os p (λ o m. place-low (pen .frame) ni nz (o .x) (o .y) (inside o m))
 
-  -- and every place above them keeps both its numbers
-  pub drawn-above : (at : ℕ) → rows * pen .frame .line ≤ at → cellAt (drawn pen os p) at ≡ cellAt p at
-  drawn-above at h = drawn-away pen os p at (λ m. omega (arith, passed-low at m))
+    -- and every place above them keeps both its numbers
+    pub drawn-above : (at : ℕ) → rowsOf (pen .frame) ni nz * widthOf (layoutOf (pen .frame)) (pen .frame .line) ≤ at → cellAt (drawn pen os p) at ≡ cellAt p at
+    drawn-above at h = drawn-away pen os p at (λ m. omega (arith, passed-low at m))
 
 -- ---- what no passed pixel may store into
 

@@ -1,20 +1,21 @@
 -- Where pixels lie: a pixel inside the memory has a place of its own, below the lent lengths. Assumes nothing.
 use mathlib.Core.Path.{_≡_, refl, sym, ap, _∙_}
-use mathlib.Core.Bool.{Bool, true, false, cond, _&&_, true≢false}
-use Prim.Native.Nat.{ℕ, suc, _+_, _*_, _/_, _%_, _≤_, _<_, zero-le, min}
-use native.Mathlib.Nat.{add-assoc, min-le-right, le-div-iff-mul-le, suc-mul, mul-le-mul, mul-le-mul-right}
-use native.Mathlib.Numerals.{add-one}
+use mathlib.Core.Bool.{Bool, true, false, cond, not, _&&_, _||_, true≢false}
+use Prim.Native.Nat.{ℕ, _+_, _-_, _*_, _/_, _%_, _≤_, _<_, zero-le, min}
+use native.Mathlib.Nat.{add-assoc, min-le-right, mul-le-mul, mul-le-mul-right}
 use native.Mathlib.Omega.{arith}
-use lib.Arith.{digits-div, digits-mod}
 use lib.Dec.{ltb, leb, eqb}
-use borrow.Author.Tests.{lt-ltb, ltb-true, le-leb, leb-true, eq-eqb, ne-eqb}
+use borrow.Author.Tests.{lt-ltb, ltb-true, le-leb, leb-true, ltb-false, eqb-true, eqb-false, eq-eqb}
 use Rattle.picture.specs.declared.Frame.{Frame}
-use Rattle.picture.specs.Place.{placeOf, rowsOf, inMemory}
+use Rattle.picture.specs.Limits.{mostRows}
+use Rattle.picture.specs.Place.{Layout, plain, tiled, share, liesPlain, liesTiled, waysOf, layoutOf, spotOf, placeOf, isWhole, widthOf, rowsIn, rowsOf, mine, inMemory}
+use Rattle.picture.proofs.Layouts as layouts
+use Rattle.picture.specs.Loops.{bandEnd, alongTiles}
+use Rattle.picture.proofs.Layouts.{rows-end, rows-hold, band-low, spot-low, spot-apart}
 
 -- two tests that hold both
 pub both : (a b : Bool) → a && b ≡ true → (a ≡ true) × (b ≡ true)
-both true b e = (refl, e)
-both false b e = absurd (true≢false (sym e))
+both = layouts.both
 
 -- two tests that hold in the same cases
 pub same-test : (a b : Bool) → (a ≡ true → b ≡ true) → (b ≡ true → a ≡ true) → a ≡ b
@@ -22,84 +23,206 @@ same-test true b f g = sym (f refl)
 same-test false true f g = g refl
 same-test false false f g = refl
 
--- a pixel inside lies in a column of the line and in a row in use
-pub inside-parts : (frame : Frame) (rows x y : ℕ) → inMemory frame rows x y ≡ true → (x < frame .line) × (y < rows)
+-- a pixel inside lies in a column of the line that the memory has, and in a row in use
+pub inside-parts : (frame : Frame) (rows x y : ℕ) → inMemory frame rows x y ≡ true → (x < frame .line) × (y < rows) × (mine (layoutOf frame) x ≡ true)
 unfolding inMemory
-inside-parts frame rows x y h = let k = both (ltb x (frame .line)) (ltb y rows) h in (ltb-true _ _ (k .0), ltb-true _ _ (k .1))
+inside-parts frame rows x y h =
+    let j = both (ltb x (frame .line) && ltb y rows) (mine (layoutOf frame) x) h in
+    let k = both (ltb x (frame .line)) (ltb y rows) (j .0) in
+    (ltb-true _ _ (k .0), ltb-true _ _ (k .1), j .1)
+
+-- the layout, by its test
+module _ (frame : Frame) where
+  pub lies-plain : liesPlain frame ≡ true → layoutOf frame ≡ plain
+  unfolding layoutOf
+  lies-plain e = rw e
+
+  pub lies-tiled : liesTiled frame ≡ true → layoutOf frame ≡ tiled
+  unfolding layoutOf
+  lies-tiled e = let one = eqb-true (frame .layout) 1 e in rw one
+
+  pub lies-shared : liesPlain frame ≡ false → liesTiled frame ≡ false → layoutOf frame ≡ share (waysOf frame) (frame .layout - waysOf frame)
+  unfolding layoutOf
+  lies-shared e f = rw (e, f)
+
+  -- but for tiles a band is a row
+  pub end-row : (y : ℕ) → liesTiled frame ≡ false → bandEnd (layoutOf frame) y ≡ y + 1
+  unfolding layoutOf bandEnd
+  end-row y f = rw f (go (liesPlain frame))
+    where
+      go : (b : Bool) → bandEnd (cond b plain (share (waysOf frame) (frame .layout - waysOf frame))) y ≡ y + 1
+      go true = refl
+      go false = refl
 
 module _ (frame : Frame) (ni nz : ℕ) where
-  pub rows-none : frame .line ≡ 0 → rowsOf frame ni nz ≡ 0
+  pub rows-none : isWhole (layoutOf frame) (frame .line) ≡ false → rowsOf frame ni nz ≡ 0
   unfolding rowsOf
-  rows-none e = rw (eq-eqb _ _ e)
+  rows-none e = rw e
 
-  pub rows-some : (frame .line ≡ 0 → ⊥) → rowsOf frame ni nz ≡ min (min ni nz / frame .line) 8192
+  pub rows-some : isWhole (layoutOf frame) (frame .line) ≡ true → rowsOf frame ni nz ≡ min (rowsIn (layoutOf frame) (frame .line) (min ni nz)) mostRows
   unfolding rowsOf
-  rows-some e = rw (ne-eqb _ _ e)
+  rows-some e = rw e
 
-  pub rows-low : rowsOf frame ni nz ≤ 8192
+  pub rows-low : rowsOf frame ni nz ≤ mostRows
   unfolding rowsOf
-  rows-low = go (eqb (frame .line) 0)
+  rows-low = go (isWhole (layoutOf frame) (frame .line))
     where
-      go : (b : Bool) → cond b 0 (min (min ni nz / frame .line) 8192) ≤ 8192
-      go true = zero-le
-      go false = min-le-right _ _
+      go : (b : Bool) → cond b (min (rowsIn (layoutOf frame) (frame .line) (min ni nz)) mostRows) 0 ≤ mostRows
+      go true = min-le-right _ _
+      go false = zero-le
 
-  -- a row is in use where it is one of the first 8192 and ends inside both memories
-  module _ (y : ℕ) (some : frame .line ≡ 0 → ⊥) where
-    pub row-ends : y < rowsOf frame ni nz → (y < 8192) × ((y + 1) * frame .line ≤ ni) × ((y + 1) * frame .line ≤ nz)
+  -- where a row is in use the line length suits the layout
+  pub rows-whole : (y : ℕ) → y < rowsOf frame ni nz → isWhole (layoutOf frame) (frame .line) ≡ true
+  rows-whole y h = go (isWhole (layoutOf frame) (frame .line)) refl
+    where
+      go : (b : Bool) → isWhole (layoutOf frame) (frame .line) ≡ b → b ≡ true
+      go true e = refl
+      go false e = absurd (omega (arith, h, rows-none e))
+
+  -- a row is in use where it is one of the first so many and its band ends inside both memories
+  module _ (y : ℕ) (whole : isWhole (layoutOf frame) (frame .line) ≡ true) where
+    pub row-ends : y < rowsOf frame ni nz → (y < mostRows) × (bandEnd (layoutOf frame) y * widthOf (layoutOf frame) (frame .line) ≤ ni) × (bandEnd (layoutOf frame) y * widthOf (layoutOf frame) (frame .line) ≤ nz)
     row-ends h =
-        let k : y < min (min ni nz / frame .line) 8192 = rw (rows-some some) at h in
-        let m : (y + 1) * frame .line ≤ min ni nz = (le-div-iff-mul-le {k = frame .line} {x = y + 1} {y = min ni nz} (omega arith)) .0 (omega arith) in
-        (omega arith, omega arith, omega arith)
+        let k : y < min (rowsIn (layoutOf frame) (frame .line) (min ni nz)) mostRows = rw (rows-some whole) at h in
+        let m = rows-end (layoutOf frame) (frame .line) (min ni nz) y whole (omega (arith, k)) in
+        (omega (arith, k), omega (arith, m), omega (arith, m))
 
-    pub row-in : y < 8192 → (y + 1) * frame .line ≤ ni → (y + 1) * frame .line ≤ nz → y < rowsOf frame ni nz
+    pub row-in : y < mostRows → bandEnd (layoutOf frame) y * widthOf (layoutOf frame) (frame .line) ≤ ni → bandEnd (layoutOf frame) y * widthOf (layoutOf frame) (frame .line) ≤ nz → y < rowsOf frame ni nz
     row-in h a b =
-        let m : y + 1 ≤ min ni nz / frame .line = (le-div-iff-mul-le {k = frame .line} {x = y + 1} {y = min ni nz} (omega arith)) .1 (omega arith) in
-        rw (rows-some some) (omega arith)
+        let m = rows-hold (layoutOf frame) (frame .line) (min ni nz) y whole (omega (arith, a, b)) in
+        rw (rows-some whole) (omega (arith, h, m))
 
-    pub row-test : ltb y (rowsOf frame ni nz) ≡ ltb y 8192 && leb ((y + 1) * frame .line) ni && leb ((y + 1) * frame .line) nz
+    pub row-test : ltb y (rowsOf frame ni nz)
+        ≡ ltb y mostRows && leb (bandEnd (layoutOf frame) y * widthOf (layoutOf frame) (frame .line)) ni && leb (bandEnd (layoutOf frame) y * widthOf (layoutOf frame) (frame .line)) nz
     row-test =
         same-test _ _
         (λ e. let k = row-ends (ltb-true _ _ e) in rw (lt-ltb _ _ (k .0), le-leb _ _ (k .1), le-leb _ _ (k .2)))
         (λ e.
-        let k = both (ltb y 8192 && leb ((y + 1) * frame .line) ni) (leb ((y + 1) * frame .line) nz) e in
-        let l = both (ltb y 8192) (leb ((y + 1) * frame .line) ni) (k .0) in
+        let k = both (ltb y mostRows && leb (bandEnd (layoutOf frame) y * widthOf (layoutOf frame) (frame .line)) ni) (leb (bandEnd (layoutOf frame) y * widthOf (layoutOf frame) (frame .line)) nz) e in
+        let l = both (ltb y mostRows) (leb (bandEnd (layoutOf frame) y * widthOf (layoutOf frame) (frame .line)) ni) (k .0) in
         lt-ltb _ _ (row-in (ltb-true _ _ (l .0)) (leb-true _ _ (l .1)) (leb-true _ _ (k .1))))
 
   -- the place of a pixel inside lies below both lengths
   module _ (x y : ℕ) (h : inMemory frame (rowsOf frame ni nz) x y ≡ true) where
-    inside-at : (x < frame .line) × (y < rowsOf frame ni nz)
+    inside-at : (x < frame .line) × (y < rowsOf frame ni nz) × (mine (layoutOf frame) x ≡ true)
     inside-at = inside-parts frame (rowsOf frame ni nz) x y h
 
-    pub place-below : (placeOf frame x y < ni) × (placeOf frame x y < nz)
+    inside-whole : isWhole (layoutOf frame) (frame .line) ≡ true
+    inside-whole = rows-whole y (inside-at .1)
+
+    below-end : placeOf frame x y < bandEnd (layoutOf frame) y * widthOf (layoutOf frame) (frame .line)
     unfolding placeOf
+    below-end = spot-low (layoutOf frame) (frame .line) x y inside-whole (inside-at .0)
+
+    pub place-below : (placeOf frame x y < ni) × (placeOf frame x y < nz)
     place-below =
-        let k = row-ends y (λ e. omega (arith, inside-at .0)) (inside-at .1) in
-        let e : (y + 1) * frame .line ≡ y * frame .line + frame .line = ap (λ (i : ℕ). i * frame .line) (add-one y) ∙ suc-mul y (frame .line) in
-        (omega (arith, inside-at .0, k .1), omega (arith, inside-at .0, k .2))
+        let k = row-ends y inside-whole (inside-at .1) in
+        (omega (arith, below-end, k .1), omega (arith, below-end, k .2))
 
--- and below the pixels of the rows
-pub place-low : (frame : Frame) (rows x y : ℕ) → x < frame .line → y < rows → placeOf frame x y < rows * frame .line
-unfolding placeOf
-place-low frame rows x y h k = omega (arith, suc-mul y (frame .line), mul-le-mul-right {m = suc y} {n = rows} (frame .line) k)
+    -- and below the pixels of the rows in use
+    pub place-low : placeOf frame x y < rowsOf frame ni nz * widthOf (layoutOf frame) (frame .line)
+    place-low =
+        let k : y < min (rowsIn (layoutOf frame) (frame .line) (min ni nz)) mostRows = rw (rows-some inside-whole) at (inside-at .1) in
+        let m = band-low (layoutOf frame) (frame .line) (min ni nz) y k in
+        let end : bandEnd (layoutOf frame) y ≤ rowsOf frame ni nz = rw (rows-some inside-whole) m in
+        omega (arith, below-end, mul-le-mul-right {m = bandEnd (layoutOf frame) y} {n = rowsOf frame ni nz} (widthOf (layoutOf frame) (frame .line)) end)
 
--- no two pixels inside share a place
-pub place-apart : (frame : Frame) (x y x′ y′ : ℕ) → x < frame .line → x′ < frame .line → placeOf frame x y ≡ placeOf frame x′ y′ → (x ≡ x′) × (y ≡ y′)
-unfolding placeOf
-place-apart frame x y x′ y′ h h′ e = (
-  sym (digits-mod y h) ∙ ap (λ (i : ℕ). i % frame .line) e ∙ digits-mod y′ h′,
-  sym (digits-div y h) ∙ ap (λ (i : ℕ). i / frame .line) e ∙ digits-div y′ h′,
-)
+  -- no two pixels inside share a place
+  pub place-apart : (x y x′ y′ : ℕ) → inMemory frame (rowsOf frame ni nz) x y ≡ true → inMemory frame (rowsOf frame ni nz) x′ y′ ≡ true
+      → placeOf frame x y ≡ placeOf frame x′ y′ → (x ≡ x′) × (y ≡ y′)
+  unfolding placeOf
+  place-apart x y x′ y′ h h′ e =
+      spot-apart (layoutOf frame) (frame .line) x y x′ y′ (inside-whole x y h) (inside-at x y h .0) (inside-at x′ y′ h′ .0) (inside-at x y h .2) (inside-at x′ y′ h′ .2) e
 
 -- a place of 16-bit coordinates fits
 pub place-fits : (a b : ℕ) → a ≤ 65536 → b ≤ 65535 → a * b ≤ 4294901760
 place-fits a b h k = mul-le-mul {n₁ = a} {m₁ = b} {n₂ = 65536} {m₂ = 65535} h k
 
--- pixels of a row lie side by side
-pub place-beside : (frame : Frame) (x y j : ℕ) → placeOf frame x y + j ≡ placeOf frame (x + j) y
-unfolding placeOf
-place-beside frame x y j = add-assoc (y * frame .line) x j
+pub tile-fits : (y line : ℕ) → y ≤ 65535 → line ≤ 65535 → y / 4 * (line / 4) ≤ 268402689
+tile-fits y line h k = mul-le-mul {n₁ = y / 4} {m₁ = line / 4} {n₂ = 16383} {m₂ = 16383} (omega (arith, h)) (omega (arith, k))
 
-pub inside-of : (frame : Frame) (rows x y : ℕ) → x < frame .line → y < rows → inMemory frame rows x y ≡ true
+pub part-fits : (y line ways : ℕ) → y ≤ 65535 → line / ways ≤ 65535 → y * (line / ways) ≤ 4294836225
+part-fits y line ways h k = mul-le-mul {n₁ = y} {m₁ = line / ways} {n₂ = 65535} {m₂ = 65535} h k
+
+-- rows one after the other: y times the line length, and x
+pub place-plain : (frame : Frame) (x y : ℕ) → liesPlain frame ≡ true → placeOf frame x y ≡ y * frame .line + x
+unfolding placeOf spotOf
+place-plain frame x y e = rw (lies-plain frame e)
+
+pub place-tiled : (frame : Frame) (x y : ℕ) → liesTiled frame ≡ true → placeOf frame x y ≡ spotOf tiled (frame .line) x y
+unfolding placeOf
+place-tiled frame x y e = rw (lies-tiled frame e)
+
+pub place-shared : (frame : Frame) (x y : ℕ) → liesPlain frame ≡ false → liesTiled frame ≡ false
+    → placeOf frame x y ≡ y * (frame .line / waysOf frame) + x / waysOf frame
+unfolding placeOf spotOf
+place-shared frame x y e f = rw (lies-shared frame e f)
+
+-- so that pixels of a row lie side by side
+pub place-beside : (frame : Frame) (x y j : ℕ) → liesPlain frame ≡ true → placeOf frame x y + j ≡ placeOf frame (x + j) y
+place-beside frame x y j e = rw (place-plain frame x y e, place-plain frame (x + j) y e) (add-assoc (y * frame .line) x j)
+
+-- and in tiles as far apart as those of the first row
+pub place-along : (frame : Frame) (x y : ℕ) → liesTiled frame ≡ true → placeOf frame 0 y + alongTiles x ≡ placeOf frame x y
+unfolding spotOf
+place-along frame x y e = rw (place-tiled frame 0 y e, place-tiled frame x y e) (along (y / 4 * (frame .line / 4)) (y % 4))
+  where
+    along : (q r : ℕ) → (q + 0 / 4) * 16 + (4 * r + 0 % 4) + (x + 12 * (x / 4)) ≡ (q + x / 4) * 16 + (4 * r + x % 4)
+    along q r = omega arith
+
+pub inside-of : (frame : Frame) (rows x y : ℕ) → x < frame .line → y < rows → mine (layoutOf frame) x ≡ true → inMemory frame rows x y ≡ true
 unfolding inMemory
-inside-of frame rows x y h k = rw (lt-ltb _ _ h, lt-ltb _ _ k)
+inside-of frame rows x y h k m = rw (lt-ltb _ _ h, lt-ltb _ _ k, m)
+
+-- of tests neither of which holds
+or-none : (a b : Bool) → a || b ≡ false → (a ≡ false) × (b ≡ false)
+or-none true b e = absurd (true≢false e)
+or-none false b e = (refl, e)
+
+-- the number of a unit's layout is no less than the units'
+pub ways-low : (frame : Frame) → liesPlain frame ≡ false → liesTiled frame ≡ false → waysOf frame ≤ frame .layout
+ways-low frame e f =
+    let n = or-none (eqb (frame .layout) 0) (ltb 7 (frame .layout)) e in
+    go (ltb (frame .layout) 4) refl (eqb-false (frame .layout) 0 (n .0)) (eqb-false (frame .layout) 1 f)
+  where
+    go : (b : Bool) → ltb (frame .layout) 4 ≡ b → (frame .layout ≡ 0 → ⊥) → (frame .layout ≡ 1 → ⊥) → cond b 2 4 ≤ frame .layout
+    go true t z o = omega (arith, z, o)
+    go false t z o = let m = ltb-false (frame .layout) 4 t in omega (arith, m)
+
+-- the columns of a unit, without a difference
+pub mine-shared : (frame : Frame) (x ways : ℕ) → liesPlain frame ≡ false → liesTiled frame ≡ false → ways ≡ waysOf frame
+    → eqb (x % ways + ways) (frame .layout) ≡ mine (layoutOf frame) x
+unfolding mine
+mine-shared frame x ways e f is =
+    let low = ways-low frame e f in
+    rw (is, lies-shared frame e f)
+    (same-test (eqb (x % waysOf frame + waysOf frame) (frame .layout)) (eqb (x % waysOf frame) (frame .layout - waysOf frame))
+    (λ t. let s = eqb-true (x % waysOf frame + waysOf frame) (frame .layout) t in eq-eqb (x % waysOf frame) (frame .layout - waysOf frame) (omega (arith, s)))
+    (λ t. let s = eqb-true (x % waysOf frame) (frame .layout - waysOf frame) t in eq-eqb (x % waysOf frame + waysOf frame) (frame .layout) (omega (arith, s, low))))
+
+-- the rows that places hold, by the places of a row
+pub rows-tiled : (frame : Frame) (n width : ℕ) → width ≡ widthOf (layoutOf frame) (frame .line) → liesTiled frame ≡ true
+    → n / (4 * width) * 4 ≡ rowsIn (layoutOf frame) (frame .line) n
+unfolding widthOf rowsIn
+rows-tiled frame n width e f = rw (e, lies-tiled frame f)
+
+pub rows-width : (frame : Frame) (n width : ℕ) → width ≡ widthOf (layoutOf frame) (frame .line) → liesTiled frame ≡ false
+    → n / width ≡ rowsIn (layoutOf frame) (frame .line) n
+unfolding layoutOf widthOf rowsIn
+rows-width frame n width e f = rw (e, f) (go (liesPlain frame))
+  where
+    go : (b : Bool)
+        → n / widthOf (cond b plain (share (waysOf frame) (frame .layout - waysOf frame))) (frame .line)
+        ≡ rowsIn (cond b plain (share (waysOf frame) (frame .layout - waysOf frame))) (frame .line) n
+    go true = refl
+    go false = refl
+
+-- rows one after the other have every column
+pub plain-mine : (frame : Frame) (x : ℕ) → liesPlain frame ≡ true → mine (layoutOf frame) x ≡ true
+unfolding mine
+plain-mine frame x e = rw (lies-plain frame e)
+
+-- and so have tiles
+pub tiled-mine : (frame : Frame) (x : ℕ) → liesTiled frame ≡ true → mine (layoutOf frame) x ≡ true
+unfolding mine
+tiled-mine frame x e = rw (lies-tiled frame e)

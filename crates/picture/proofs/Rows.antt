@@ -15,7 +15,7 @@ use Rattle.picture.specs.declared.Kind.{Kind}
 use Rattle.picture.specs.declared.Compared.{Compared}
 use Rattle.picture.specs.declared.Compared.the-variants.{Nearer, Equal, Farther}
 use Rattle.picture.specs.declared.Carried.{Carried}
-use Rattle.picture.specs.Place.{placeOf, inMemory}
+use Rattle.picture.specs.Place.{layoutOf, placeOf, mine, inMemory}
 use Rattle.picture.specs.Offer.{Offer, offer, isMasked, shows}
 use Rattle.picture.specs.Picture.{isDeep, comparedOf, isEdge, wins, passes, inPlanes, newI, newZ, Picture, picture, stepAt, step, drawn}
 use Rattle.picture.specs.Draw.{shown, seen, carriedTo, spanPixel, spanOffers}
@@ -114,9 +114,13 @@ plain-of pen kind e =
 
 -- ---- a run
 
-pub seen-inside : (pen : Pen) (rows : ℕ) (o : Offer) → o .x < pen .frame .line → o .y < rows → seen pen rows o ≡ shown pen o
-unfolding seen inMemory
-seen-inside pen rows o h k = rw (lt-ltb _ _ h, lt-ltb _ _ k)
+pub seen-inside : (pen : Pen) (rows : ℕ) (o : Offer) → inMemory (pen .frame) rows (o .x) (o .y) ≡ true → seen pen rows o ≡ shown pen o
+unfolding seen
+seen-inside pen rows o h = rw h
+
+pub seen-outside : (pen : Pen) (rows : ℕ) (o : Offer) → inMemory (pen .frame) rows (o .x) (o .y) ≡ false → seen pen rows o ≡ []
+unfolding seen
+seen-outside pen rows o h = rw h
 
 pub seen-right : (pen : Pen) (rows : ℕ) (o : Offer) → pen .frame .line ≤ o .x → seen pen rows o ≡ []
 unfolding seen inMemory
@@ -126,7 +130,7 @@ pub seen-above : (pen : Pen) (rows : ℕ) (o : Offer) → ltb (o .y) rows ≡ fa
 unfolding seen inMemory
 seen-above pen rows o h = go (ltb (o .x) (pen .frame .line))
   where
-    go : (b : Bool) → cond (b && ltb (o .y) rows) (shown pen o) [] ≡ []
+    go : (b : Bool) → cond (b && ltb (o .y) rows && mine (layoutOf (pen .frame)) (o .x)) (shown pen o) [] ≡ []
     go true = rw h
     go false = refl
 
@@ -162,9 +166,14 @@ carried-at c j m e = ap (λ (a : ℕ). a / 2 ^ 48) e
 -- ---- a turn of the loop over a row
 
 module _ (pen : Pen) (rows : ℕ) (kind : Kind) (lo y : ℕ) (i z : Carried) (j : ℕ) where
-  pub row-turn : (p : Picture) {q : Picture} {iw zw : ℕ} → lo + j < pen .frame .line → y < rows → iw ≡ carriedTo i j → zw ≡ carriedTo z j
+  pub row-turn : (p : Picture) {q : Picture} {iw zw : ℕ} → inMemory (pen .frame) rows (lo + j) y ≡ true → iw ≡ carriedTo i j → zw ≡ carriedTo z j
       → q ≡ drawn pen (shown pen (offer kind (lo + j) y iw zw)) p → q ≡ drawn pen (seen pen rows (spanPixel kind lo y i z j)) p
-  row-turn p h k ei ez e =
+  row-turn p h ei ez e =
       e
       ∙ ap₂ (λ (a b : ℕ). drawn pen (shown pen (offer kind (lo + j) y a b)) p) ei ez
-      ∙ ap (λ (os : List Offer). drawn pen os p) (sym (seen-inside pen rows (spanPixel kind lo y i z j) h k))
+      ∙ ap (λ (os : List Offer). drawn pen os p) (sym (seen-inside pen rows (spanPixel kind lo y i z j) h))
+
+  -- of a run whose pixels may lie outside
+  pub apart-turn : (p : Picture) {q : Picture} {iw zw : ℕ} → iw ≡ carriedTo i j → zw ≡ carriedTo z j
+      → q ≡ drawn pen (seen pen rows (offer kind (lo + j) y iw zw)) p → q ≡ drawn pen (seen pen rows (spanPixel kind lo y i z j)) p
+  apart-turn p ei ez e = e ∙ ap₂ (λ (a b : ℕ). drawn pen (seen pen rows (offer kind (lo + j) y a b)) p) ei ez

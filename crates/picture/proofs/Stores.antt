@@ -1,6 +1,6 @@
 -- The laws of stores: lengths and count kept, what a place sees of them, and memories that they leave whole. Assumes nothing.
 use mathlib.Core.Path.{_≡_, refl, sym, ap, _∙_, subst}
-use Rattle.picture.proofs.Places.{place-low, inside-parts}
+use Rattle.picture.proofs.Places.{place-low}
 use mathlib.Core.Logic.{_≢_, ⊎-elim}
 use mathlib.Core.Bool.{Bool, true, false, cond, _&&_}
 use mathlib.Core.List.{List, [], _∷_, map, foldl, List·Memᴰ, List·Memᴰ·head, List·Memᴰ·tail, List·Memᴰ·cases-cons, List·Memᴰ·not-nil, List·Memᴰ·eq-of-singleton}
@@ -14,7 +14,7 @@ use Rattle.picture.specs.declared.Frame.{Frame}
 use Rattle.picture.specs.Picture.{Picture, picture, newI}
 use Rattle.picture.specs.Cell.{Cell, cell, cellAt}
 use Rattle.picture.specs.Store.{Store, pixelFor, storedI, storedZ, site, stored, filled, within, readOf, afterStore, storesAt}
-use Rattle.picture.specs.Place.{placeOf, rowsOf, inMemory}
+use Rattle.picture.specs.Place.{layoutOf, widthOf, placeOf, rowsOf, inMemory}
 
 pub filled-nil : (pen : Pen) (p : Picture) → filled pen [] p ≡ p
 unfolding filled
@@ -86,13 +86,16 @@ filled-leaves-z pen [] p h = refl
 filled-leaves-z pen (s ∷ ss) p h =
     filled-leaves-z pen ss (stored pen p s) (λ q u. h q (List·Memᴰ·tail u)) ∙ ap (set (p .z) (site pen s)) (rw (h s (List·Memᴰ·head refl))) ∙ set-getD (p .z) (site pen s) 0
 
--- where every store lies in a column of the line and in one of the first rows, so do their places
-pub sites-low : (pen : Pen) (rows : ℕ) (ss : List Store) → ((s : Store) → List·Memᴰ s ss → (s .x < pen .frame .line) × (s .y < rows))
-    → (at : ℕ) → List·Memᴰ at (map (site pen) ss) → at < rows * pen .frame .line
-sites-low pen rows [] h at u = absurd (List·Memᴰ·not-nil u)
-sites-low pen rows (s ∷ ss) h at u =
-    ⊎-elim (λ e. let k = h s (List·Memᴰ·head refl) in subst (λ (n : ℕ). n < rows * pen .frame .line) (sym e) (place-low (pen .frame) rows (s .x) (s .y) (k .0) (k .1)))
-    (λ v. sites-low pen rows ss (λ q w. h q (List·Memᴰ·tail w)) at v) (List·Memᴰ·cases-cons u)
+-- where every store lies inside memories of two lengths, their places are of the rows in use
+pub sites-low : (pen : Pen) (ni nz : ℕ) (ss : List Store)
+    → ((s : Store) → List·Memᴰ s ss → inMemory (pen .frame) (rowsOf (pen .frame) ni nz) (s .x) (s .y) ≡ true)
+    → (at : ℕ) → List·Memᴰ at (map (site pen) ss) → at < rowsOf (pen .frame) ni nz * widthOf (layoutOf (pen .frame)) (pen .frame .line)
+sites-low pen ni nz [] h at u = absurd (List·Memᴰ·not-nil u)
+sites-low pen ni nz (s ∷ ss) h at u =
+    ⊎-elim
+    (λ e. subst (λ (n : ℕ). n < rowsOf (pen .frame) ni nz * widthOf (layoutOf (pen .frame)) (pen .frame .line)) (sym e)
+    (place-low (pen .frame) ni nz (s .x) (s .y) (h s (List·Memᴰ·head refl))))
+    (λ v. sites-low pen ni nz ss (λ q w. h q (List·Memᴰ·tail w)) at v) (List·Memᴰ·cases-cons u)
 
 -- ---- one pixel
 
@@ -138,13 +141,13 @@ module _ (frame : Frame) (i z : List ℕ) (x y : ℕ) where
     unfolding readOf
     read-intensity d = rw (h, d, is)
 
--- a pixel that is stored lies in a column of the line and in a row in use
-pub within-inside : (pen : Pen) (rows : ℕ) (s q : Store) → List·Memᴰ q (within pen rows s) → (q .x < pen .frame .line) × (q .y < rows)
+-- a pixel that is stored lies inside the memory
+pub within-inside : (pen : Pen) (rows : ℕ) (s q : Store) → List·Memᴰ q (within pen rows s) → inMemory (pen .frame) rows (q .x) (q .y) ≡ true
 unfolding within
 within-inside pen rows s q = go (inMemory (pen .frame) rows (s .x) (s .y)) refl
   where
-    go : (b : Bool) → inMemory (pen .frame) rows (s .x) (s .y) ≡ b → List·Memᴰ q (cond b (s ∷ []) []) → (q .x < pen .frame .line) × (q .y < rows)
-    go true h u = subst (λ (t : Store). (t .x < pen .frame .line) × (t .y < rows)) (sym (List·Memᴰ·eq-of-singleton u)) (inside-parts (pen .frame) rows (s .x) (s .y) h)
+    go : (b : Bool) → inMemory (pen .frame) rows (s .x) (s .y) ≡ b → List·Memᴰ q (cond b (s ∷ []) []) → inMemory (pen .frame) rows (q .x) (q .y) ≡ true
+    go true h u = subst (λ (t : Store). inMemory (pen .frame) rows (t .x) (t .y) ≡ true) (sym (List·Memᴰ·eq-of-singleton u)) h
     go false h u = absurd (List·Memᴰ·not-nil u)
 
 -- and is that pixel

@@ -1,3 +1,4 @@
+pub mod Limits
 pub mod Place
 pub mod Offer
 pub mod Picture

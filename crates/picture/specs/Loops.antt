@@ -1,5 +1,5 @@
 -- What the code of a row leans on. No promise of a public call cites anything here.
-use Prim.Native.Nat.{ℕ, _+_}
+use Prim.Native.Nat.{ℕ, _+_, _*_, _/_}
 use mathlib.Core.Path.{_≡_}
 use mathlib.Core.Bool.{Bool, true, false, cond, not, _||_}
 use lib.ListN.{getD, set}
@@ -7,6 +7,7 @@ use Rattle.picture.specs.declared.Pen.{Pen}
 use Rattle.picture.specs.declared.Kind.{Kind}
 use Rattle.picture.specs.declared.Compared.{Compared}
 use Rattle.picture.specs.declared.Compared.the-variants.{Nearer, Equal, Farther}
+use Rattle.picture.specs.Place.{Layout, plain, tiled, share}
 use Rattle.picture.specs.Offer.{isMasked, shows}
 use Rattle.picture.specs.Picture.{isDeep, comparedOf, isEdge, Picture, picture}
 
@@ -29,3 +30,13 @@ isNearer Farther = false
 -- one offer of that sort at a place
 unfoldable pub nearerAt : ℕ → ℕ → ℕ → Picture → Picture
 nearerAt at i z p = cond (isNearer (comparedOf z (getD (p .z) at 0))) (picture (set (p .i) at i) (set (p .z) at z) (p .passed + 1)) p
+
+-- the rows up to the end of the band that has row y: that row, or the four of a tile
+unfoldable pub bandEnd : Layout → ℕ → ℕ
+bandEnd plain y = y + 1
+bandEnd tiled y = y / 4 * 4 + 4
+bandEnd (share ways unit) y = y + 1
+
+-- how far a row's pixel x lies from its first one in tiles: four side by side, and twelve of other rows between those and the next four
+abbrev pub alongTiles : ℕ → ℕ
+alongTiles x = x + 12 * (x / 4)

@@ -3,9 +3,9 @@ ghost use mathlib.Core.Path.{_≡_};
 ghost use mathlib.Core.Bool.{true};
 ghost use Prim.Native.Nat.{_+_, _/_, _^_, _≤_, _<_, min};
 ghost use lib.ListN.{length};
-ghost use Rattle.picture.specs.Draw.{placed, shown, spanOffers};
+ghost use Rattle.picture.specs.Draw.{placed, shown, seen, spanOffers};
 ghost use Rattle.picture.specs.Loops.{Plain};
-ghost use Rattle.picture.specs.Place.{placeOf, rowsOf};
+ghost use Rattle.picture.specs.Place.{liesPlain, liesTiled, placeOf, rowsOf};
 ghost use Rattle.picture.specs.Offer.{keep, offer};
 ghost use Rattle.picture.specs.Picture.{picture, drawn};
 use crate::Carried;
@@ -17,7 +17,11 @@ use crate::pixel::is_plain;
 use crate::pixel::is_shown;
 use crate::pixel::put_at;
 use crate::pixel::put_nearer;
+use crate::place::along_tiles;
 use crate::place::has_row;
+use crate::place::is_inside;
+use crate::place::lies_plain;
+use crate::place::lies_tiled;
 use crate::place::place;
 
 // A pixel of a figure, drawn where it is offered. Answers how many pixels passed.
@@ -93,7 +97,7 @@ fn draw_one(
     n
 }
 
-// The pixels of a row in use from column lo up to and without hi, which is no more than the line length.
+// The pixels of a row in use from column lo up to and without hi, which is no more than the line length, where they lie side by side.
 fn fill(
     pen: Pen,
     kind: Kind,
@@ -105,7 +109,7 @@ fn fill(
     im: &mut [u16],
     zm: &mut [u16],
 ) -> u64
-    requires { ⌜ (lo < hi) × (hi ≤ pen .frame .line) × (y < rowsOf (pen .frame) (length (now im)) (length (now zm))) ⌝ }
+    requires { ⌜ (lo < hi) × (hi ≤ pen .frame .line) × (y < rowsOf (pen .frame) (length (now im)) (length (now zm))) × (liesPlain (pen .frame) ≡ true) ⌝ }
     ensures { λ r. ⌜ picture (now (im .exit)) (now (zm .exit)) r ≡ drawn pen (spanOffers pen (rowsOf (pen .frame) (length (now (im .entry))) (length (now (zm .entry)))) kind lo hi y i z) (picture (now (im .entry)) (now (zm .entry)) 0) ⌝ }
 {
     let plain = is_plain(pen, kind);
@@ -137,6 +141,140 @@ fn fill(
     n
 }
 
+// The same where pixels lie in tiles.
+fn fill_tiled(
+    pen: Pen,
+    kind: Kind,
+    lo: u16,
+    hi: u16,
+    y: u16,
+    i: Carried,
+    z: Carried,
+    im: &mut [u16],
+    zm: &mut [u16],
+) -> u64
+    requires { ⌜ (lo < hi) × (hi ≤ pen .frame .line) × (y < rowsOf (pen .frame) (length (now im)) (length (now zm))) × (liesTiled (pen .frame) ≡ true) ⌝ }
+    ensures { λ r. ⌜ picture (now (im .exit)) (now (zm .exit)) r ≡ drawn pen (spanOffers pen (rowsOf (pen .frame) (length (now (im .entry))) (length (now (zm .entry)))) kind lo hi y i z) (picture (now (im .entry)) (now (zm .entry)) 0) ⌝ }
+{
+    let plain = is_plain(pen, kind);
+    let frame = pen.frame;
+    let base = place(frame, 0, y);
+    let count = hi - lo;
+    let mut ki = i.first;
+    let mut kz = z.first;
+    let mut j: u16 = 0;
+    let mut passed: u64 = 0;
+    while j < count {
+        passed = draw_one(
+            pen,
+            kind,
+            plain,
+            lo + j,
+            y,
+            base + along_tiles(lo + j),
+            whole(ki),
+            whole(kz),
+            im,
+            zm,
+            passed,
+        );
+        ki = std::num::wrapping_add_u64(ki, i.add);
+        kz = std::num::wrapping_add_u64(kz, z.add);
+        j += 1;
+    }
+    passed
+}
+
+// A pixel that may lie outside the memory; n is the count so far.
+fn draw_seen(
+    pen: Pen,
+    kind: Kind,
+    plain: bool,
+    x: u16,
+    y: u16,
+    i: u16,
+    z: u16,
+    im: &mut [u16],
+    zm: &mut [u16],
+    n: u64,
+) -> u64
+    requires { ⌜ (plain ≡ true → Plain pen kind) × (n ≤ 65535) ⌝ }
+    ensures { λ r. ⌜ (picture (now (im .exit)) (now (zm .exit)) r ≡ drawn pen (seen pen (rowsOf (pen .frame) (length (now (im .entry))) (length (now (zm .entry)))) (offer kind x y i z)) (picture (now (im .entry)) (now (zm .entry)) n)) × (r ≤ n + 1) ⌝ }
+{
+    let frame = pen.frame;
+    if is_inside(frame, x, y, im.len(), zm.len()) {
+        let at = place(frame, x, y);
+        return draw_one(pen, kind, plain, x, y, at, i, z, im, zm, n);
+    }
+    n
+}
+
+// The pixels of a row from column lo up to and without hi, each where it lies, if it lies inside the memory.
+fn fill_apart(
+    pen: Pen,
+    kind: Kind,
+    lo: u16,
+    hi: u16,
+    y: u16,
+    i: Carried,
+    z: Carried,
+    im: &mut [u16],
+    zm: &mut [u16],
+) -> u64
+    requires { ⌜ lo < hi ⌝ }
+    ensures { λ r. ⌜ picture (now (im .exit)) (now (zm .exit)) r ≡ drawn pen (spanOffers pen (rowsOf (pen .frame) (length (now (im .entry))) (length (now (zm .entry)))) kind lo hi y i z) (picture (now (im .entry)) (now (zm .entry)) 0) ⌝ }
+{
+    let plain = is_plain(pen, kind);
+    let count = hi - lo;
+    let mut ki = i.first;
+    let mut kz = z.first;
+    let mut j: u16 = 0;
+    let mut passed: u64 = 0;
+    while j < count {
+        passed = draw_seen(
+            pen,
+            kind,
+            plain,
+            lo + j,
+            y,
+            whole(ki),
+            whole(kz),
+            im,
+            zm,
+            passed,
+        );
+        ki = std::num::wrapping_add_u64(ki, i.add);
+        kz = std::num::wrapping_add_u64(kz, z.add);
+        j += 1;
+    }
+    passed
+}
+
+// The same in any layout.
+fn fill_row(
+    pen: Pen,
+    kind: Kind,
+    lo: u16,
+    hi: u16,
+    y: u16,
+    i: Carried,
+    z: Carried,
+    im: &mut [u16],
+    zm: &mut [u16],
+) -> u64
+    requires { ⌜ (lo < hi) × (hi ≤ pen .frame .line) × (y < rowsOf (pen .frame) (length (now im)) (length (now zm))) ⌝ }
+    ensures { λ r. ⌜ picture (now (im .exit)) (now (zm .exit)) r ≡ drawn pen (spanOffers pen (rowsOf (pen .frame) (length (now (im .entry))) (length (now (zm .entry)))) kind lo hi y i z) (picture (now (im .entry)) (now (zm .entry)) 0) ⌝ }
+{
+    let frame = pen.frame;
+    if lies_plain(frame) {
+        return fill(pen, kind, lo, hi, y, i, z, im, zm);
+    }
+    if lies_tiled(frame) {
+        return fill_tiled(pen, kind, lo, hi, y, i, z, im, zm);
+    }
+    fill_apart(pen, kind, lo, hi, y, i, z, im, zm)
+}
+
 // The smaller of two columns.
 fn shorter(a: u16, b: u16) -> u16
     ensures { λ r. ⌜ r ≡ min a b ⌝ }
@@ -162,7 +300,7 @@ pub fn span(
     if has_row(frame, y, im.len(), zm.len()) {
         let end = shorter(hi, frame.line);
         if lo < end {
-            return fill(pen, kind, lo, end, y, i, z, im, zm);
+            return fill_row(pen, kind, lo, end, y, i, z, im, zm);
         }
     }
     0

@@ -1,14 +1,17 @@
 // The two lent memories, and what an offered pixel does to them. specs/ says where pixels lie (Place), what is offered (Offer), what
 // passes and is stored (Picture), and what pictures store (Store).
 pub mod draw;
+pub mod limits;
 mod pixel;
 pub mod place;
 pub mod transfer;
 
-// Where pixels lie: the line length.
+// Where pixels lie: the line length, and the number of the layout (specs/Place.antt), 0 for rows one after the other and 1 for tiles of four by
+// four.
 #[repr(C)]
 pub struct Frame {
     pub line: u16,
+    pub layout: u16,
 }
 
 // What the modes say of drawing. The window's borders belong to it.

@@ -1,9 +1,15 @@
 // Where pixels lie in the lent memories.
 ghost use mathlib.Core.Path.{_≡_};
-ghost use Prim.Native.Nat.{_≤_, min, max};
+ghost use mathlib.Core.Bool.{true};
+ghost use Prim.Native.Nat.{_*_, _≤_, _<_, min, max};
 ghost use lib.Dec.{ltb};
-ghost use Rattle.picture.specs.Place.{placeOf, rowsOf, inMemory};
+ghost use Rattle.picture.specs.Place.{tiled, liesPlain, liesTiled, waysOf, layoutOf, spotOf, placeOf, isWhole, widthOf, rowsIn, rowsOf, mine, inMemory};
+ghost use Rattle.picture.specs.Loops.{bandEnd, alongTiles};
 use crate::Frame;
+use crate::limits::MOST_ROWS;
+
+// The layout's number of tiles.
+pub const TILED: u16 = 1;
 
 // The smaller of two numbers.
 pub fn least(a: usize, b: usize) -> usize
@@ -19,37 +25,145 @@ pub fn most(a: usize, b: usize) -> usize
     if a < b { b } else { a }
 }
 
+// Whether rows lie one after the other.
+pub fn lies_plain(frame: Frame) -> bool
+    ensures { λ r. ⌜ r ≡ liesPlain frame ⌝ }
+{
+    (frame.layout == 0) | (7 < frame.layout)
+}
+
+// Whether pixels lie in tiles.
+pub(crate) fn lies_tiled(frame: Frame) -> bool
+    ensures { λ r. ⌜ r ≡ liesTiled frame ⌝ }
+{
+    frame.layout == TILED
+}
+
+// The units of the board, where pixels lie neither in rows nor in tiles.
+fn ways_of(frame: Frame) -> u16
+    ensures { λ r. ⌜ (r ≡ waysOf frame) × (2 ≤ r) × (r ≤ 4) ⌝ }
+{
+    if frame.layout < 4 { 2 } else { 4 }
+}
+
+// Whether the line length suits the layout.
+fn is_whole(frame: Frame) -> bool
+    ensures { λ r. ⌜ r ≡ isWhole (layoutOf frame) (frame .line) ⌝ }
+{
+    if lies_plain(frame) {
+        return !(frame.line == 0);
+    }
+    if lies_tiled(frame) {
+        return !(frame.line == 0) & (frame.line % 4 == 0);
+    }
+    let ways = ways_of(frame);
+    !(frame.line == 0) & !(ways == 0) & (frame.line % ways == 0)
+}
+
+// The places of a row.
+fn width_of(frame: Frame) -> u16
+    ensures { λ r. ⌜ r ≡ widthOf (layoutOf frame) (frame .line) ⌝ }
+{
+    if lies_plain(frame) {
+        return frame.line;
+    }
+    if lies_tiled(frame) {
+        return frame.line;
+    }
+    let ways = ways_of(frame);
+    frame.line / ways
+}
+
+// The whole rows, or bands of four rows, that so many places hold.
+fn rows_in(frame: Frame, n: usize) -> usize
+    requires { ⌜ isWhole (layoutOf frame) (frame .line) ≡ true ⌝ }
+    ensures { λ r. ⌜ r ≡ rowsIn (layoutOf frame) (frame .line) n ⌝ }
+{
+    let width = width_of(frame) as usize;
+    if lies_tiled(frame) {
+        return n / (4 * width) * 4;
+    }
+    n / width
+}
+
 // The rows in use of two memories of these lengths.
 pub fn rows_of(frame: Frame, ni: usize, nz: usize) -> usize
     ensures { λ r. ⌜ r ≡ rowsOf frame ni nz ⌝ }
 {
-    if frame.line == 0 {
-        return 0;
+    if is_whole(frame) {
+        let n = least(ni, nz);
+        return least(rows_in(frame, n), MOST_ROWS);
     }
-    least(least(ni, nz) / (frame.line as usize), 8192)
+    0
 }
 
-// Whether row y is in use, without a division.
+// The rows up to the end of the band that has row y.
+fn band_end(frame: Frame, y: u16) -> usize
+    ensures { λ r. ⌜ (r ≡ bandEnd (layoutOf frame) y) × (r ≤ 65536) ⌝ }
+{
+    if lies_tiled(frame) {
+        return (y as usize) / 4 * 4 + 4;
+    }
+    y as usize + 1
+}
+
+// Whether row y is in use, without a division of the lengths.
 pub(crate) fn has_row(frame: Frame, y: u16, ni: usize, nz: usize) -> bool
     ensures { λ r. ⌜ r ≡ ltb y (rowsOf frame ni nz) ⌝ }
 {
-    if frame.line == 0 {
-        return false;
+    if is_whole(frame) {
+        let end = band_end(frame, y) * (width_of(frame) as usize);
+        return ((y as usize) < MOST_ROWS) & (end <= ni) & (end <= nz);
     }
-    let end = (y as usize + 1) * (frame.line as usize);
-    (y < 8192) & (end <= ni) & (end <= nz)
+    false
+}
+
+// Whether the memory has column x.
+fn is_mine(frame: Frame, x: u16) -> bool
+    ensures { λ r. ⌜ r ≡ mine (layoutOf frame) x ⌝ }
+{
+    if lies_plain(frame) {
+        return true;
+    }
+    if lies_tiled(frame) {
+        return true;
+    }
+    let ways = ways_of(frame);
+    x % ways + ways == frame.layout
 }
 
 // Whether pixel (x, y) is inside the memory.
 pub(crate) fn is_inside(frame: Frame, x: u16, y: u16, ni: usize, nz: usize) -> bool
     ensures { λ r. ⌜ r ≡ inMemory frame (rowsOf frame ni nz) x y ⌝ }
 {
-    (x < frame.line) & has_row(frame, y, ni, nz)
+    (x < frame.line) & has_row(frame, y, ni, nz) & is_mine(frame, x)
+}
+
+// The place of pixel (x, y) in tiles.
+fn place_tiled(line: u16, x: u16, y: u16) -> usize
+    ensures { λ r. ⌜ (r ≡ spotOf tiled line x y) × (r ≤ 4294967295) ⌝ }
+{
+    let tile = ((y / 4) as usize) * ((line / 4) as usize) + (x / 4) as usize;
+    tile * 16 + (4 * (y % 4) + x % 4) as usize
+}
+
+// How far a row's pixel x lies from its first one in tiles.
+pub(crate) fn along_tiles(x: u16) -> usize
+    ensures { λ r. ⌜ (r ≡ alongTiles x) × (r ≤ 262143) ⌝ }
+{
+    (x as usize) + 12 * ((x / 4) as usize)
 }
 
 // The place of pixel (x, y).
 pub fn place(frame: Frame, x: u16, y: u16) -> usize
     ensures { λ r. ⌜ (r ≡ placeOf frame x y) × (r ≤ 4294967295) ⌝ }
 {
-    (y as usize) * (frame.line as usize) + (x as usize)
+    if lies_plain(frame) {
+        return (y as usize) * (frame.line as usize) + (x as usize);
+    }
+    if lies_tiled(frame) {
+        return place_tiled(frame.line, x, y);
+    }
+    let ways = ways_of(frame);
+    (y as usize) * ((frame.line / ways) as usize) + ((x / ways) as usize)
 }

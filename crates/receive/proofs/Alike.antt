@@ -3,6 +3,7 @@ use mathlib.Core.Path.{_≡_, refl, sym, ap, _∙_}
 use mathlib.Core.List.{List, flatten}
 use Prim.Native.Nat.{ℕ, _^_, _<_}
 use lib.ListN.{length}
+use Rattle.registers.specs.Record.{resetOf}
 use Rattle.stream.specs.Calls.{checked}
 use Rattle.machine.specs.Machine.{memories}
 use Rattle.chip.specs.Stream.{running}
@@ -13,9 +14,9 @@ use Rattle.instalments.proofs.Request3.{request-3}
 use Rattle.receive.specs.Receive.{textOf, received, blank, drawn}
 
 -- the one outcome of a whole stream
-abbrev whole : (bytes i z : List ℕ) → Ended bytes i z
+abbrev whole : (bytes i z : List ℕ) → Ended resetOf bytes i z
 whole bytes i z =
-    let a = running bytes (memories i z) in
+    let a = running resetOf bytes (memories i z) in
     record {
       refusal = a .refusal;
       index = a .index;

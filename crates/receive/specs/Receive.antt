@@ -2,6 +2,7 @@
 use mathlib.Core.List.{List}
 use Prim.Native.Nat.{ℕ}
 use lib.ListN.{replicate}
+use Rattle.registers.specs.Record.{resetOf}
 use Rattle.registers.specs.declared.Registers.{Registers}
 use Rattle.machine.specs.Run.{Ran}
 use Rattle.machine.specs.Machine.{Memories, memories}
@@ -23,4 +24,4 @@ blank = memories (replicate 8192 0) (replicate 8192 65535)
 
 -- the text of a whole stream drawn on it, as the drawing program prints it
 unfoldable pub drawn : List ℕ → List ℕ
-drawn bytes = textOf (running bytes blank)
+drawn bytes = textOf (running resetOf bytes blank)

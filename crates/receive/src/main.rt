@@ -6,8 +6,8 @@ mod text;
 use input::Taken;
 use input::take;
 use instalments::Intake;
-use instalments::begin;
-use instalments::feed;
+use instalments::dextolumen_begin;
+use instalments::dextolumen_feed;
 use libc::STDERR_FILENO;
 use libc::STDOUT_FILENO;
 use text::put_received;
@@ -30,7 +30,7 @@ fn end(s: Intake, im: &[u16; 8192], zm: &[u16; 8192]) {
 // are too long.
 fn receive(im: &mut [u16; 8192], zm: &mut [u16; 8192]) {
     let mut piece = io::large_buffer();
-    let mut s = begin();
+    let mut s = dextolumen_begin();
     let mut left: u64 = 281474976710656;
     while 0 < left {
         let taken = take(&mut piece);
@@ -38,7 +38,7 @@ fn receive(im: &mut [u16; 8192], zm: &mut [u16; 8192]) {
             os::fail(b"receive: standard input");
             return;
         };
-        s = feed(s, &piece[..n], im, zm);
+        s = dextolumen_feed(s, &piece[..n], im, zm);
         if n < 65536 {
             end(s, im, zm);
             return;

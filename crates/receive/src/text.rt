@@ -7,7 +7,7 @@ ghost use Rattle.machine.specs.Machine.{memories};
 ghost use Rattle.instalments.specs.Instalments.{taking};
 ghost use Rattle.receive.specs.Receive.{received};
 use instalments::Intake;
-use instalments::finish;
+use instalments::dextolumen_finish;
 use report::Written;
 use report::write;
 
@@ -41,7 +41,7 @@ pub(crate) fn put_received(
 ) -> usize
     ensures { λ r. ⌜ Stands (received (taking s (memories (now (im .entry)) (now (zm .entry))))) (now (out .entry)) (now (out .exit)) r ⌝ }
 {
-    let end = finish(s, im, zm);
+    let end = dextolumen_finish(s, im, zm);
     let line = end.registers.frame.line;
     put_text(end.index, end.refusal, end.sum, line, im, zm, out)
 }

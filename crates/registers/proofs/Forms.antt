@@ -1,5 +1,5 @@
 -- What words leave in the record: what is no longer parked or open is cleared; INIT turns both write enables off, and HCONTROL alone turns
--- one on; LX starts a line visible. And the vertices of what a word completes. Assumes nothing.
+-- one on; INIT starts the record; LX starts a line visible. And the vertices of what a word completes. Assumes nothing.
 use mathlib.Core.Path.{_≡_, refl, sym, ap, ap₂, _∙_, subst}
 use mathlib.Core.Bool.{Bool, true, false, cond, not, _&&_, true≢false}
 use mathlib.Core.List.{List}
@@ -9,6 +9,7 @@ use lib.Dec.{ltb, eqb}
 use lib.Seq.{getD-set-other}
 use borrow.Author.Tests.{ltb-true, ltb-false, leb-true, eqb-true, not-false}
 use Rattle.picture.specs.declared.Vertex.{Vertex}
+use Rattle.picture.specs.Limits.{largestCoordinate}
 use Rattle.registers.specs.declared.word.Word.{Word}
 use Rattle.registers.specs.declared.word.Word.the-variants.{Init, Aux, Parm, At, Img, Ptrn, Reserved, Unmodelled, Unknown}
 use Rattle.registers.specs.declared.word.Coordinate.{Coordinate}
@@ -30,7 +31,7 @@ use Rattle.registers.specs.Figure.{shapeOf, vertexOf, isPair, paired, ad
 use Rattle.registers.specs.Next.{value, awaited, joinedOf, counted, effectOf, parmOf, coordinateOf, coordinateCompletes, imgNumber, transferredOf, after, completedBy, penOf}
 use Rattle.registers.specs.Allowed.{isCoordinate, coordinateAllowed, allowed}
 use Rattle.registers.specs.Bounds.{vertexFits}
-use Rattle.registers.specs.Refusal.{isInit, isParm, isAbove, isPtrn, refusalOf, next, readRefusalOf}
+use Rattle.registers.specs.Refusal.{isInit, isParm, isAbove, isPtrn, isCold, refusalOf, next, readRefusalOf}
 use Rattle.registers.proofs.Truth.{both, chosen}
 use Rattle.registers.proofs.Table.{everywhere}
 use Rattle.registers.proofs.Parking.{parm-more, parm-last}
@@ -346,6 +347,59 @@ pub hcontrol-init : (r : Registers) (d : ℕ) → after r (Init d) .modes .hcont
 unfolding after settings
 hcontrol-init r d = refl
 
+-- ---- the first INIT
+
+effect-started : (r : Registers) (s : Subcommand) (l : List ℕ) → effectOf r s l .started ≡ r .started
+unfolding effectOf
+effect-started r Nothing l = refl
+effect-started r Pmode l = refl
+effect-started r Lmode l = refl
+effect-started r Zcontrol l = refl
+effect-started r Hcontrol l = refl
+effect-started r Tpattern l = refl
+effect-started r Win l = refl
+effect-started r Section l = refl
+effect-started r Color l = refl
+effect-started r Lpattern l = refl
+effect-started r Mask l = refl
+effect-started r Lstatus l = refl
+effect-started r Imode l = refl
+effect-started r Load l = refl
+effect-started r Save l = refl
+
+coordinate-started : (r : Registers) (c : Coordinate) (n : ℕ) → coordinateOf r c n .started ≡ r .started
+unfolding coordinateOf
+coordinate-started r I n = refl
+coordinate-started r Z n = refl
+coordinate-started r Y n = refl
+coordinate-started r X n = refl
+coordinate-started r T1x n = refl
+coordinate-started r T2x n = refl
+coordinate-started r Lx n = refl
+coordinate-started r Px n = refl
+
+parm-started : (r : Registers) (v : ℕ) → parmOf r v .started ≡ r .started
+unfolding parmOf
+parm-started r v =
+    chosen (λ (k : Registers). k .started ≡ r .started) (ltb (r .parked .came + 1) (wants (awaited r))) _ _ (λ e. refl) (λ e. effect-started r (awaited r) _)
+
+-- INIT starts the record, and no other word changes whether it is started
+begun-after : (r : Registers) (w : Word) → not (isInit w) && isCold r ≡ false → isCold (after r w) ≡ false
+unfolding after settings
+begun-after r (Init d) h = refl
+begun-after r (Aux n) h = h
+begun-after r (Parm v) h = rw (parm-started r v) h
+begun-after r (At c n) h = rw (coordinate-started r c n) h
+begun-after r (Img d) h = h
+begun-after r (Ptrn v) h = h
+begun-after r Reserved h = h
+begun-after r Unmodelled h = h
+begun-after r Unknown h = h
+
+-- so behind an accepted word an INIT was accepted
+pub accepted-begun : (ni nz : ℕ) (r : Registers) (w : Word) → refusalOf ni nz r w ≡ 0 → isCold (after r w) ≡ false
+accepted-begun ni nz r w e = begun-after r w (accepted-when ni nz r w .0 e .begun)
+
 -- ---- what is drawn
 
 -- all vertices of a completed figure are such
@@ -358,7 +412,7 @@ module _ (P : Vertex → Type 0) (r : Registers) (first : P (r .figure .first)) 
   triangle-has : (v : Vertex) → P v → AllVertices P (cond (isPair (r .figure)) (Triangle (r .figure .first) (r .figure .second) v) None)
   triangle-has v h = chosen (AllVertices P) (isPair (r .figure)) _ _ (λ t. (first, second, h)) (λ t. tt)
 
-  completes-has : (shape : Shape) (inv : Bool) (v : Vertex) → P v → AllVertices P (completes shape inv (r .figure) v)
+  pub completes-has : (shape : Shape) (inv : Bool) (v : Vertex) → P v → AllVertices P (completes shape inv (r .figure) v)
   unfolding completes
   completes-has Closed inv v h = tt
   completes-has Strip inv v h = triangle-has v h
@@ -396,16 +450,16 @@ module _ (P : Vertex → Type 0) (r : Registers) (first : P (r .figure .first)) 
     pub completed-has : (ni nz : ℕ) (w : Word) → refusalOf ni nz r w ≡ 0 → AllVertices P (completedBy r w)
     completed-has ni nz w e = word-has w (accepted-when ni nz r w .0 e .valued)
 
--- a vertex whose coordinates are at most 8191
+-- a vertex whose coordinates are at most the largest
 pub record Near (v : Vertex) : Type 0 where
-  pub across : v .x ≤ 8191
-  pub up : v .y ≤ 8191
+  pub across : v .x ≤ largestCoordinate
+  pub up : v .y ≤ largestCoordinate
 
 near : (v : Vertex) → vertexFits v ≡ true → Near v
 unfolding vertexFits
 near v h = let q = both (isCoordinate (v .x)) (isCoordinate (v .y)) h in record { across = leb-true _ _ (q .0); up = leb-true _ _ (q .1) }
 
--- the vertices of what an accepted word completes have coordinates of at most 8191
+-- the vertices of what an accepted word completes have coordinates of at most the largest
 pub completed-near : (ni nz : ℕ) (r : Registers) (w : Word) → refusalOf ni nz r w ≡ 0 → AllVertices Near (completedBy r w)
 completed-near ni nz r w e =
     let s = parts r (accepted-when ni nz r w .0 e .sound) in

@@ -8,7 +8,10 @@ use native.Mathlib.Omega.{arith}
 use lib.Dec.{leb, ltb, eqb, leb·zero}
 use lib.ListN.{set}
 use borrow.Author.Tests.{lt-ltb, ltb-true, ltb-false, le-leb, leb-true, eq-eqb, ne-eqb, eqb-true, eqb-false, not-true}
+use Rattle.picture.specs.declared.Frame.{Frame}
 use Rattle.picture.specs.declared.Vertex.{Vertex}
+use Rattle.picture.specs.Limits.{largestCoordinate}
+use Rattle.picture.specs.Place.{frameOf}
 use Rattle.registers.specs.declared.word.Word.{Word}
 use Rattle.registers.specs.declared.word.Word.the-variants.{Init, Aux, Parm, At, Img, Ptrn, Reserved, Unmodelled, Unknown}
 use Rattle.registers.specs.declared.word.Coordinate.{Coordinate}
@@ -26,7 +29,7 @@ use Rattle.registers.specs.declared.Parked.{Parked}
 use Rattle.registers.specs.declared.Region.{Region}
 use Rattle.registers.specs.declared.Registers.{Registers}
 use Rattle.registers.specs.Lines.{chipsIn, unitIn, pageIn, codeIn, lineOf}
-use Rattle.registers.specs.Record.{noVertex, opened, frameOf, awaiting, nothingAwaited, regionOf, noRegion, window, settings, resetOf, initOf, withPmode, withLmode, withZcontrol, withHcontrol, withLstatus, withTransparency, withPlanes, withSection, withModes, withWindow, withDash, withLatch, withFigure, withParked, withRegion}
+use Rattle.registers.specs.Record.{noVertex, opened, awaiting, nothingAwaited, regionOf, noRegion, window, settings, resetAs, resetOf, initOf, withPmode, withLmode, withZcontrol, withHcontrol, withLstatus, withTransparency, withPlanes, withSection, withModes, withWindow, withDash, withLatch, withFigure, withParked, withRegion}
 use Rattle.registers.specs.Region.{toward, moved, nextPixel}
 use Rattle.registers.specs.Subcommand.{subcommands, subcommandOf, wants}
 use Rattle.registers.specs.Figure.{shapeOf, vertexOf, isPair, advanced, grownOf, figureAfter}
@@ -36,7 +39,7 @@ use Rattle.registers.specs.Bounds.{frameFits, modesFit, windowFits, vert
 use Rattle.registers.specs.Refusal.{isUnmodelled, isAbove, isUnfit, refusalOf, next, readRefusalOf}
 use Rattle.registers.proofs.Truth.{and-both, All, chain-all, all-chain, chosen}
 use Rattle.registers.proofs.Table.{everywhere}
-use Rattle.registers.proofs.Lengths.{line-fits}
+use Rattle.registers.proofs.Lengths.{line-fits, frame-laid}
 use Rattle.registers.proofs.Refusals.{Accepted, accepted-when, given-2, read-when, read-2}
 
 -- ---- the bounds, part by part
@@ -192,7 +195,7 @@ zeros-fit : (s : Subcommand) → valuesFit s (0 ∷ 0 ∷ 0 ∷ 0 ∷ 0 ∷ []) 
 zeros-fit s = let z = zero-fits s in all-fit s _ (z, (z, (z, (z, tt))))
 
 -- what is so of a new value and of those that were there is so of all
-set-keeps : (P : ℕ → Bool) (l : List ℕ) (i v k : ℕ) → P v ≡ true → P (value l k) ≡ true → P (value (set l i v) k) ≡ true
+pub set-keeps : (P : ℕ → Bool) (l : List ℕ) (i v k : ℕ) → P v ≡ true → P (value l k) ≡ true → P (value (set l i v) k) ≡ true
 set-keeps P [] i v k p q = q
 set-keeps P (x ∷ xs) zero v zero p q = p
 set-keeps P (x ∷ xs) zero v (suc k) p q = q
@@ -393,10 +396,10 @@ module _ (r : Registers) (s : Sound r) where
 toward-fits : (a b : ℕ) → isCoordinate a ≡ true → isCoordinate b ≡ true → isCoordinate (toward a b) ≡ true
 unfolding toward
 toward-fits a b h k =
-    let p : a ≤ 8191 = leb-true a 8191 h in
-    let q : b ≤ 8191 = leb-true b 8191 k in
+    let p : a ≤ largestCoordinate = leb-true a largestCoordinate h in
+    let q : b ≤ largestCoordinate = leb-true b largestCoordinate k in
     chosen (λ (n : ℕ). isCoordinate n ≡ true) (ltb a b) (a + 1) (a - 1)
-    (λ t. let l : a + 1 ≤ 8191 = omega (arith, ltb-true a b t, q) in le-leb _ _ l) (λ t. let l : a - 1 ≤ 8191 = omega (arith, p) in le-leb _ _ l)
+    (λ t. let l : a + 1 ≤ largestCoordinate = omega (arith, ltb-true a b t, q) in le-leb _ _ l) (λ t. let l : a - 1 ≤ largestCoordinate = omega (arith, p) in le-leb _ _ l)
 
 region-tests : Region → List Bool
 region-tests g = isCoordinate (g .x0) ∷ isCoordinate (g .x1) ∷ isCoordinate (g .y1) ∷ isCoordinate (g .x) ∷ isCoordinate (g .y) ∷ []
@@ -422,27 +425,31 @@ transferred-sound r s = sound-region s _ (pixel-fits (r .region) (s .region))
 
 -- ---- reset and INIT
 
-settings-sound : (started line : ℕ) → leb started 1 ≡ true → frameFits (frameOf line) ≡ true → Sound (settings started (frameOf line))
+settings-sound : (started : ℕ) (frame : Frame) → leb started 1 ≡ true → frameFits frame ≡ true → Sound (settings started frame)
 unfolding settings modesFit windowFits
-settings-sound started line s f = record { started = s; frame = f; modes = refl; window = refl; y = refl; figure = open-fits 0 noVertex refl no-vertex; parked = nothing-fits; region = no-region }
+settings-sound started frame s f = record { started = s; frame = f; modes = refl; window = refl; y = refl; figure = open-fits 0 noVertex refl no-vertex; parked = nothing-fits; region = no-region }
 
-init-sound : (r : Registers) (d : ℕ) → initAllowed d ≡ true → Sound (initOf r d)
+init-sound : (r : Registers) → Sound r → (d : ℕ) → initAllowed d ≡ true → Sound (initOf r d)
 unfolding initAllowed
-init-sound r d a =
+init-sound r s d a =
     let q = chain-all (eqb (chipsIn d) 0) (eqb (unitIn d) 0 ∷ leb (pageIn d) 7 ∷ not (eqb (lineOf (codeIn d)) 0) ∷ []) a in
-    settings-sound 1 (lineOf (codeIn d)) refl (line-fits (codeIn d) (omega arith) (eqb-false _ _ (not-true _ (q .1 .1 .1 .0))))
+    settings-sound 1 (frameOf (lineOf (codeIn d)) (r .frame .layout)) refl
+    (frame-laid (lineOf (codeIn d)) (r .frame) (line-fits (codeIn d) (omega arith) (eqb-false _ _ (not-true _ (q .1 .1 .1 .0)))) (s .frame))
 
--- the record after reset breaks no bound
-pub reset-kept : inBounds resetOf ≡ true
+-- the record after reset breaks no bound, in either layout
+pub reset-kept-as : (layout : ℕ) → layout ≤ 1 → inBounds (resetAs layout) ≡ true
 unfolding frameFits
-reset-kept = whole resetOf (settings-sound 0 256 refl refl)
+reset-kept-as layout h = whole (resetAs layout) (settings-sound 0 (frameOf 256 layout) refl (le-leb layout 1 h))
+
+pub reset-kept : inBounds resetOf ≡ true
+reset-kept = reset-kept-as 0 (omega arith)
 
 -- ---- words
 
 module _ (ni nz : ℕ) (r : Registers) where
   after-sound : (w : Word) → Accepted ni nz r w → Sound (after r w)
   unfolding after
-  after-sound (Init d) a = init-sound r d (a .valued)
+  after-sound (Init d) a = init-sound r (parts r (a .sound)) d (a .valued)
   after-sound (Aux n) a = sound-parked (parts r (a .sound)) _ (aux-fits n (a .modelled) (a .listed))
   after-sound (Parm v) a = parm-sound r v (parts r (a .sound)) (a .valued)
   after-sound (At c n) a = coordinate-sound r (parts r (a .sound)) c n (a .valued)

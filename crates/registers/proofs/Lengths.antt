@@ -3,14 +3,15 @@ use mathlib.Core.Path.{_≡_, refl, subst}
 use mathlib.Core.Bool.{Bool, true, false, _&&_, _||_}
 use mathlib.Core.List.{List, [], _∷_}
 use mathlib.Core.Logic.{_⊎_, inl, inr, ⊎-elim}
-use Prim.Native.Nat.{ℕ, _<_}
-use lib.Dec.{T, eqb}
+use Prim.Native.Nat.{ℕ, _%_, _<_}
+use lib.Dec.{T, leb, eqb}
 use lib.ListN.{getD}
 use borrow.Author.Tests.{eqb-true}
 use Rattle.registers.specs.Lines.{lineOf}
-use Rattle.registers.specs.Record.{frameOf}
+use Rattle.picture.specs.declared.Frame.{Frame}
+use Rattle.picture.specs.Place.{frameOf, plainFrame}
 use Rattle.registers.specs.Bounds.{frameFits}
-use Rattle.registers.proofs.Truth.{both}
+use Rattle.registers.proofs.Truth.{both, and-both}
 use Rattle.registers.proofs.Table.{at}
 
 -- the table, as the code has it
@@ -31,7 +32,7 @@ or-cases false b e = inr e
 
 -- an entry is document 01's, and is 0 or a line length that the bounds allow
 listed : ℕ → Bool
-listed x = eqb x 0 || frameFits (frameOf x)
+listed x = eqb x 0 || frameFits (plainFrame x)
 
 right : ℕ → ℕ → Bool
 right k x = eqb x (lineOf k) && listed x
@@ -50,6 +51,13 @@ module _ (k : ℕ) (h : k < 64) where
   listed-line = subst (λ (x : ℕ). listed x ≡ true) line-at (both (eqb (getD lengths k 0) (lineOf k)) (listed (getD lengths k 0)) tested .1)
 
   -- a line length that is listed keeps the bounds
-  pub line-fits : (lineOf k ≡ 0 → ⊥) → frameFits (frameOf (lineOf k)) ≡ true
+  pub line-fits : (lineOf k ≡ 0 → ⊥) → frameFits (plainFrame (lineOf k)) ≡ true
   unfolding listed
   line-fits ne = ⊎-elim (λ e. absurd (ne (eqb-true _ _ e))) (λ e. e) (or-cases (eqb (lineOf k) 0) _ listed-line)
+
+-- in every layout that reset chooses
+pub frame-laid : (line : ℕ) (f : Frame) → frameFits (plainFrame line) ≡ true → frameFits f ≡ true → frameFits (frameOf line (f .layout)) ≡ true
+unfolding frameFits
+frame-laid line f h k =
+    let q = both (leb 256 line && leb line 8768 && eqb (line % 64) 0) true h in
+    and-both (q .0) (both (leb 256 (f .line) && leb (f .line) 8768 && eqb (f .line % 64) 0) (leb (f .layout) 1) k .1)

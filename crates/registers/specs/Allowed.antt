@@ -4,6 +4,7 @@ use Prim.Native.Nat.{ℕ, _-_}
 use mathlib.Core.Bool.{Bool, true, false, cond, not, _&&_}
 use lib.Dec.{leb, ltb, eqb}
 use lib.Bits.{bitAnd}
+use Rattle.picture.specs.Limits.{largestCoordinate, largestBorder}
 use Rattle.registers.specs.declared.word.Word.{Word}
 use Rattle.registers.specs.declared.word.Word.the-variants.{Init, Aux, Parm, At, Img, Ptrn, Reserved, Unmodelled, Unknown}
 use Rattle.registers.specs.declared.word.Coordinate.{Coordinate}
@@ -17,12 +18,12 @@ use Rattle.registers.specs.Lines.{codeIn, chipsIn, unitIn, pageIn, lineO
 use Rattle.registers.specs.Figure.{shapeOf}
 use Rattle.registers.specs.Next.{awaited}
 
--- coordinates are 0 to 8191, and the window's borders at most 8192
+-- coordinates, and the window's borders, are numbers from 0 on up to a limit
 abbrev pub isCoordinate : ℕ → Bool
-isCoordinate n = leb n 8191
+isCoordinate n = leb n largestCoordinate
 
 abbrev pub isBorder : ℕ → Bool
-isBorder n = leb n 8192
+isBorder n = leb n largestBorder
 
 -- a word of 16 bits has only bits of a mask
 abbrev pub onlyBits : ℕ → ℕ → Bool

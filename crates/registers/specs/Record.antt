@@ -7,6 +7,8 @@ use lib.Bits.{bitAnd}
 use lib.Dec.{eqb}
 use Rattle.picture.specs.declared.Frame.{Frame}
 use Rattle.picture.specs.declared.Vertex.{Vertex}
+use Rattle.picture.specs.Limits.{largestBorder}
+use Rattle.picture.specs.Place.{frameOf}
 use Rattle.registers.specs.declared.Modes.{Modes}
 use Rattle.registers.specs.declared.Window.{Window}
 use Rattle.registers.specs.declared.Dash.{Dash}
@@ -76,9 +78,6 @@ regionOf way x0 y0 x1 y1 = record { way = way; x0 = x0; x1 = x1; y1 = y1; x = x0
 abbrev pub noRegion : Region
 noRegion = regionOf 0 0 0 0 0
 
-abbrev pub frameOf : ℕ → Frame
-frameOf line = record { line = line }
-
 -- ---- a part with one field replaced
 
 abbrev pub withPmode : Modes → ℕ → Modes
@@ -144,15 +143,18 @@ withRegion r g = record { started = r .started; frame = r .frame; modes = r .mod
 abbrev pub firstModes : Modes
 firstModes = record { pmode = 0; lmode = 1; zcontrol = 0; hcontrol = 0; lstatus = invBit; transparency = 65535; planes = 65535; section = 65535 }
 
--- window from 0 to 8192 both ways; foreground 1, background 0; line pattern all ones; I, Z, Y registers 0; no figure open, nothing awaited, no
--- region
+-- window from 0 to the largest border both ways
+abbrev pub firstWindow : Window
+firstWindow = window 0 largestBorder largestBorder 0
+
+-- these modes and this window; foreground 1, background 0; line pattern all ones; I, Z, Y registers 0; no figure open, nothing awaited, no region
 unfoldable pub settings : ℕ → Frame → Registers
 settings started frame =
     record {
       started = started;
       frame = frame;
       modes = firstModes;
-      window = window 0 8192 8192 0;
+      window = firstWindow;
       dash = dash 1 0 65535 65535;
       latch = latch 0 0 0;
       figure = noFigure;
@@ -160,10 +162,14 @@ settings started frame =
       region = noRegion;
     }
 
--- after reset: the same with line length 256, and no INIT accepted yet
-abbrev pub resetOf : Registers
-resetOf = settings 0 (frameOf 256)
+-- after reset: the same with line length 256, the layout that is chosen, and no INIT accepted yet
+abbrev pub resetAs : ℕ → Registers
+resetAs layout = settings 0 (frameOf 256 layout)
 
--- after INIT: the line length that its code names
+-- with rows one after the other
+abbrev pub resetOf : Registers
+resetOf = resetAs 0
+
+-- after INIT: the line length that its code names; the layout stays
 abbrev pub initOf : Registers → ℕ → Registers
-initOf r d = settings 1 (frameOf (lineOf (codeIn d)))
+initOf r d = settings 1 (frameOf (lineOf (codeIn d)) (r .frame .layout))

@@ -107,9 +107,9 @@ awaits r = ltb 0 (wants (awaited r))
 
 -- ---- the table
 
--- the numbers from 1 on, each with when it applies; `unfit` says that the record or the memories are
-abbrev pub table : Bool → Registers → Word → List Bool
-table unfit r w =
+-- the numbers from 1 on, each with when it applies; `unfit` says that the record or the memories are, `barred` that the word's value is
+abbrev pub tableOf : Bool → Bool → Registers → Word → List Bool
+tableOf unfit barred r w =
     isUnknown w  -- 1: command above 15
     ∷ unfit  -- 2: the memories differ in length, or the record breaks a bound
     ∷ (not (isInit w) && isCold r)  -- 3: any word but INIT before the first accepted INIT
@@ -118,11 +118,15 @@ table unfit r w =
     ∷ (not (isParm w || isInit w) && awaits r)  -- 6: a parameter is awaited and the word is neither PARM nor INIT
     ∷ (isParm w && not (awaits r))  -- 7: PARM with none awaited
     ∷ isAbove w  -- 8: AUX above 12
-    ∷ not (allowed r w)  -- 9: a value not allowed
+    ∷ barred  -- 9: a value not allowed
     ∷ not (fits r w)  -- 10: X or PX that fits no open figure
     ∷ false ∷ false ∷ false  -- 11, 12 and 13 refuse no word
     ∷ (isPtrn w && not (isOpen 1 r))  -- 14: PTRN with no region open to memory
     ∷ []
+
+-- by what is allowed of a word's value
+abbrev pub table : Bool → Registers → Word → List Bool
+table unfit r w = tableOf unfit (not (allowed r w)) r w
 
 -- the lowest number that applies, counted from n on; 0 where none does
 abbrev pub lowest : ℕ → List Bool → ℕ

@@ -5,6 +5,8 @@ use crate::lines::line_length;
 use crate::shape::Shape;
 use crate::subcommand::Subcommand;
 use crate::word::Coordinate;
+use picture::limits::LARGEST_BORDER;
+use picture::limits::LARGEST_COORDINATE;
 
 // The bits that ZCONTROL, HCONTROL and LSTATUS may have.
 pub(crate) const ZCONTROL_BITS: u16 = 0x0060;
@@ -34,15 +36,15 @@ pub(crate) fn is_parameter_allowed(s: Subcommand, k: u16, v: u16) -> bool
         Subcommand::Zcontrol => v & !ZCONTROL_BITS == 0,
         Subcommand::Hcontrol => v & !HCONTROL_BITS == 0,
         Subcommand::Tpattern => true,
-        Subcommand::Window => if k < 4 { v <= 8192 } else { v == 0 },
+        Subcommand::Window => if k < 4 { v <= LARGEST_BORDER } else { v == 0 },
         Subcommand::Section => true,
         Subcommand::Color => true,
         Subcommand::Lpattern => true,
         Subcommand::Mask => true,
         Subcommand::Lstatus => v & !LSTATUS_BITS == 0,
         Subcommand::Imode => v == 0,
-        Subcommand::Load => v <= 8191,
-        Subcommand::Save => v <= 8191,
+        Subcommand::Load => v <= LARGEST_COORDINATE,
+        Subcommand::Save => v <= LARGEST_COORDINATE,
     }
 }
 
@@ -53,12 +55,12 @@ pub(crate) fn is_coordinate_allowed(c: Coordinate, n: u16) -> bool
     match c {
         Coordinate::I => true,
         Coordinate::Z => true,
-        Coordinate::Y => n <= 8191,
-        Coordinate::X => n <= 8191,
-        Coordinate::T1x => n <= 8191,
-        Coordinate::T2x => n <= 8191,
-        Coordinate::Lx => n <= 8191,
-        Coordinate::Px => n <= 8191,
+        Coordinate::Y => n <= LARGEST_COORDINATE,
+        Coordinate::X => n <= LARGEST_COORDINATE,
+        Coordinate::T1x => n <= LARGEST_COORDINATE,
+        Coordinate::T2x => n <= LARGEST_COORDINATE,
+        Coordinate::Lx => n <= LARGEST_COORDINATE,
+        Coordinate::Px => n <= LARGEST_COORDINATE,
     }
 }
 

@@ -17,11 +17,13 @@ use crate::subcommand::subcommand_of;
 use crate::subcommand::wanted;
 use picture::Frame;
 use picture::Vertex;
+use picture::limits::LARGEST_BORDER;
+use picture::limits::LARGEST_COORDINATE;
 
 fn frame_fits(f: Frame) -> bool
     ensures { λ r. ⌜ r ≡ frameFits f ⌝ }
 {
-    (256 <= f.line) & (f.line <= 8768) & (f.line % 64 == 0)
+    (256 <= f.line) & (f.line <= 8768) & (f.line % 64 == 0) & (f.layout <= 1)
 }
 
 fn modes_fit(m: Modes) -> bool
@@ -37,13 +39,16 @@ fn modes_fit(m: Modes) -> bool
 fn window_fits(w: Window) -> bool
     ensures { λ r. ⌜ r ≡ windowFits w ⌝ }
 {
-    (w.left <= 8192) & (w.top <= 8192) & (w.right <= 8192) & (w.bottom <= 8192)
+    (w.left <= LARGEST_BORDER)
+        & (w.top <= LARGEST_BORDER)
+        & (w.right <= LARGEST_BORDER)
+        & (w.bottom <= LARGEST_BORDER)
 }
 
 fn vertex_fits(v: Vertex) -> bool
     ensures { λ r. ⌜ r ≡ vertexFits v ⌝ }
 {
-    (v.x <= 8191) & (v.y <= 8191)
+    (v.x <= LARGEST_COORDINATE) & (v.y <= LARGEST_COORDINATE)
 }
 
 fn figure_fits(f: Figure) -> bool
@@ -70,15 +75,15 @@ fn value_fits(s: Subcommand, v: u16) -> bool
         Subcommand::Zcontrol => true,
         Subcommand::Hcontrol => true,
         Subcommand::Tpattern => true,
-        Subcommand::Window => v <= 8192,
+        Subcommand::Window => v <= LARGEST_BORDER,
         Subcommand::Section => true,
         Subcommand::Color => true,
         Subcommand::Lpattern => true,
         Subcommand::Mask => true,
         Subcommand::Lstatus => true,
         Subcommand::Imode => true,
-        Subcommand::Load => v <= 8191,
-        Subcommand::Save => v <= 8191,
+        Subcommand::Load => v <= LARGEST_COORDINATE,
+        Subcommand::Save => v <= LARGEST_COORDINATE,
     }
 }
 
@@ -113,7 +118,12 @@ fn parked_fits(p: Parked) -> bool
 fn region_fits(g: Region) -> bool
     ensures { λ r. ⌜ r ≡ regionFits g ⌝ }
 {
-    (g.way <= 2) & (g.x0 <= 8191) & (g.x1 <= 8191) & (g.y1 <= 8191) & (g.x <= 8191) & (g.y <= 8191)
+    (g.way <= 2)
+        & (g.x0 <= LARGEST_COORDINATE)
+        & (g.x1 <= LARGEST_COORDINATE)
+        & (g.y1 <= LARGEST_COORDINATE)
+        & (g.x <= LARGEST_COORDINATE)
+        & (g.y <= LARGEST_COORDINATE)
 }
 
 impl Registers {
@@ -131,7 +141,7 @@ impl Registers {
             & frame_fits(frame)
             & modes_fit(modes)
             & window_fits(window)
-            & (self.latch.y <= 8191)
+            & (self.latch.y <= LARGEST_COORDINATE)
             & figure_fits(figure)
             & parked_fits(parked)
             & region_fits(region)

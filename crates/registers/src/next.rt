@@ -1,7 +1,7 @@
 // The record after a word, one method for each family of commands, and the figure that a word completes. Whether a word is refused is
 // asked elsewhere (refuse.rt).
 ghost use mathlib.Core.Path.{_≡_};
-ghost use Rattle.registers.specs.Record.{awaiting, withParked, withFigure, withRegion, settings, resetOf, initOf};
+ghost use Rattle.registers.specs.Record.{awaiting, withParked, withFigure, withRegion, settings, resetAs, resetOf, initOf};
 ghost use Rattle.registers.specs.Figure.{vertexOf, figureAfter, vertexCompletes};
 ghost use Rattle.registers.specs.Next.{effectOf, joinedOf, parmOf, openOf, lineOpenOf, coordinateOf, coordinateCompletes, penOf, imgNumber, isDeepPicture};
 ghost use Rattle.registers.specs.Region.{nextPixel};
@@ -30,6 +30,8 @@ use crate::word::Coordinate;
 use picture::Frame;
 use picture::Pen;
 use picture::Vertex;
+use picture::limits::LARGEST_BORDER;
+use picture::place::TILED;
 
 impl Parked {
     // The parameters of an AUX number are awaited.
@@ -79,8 +81,8 @@ impl Registers {
             },
             window: Window {
                 left: 0,
-                top: 8192,
-                right: 8192,
+                top: LARGEST_BORDER,
+                right: LARGEST_BORDER,
                 bottom: 0,
             },
             dash: Dash {
@@ -96,20 +98,37 @@ impl Registers {
         }
     }
 
-    // The record after reset.
+    // The record after reset, with rows one after the other.
     pub fn reset() -> Self
         ensures { λ r. ⌜ r ≡ resetOf ⌝ }
     {
-        let frame = Frame { line: 256 };
+        let frame = Frame {
+            line: 256,
+            layout: 0,
+        };
         Registers::set(0, frame)
     }
 
-    // INIT.
+    // The record after reset, with tiles of four by four.
+    pub fn reset_tiled() -> Self
+        ensures { λ r. ⌜ r ≡ resetAs 1 ⌝ }
+    {
+        let frame = Frame {
+            line: 256,
+            layout: TILED,
+        };
+        Registers::set(0, frame)
+    }
+
+    // INIT. The layout stays.
     pub fn init(self, data: u16) -> Self
         ensures { λ r. ⌜ r ≡ initOf self «data» ⌝ }
     {
         let line = line_length(data);
-        let frame = Frame { line: line };
+        let frame = Frame {
+            line: line,
+            layout: self.frame.layout,
+        };
         Registers::set(1, frame)
     }
 

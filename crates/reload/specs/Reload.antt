@@ -7,6 +7,7 @@ use Prim.Native.Nat.{ℕ, zero, suc, _+_, _-_, _*_, _≤_, _<_}
 use lib.ListN.{length, getD}
 use lib.Dec.{ltb}
 use Rattle.picture.specs.declared.Frame.{Frame}
+use Rattle.picture.specs.Limits.{largestCoordinate}
 use Rattle.picture.specs.Place.{rowsOf, inMemory}
 use Rattle.picture.specs.Store.{readOf}
 use Rattle.registers.specs.declared.Region.{Region}
@@ -65,10 +66,10 @@ loading c pixels r m = taking r (opening 0 c ++ map Ptrn pixels) m
 
 -- the corners are coordinates
 pub record Allowed (c : Corners) : Type 0 where
-  pub x0 : c .x0 ≤ 8191
-  pub y0 : c .y0 ≤ 8191
-  pub x1 : c .x1 ≤ 8191
-  pub y1 : c .y1 ≤ 8191
+  pub x0 : c .x0 ≤ largestCoordinate
+  pub y0 : c .y0 ≤ largestCoordinate
+  pub x1 : c .x1 ≤ largestCoordinate
+  pub y1 : c .y1 ≤ largestCoordinate
 
 -- the machine takes IMG: the memories have one length, an INIT was accepted, no parameter is awaited
 pub record Ready (r : Registers) (m : Memories) : Type 0 where

@@ -7,6 +7,7 @@ use lib.ListN.{length, replicate}
 use Rattle.registers.specs.declared.Registers.{Registers}
 use Rattle.machine.specs.Run.{Ran}
 use Rattle.machine.specs.Machine.{Memories, memories}
+use Rattle.registers.specs.Record.{resetOf}
 use Rattle.chip.specs.Stream.{running}
 use Rattle.report.specs.Image.{down}
 
@@ -17,7 +18,7 @@ pub record Fresh (im zm : List ℕ) : Type 0 where
 
 -- a recording drawn on memories of so many places
 unfoldable pub drawnOn : ℕ → List ℕ → Ran Registers Memories
-drawnOn places bytes = running bytes (memories (replicate places 0) (replicate places 65535))
+drawnOn places bytes = running resetOf bytes (memories (replicate places 0) (replicate places 65535))
 
 -- the memory that is shown
 unfoldable pub chosen : Bool → List ℕ → List ℕ → List ℕ

@@ -9,13 +9,13 @@ use lib.ListN.{length, take, drop}
 use lib.Seq.{take-append-seam}
 use lib.Dec.{ltb, leb, eqb}
 use Rattle.picture.proofs.Places.{both}
-use Rattle.stream.specs.Calls.{noRoom, over}
+use Rattle.stream.specs.Calls.{noRoom, over, Answer, answer}
 use Rattle.stream.proofs.Calls.{no-room, room}
 use Rattle.report.specs.Calls.{Put}
 use Rattle.report.proofs.Putting.{put-over}
 use Rattle.squares.specs.Squares.{Corner, cornerOf, sideOf}
 use Rattle.squares.specs.Copy.{copySquares}
-use Rattle.squares.specs.Calls.{goodSize, checked, areSquares, Answer, answer, answered, listed, listing, copying}
+use Rattle.squares.specs.Calls.{goodSize, checked, areSquares, answered, listed, listing, copying}
 
 -- the code's test of width and rows
 pub small : (width rows : ℕ) → ltb 0 width && leb width 256 && leb rows 256 ≡ true → (0 < width) × (width ≤ 256) × (rows ≤ 256)

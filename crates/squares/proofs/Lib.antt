@@ -10,4 +10,3 @@ pub mod Copies
 pub mod Rows
 pub mod Lists
 pub mod Viewer
-pub mod Settled

@@ -10,11 +10,11 @@ use borrow.Author.Tests.{lt-ltb, eq-eqb, ne-eqb}
 use lib.Arith.{digits-div, digits-mod}
 use lib.ListN.{length, take, drop, getD}
 use lib.Seq.{take-append-seam}
-use Rattle.stream.specs.Calls.{over}
+use Rattle.stream.specs.Calls.{over, Answer, answer}
 use Rattle.squares.specs.Squares.{Corner, corner, cornerOf, numbers}
 use Rattle.squares.specs.Change.{unlike, differs, changed}
 use Rattle.squares.specs.Copy.{holds, holders, copySquares}
-use Rattle.squares.specs.Calls.{isSquare, areSquares, Answer, answer, listing, copying}
+use Rattle.squares.specs.Calls.{isSquare, areSquares, listing, copying}
 use Rattle.squares.proofs.Any.{in-found}
 use Rattle.squares.proofs.Clip.{differs-parts, differs-of}
 use Rattle.squares.proofs.Calls.{Sized, sized-told, listed-whole, copy-done, copied-or-not}

@@ -4,7 +4,7 @@ use mathlib.Core.Bool.{Bool, true, cond, _&&_}
 use mathlib.Core.List.{List, [], _∷_, map}
 use lib.ListN.{length}
 use lib.Dec.{ltb, leb, eqb}
-use Rattle.stream.specs.Calls.{noRoom, over}
+use Rattle.stream.specs.Calls.{noRoom, over, Answer, answer}
 use Rattle.squares.specs.Squares.{Corner, cornerOf, numbers}
 use Rattle.squares.specs.Change.{changed}
 use Rattle.squares.specs.Copy.{copySquares}
@@ -28,14 +28,6 @@ areSquares width rows [] = true
 areSquares width rows (c ∷ cs) = isSquare width rows c && areSquares width rows cs
 
 -- ---- answers for C
-
--- an answer, and what the call left in the memory that was lent for it
-pub record Answer : Type 0 where
-  pub told : ℕ
-  pub left : List ℕ
-
-abbrev pub answer : ℕ → List ℕ → Answer
-answer told left = record { told = told; left = left }
 
 -- what comes of a call that its checks refuse with a number, or do not refuse where that is 0: it tells a value and leaves its result, or tells
 -- 2 ^ 63 plus the number and leaves what was lent untouched

@@ -1,5 +1,5 @@
 -- What each call comes to, from the tests on its way. Assumes nothing.
-use mathlib.Core.Path.{_≡_, refl, sym, ap}
+use mathlib.Core.Path.{_≡_, refl, sym, ap, _∙_}
 use mathlib.Core.Bool.{Bool, true, false, cond}
 use mathlib.Core.List.{List}
 use Prim.Native.Nat.{ℕ, _+_, _^_, _≤_, _<_}
@@ -8,7 +8,7 @@ use borrow.Author.Tests.{lt-ltb, le-ltb, ltb-false, eqb-true, ne-eqb}
 use lib.ListN.{length}
 use lib.Dec.{ltb, eqb}
 use Rattle.stream.specs.Format.{fit, unpackOf, packOf, wordAt}
-use Rattle.stream.specs.Calls.{badLength, badTail, checked, noRoom, over, Outcome, written, refused, outcome, unpacking, packing, told, entry, wordCount, wordEntry}
+use Rattle.stream.specs.Calls.{badLength, badTail, checked, noRoom, over, Outcome, written, refused, outcome, unpacking, packing, told, entry, wordCount, wordEntry, answer, answered}
 use Rattle.stream.specs.declared.Coded.{Coded}
 use Rattle.stream.specs.declared.Coded.the-variants.{Done, BadWord, BadLength, BadTail, NoRoom}
 
@@ -143,6 +143,11 @@ module _ (s : List ℕ) where
     pub word-flaw : (checked s 0 ≡ 0 → ⊥) → wordEntry s k ≡ 2 ^ 63 + checked s 0
     unfolding wordEntry entry
     word-flaw e = rw (flaw-told s (cond (ltb k (length (unpackOf s))) 0 13) e, ne-eqb (checked s 0) 0 e)
+
+-- what packing or unpacking comes to, as an entry gives it
+pub answer-told : {o : Outcome} {number size r : ℕ} {left : List ℕ} → record { refusal = number; size = size; left = left } ≡ o → r ≡ entry number size → answer r left ≡ answered o
+unfolding answered
+answer-told {left = left} e f = ap (λ (n : ℕ). answer n left) f ∙ ap answered e
 
 -- ---- what is told to be written fits the output
 

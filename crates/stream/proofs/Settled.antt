@@ -9,7 +9,7 @@ use lib.Seq.{take-append-seam}
 use lib.Arith.{digits-div}
 use lib.Dec.{eqb}
 use Rattle.stream.specs.Format.{bits, fit, unpackOf, packOf, wordAt}
-use Rattle.stream.specs.Calls.{checked, noRoom, over, Outcome, written, unpacking, packing, refusalOf, sizeOf, told, wordCount, wordEntry}
+use Rattle.stream.specs.Calls.{checked, noRoom, over, Outcome, written, unpacking, packing, refusalOf, sizeOf, told, entry, wordCount, wordEntry, Answer, answer, answered}
 use Rattle.stream.specs.declared.Coded.{Coded}
 use Rattle.stream.specs.declared.Coded.the-variants.{Done, BadWord, BadLength, BadTail, NoRoom}
 use Rattle.stream.proofs.Bits.{Fits, fits, fits-test, bits-split, bits-low}
@@ -37,7 +37,13 @@ settled {r = r} {r′ = r′} p q =
     let same = p ∙ sym q in
     (sym (coded-back r) ∙ ap (λ (t : Outcome). codedOf (t .refusal) (t .size)) same ∙ coded-back r′, ap (λ (t : Outcome). t .left) same)
 
--- of a call whose promise is an equation for its answer alone: `flaw`, `held`, `word` and the entries for C
+-- of an entry for C that writes: the answer and the whole output
+pub answer-settled : {a : Answer} {r r′ : ℕ} {left left′ : List ℕ} → answer r left ≡ a → answer r′ left′ ≡ a → (r ≡ r′) × (left ≡ left′)
+answer-settled p q =
+    let same = p ∙ sym q in
+    (ap (λ (a : Answer). a .told) same, ap (λ (a : Answer). a .left) same)
+
+-- of a call whose promise is an equation for its answer alone: `flaw`, `held`, `word` and the other entries for C
 pub one-answer : {value r r′ : ℕ} → r ≡ value → r′ ≡ value → r ≡ r′
 one-answer p q = p ∙ sym q
 
@@ -96,6 +102,52 @@ bytes-back s out words o o′ r r′ f g room p room′ q =
     ∙ packs (unpackOf s) o (unpack-fits s) (rw bytes room′)
     ∙ ap (λ (l : List ℕ). written l o) bytes)
     refl
+
+-- ---- the round trips, as the entries for C make them
+
+-- a success answers the result's length
+written-answer : (result out : List ℕ) → answered (written result out) ≡ answer (length result) (over result out)
+unfolding answered entry
+written-answer result out = refl
+
+-- what such an entry wrote, taken from the output by the length that it answers
+entry-wrote : (result out : List ℕ) {r : ℕ} {left : List ℕ} → answer r left ≡ answered (written result out) → take r left ≡ result
+entry-wrote result out e = ap (λ (a : Answer). take (a .told) (a .left)) (e ∙ written-answer result out) ∙ take-over result out
+
+-- words of 20 bits, packed and unpacked through the entries with room enough, are the same words
+pub entry-words-back : (ws out packed o o′ : List ℕ) (r r′ : ℕ)
+    → fit 20 ws ≡ true
+    → length (packOf ws) ≤ length out
+    → answer r packed ≡ answered (packing ws out)
+    → length ws ≤ length o
+    → answer r′ o′ ≡ answered (unpacking (take r packed) o)
+    → (r′ ≡ length ws) × (o′ ≡ over ws o)
+entry-words-back ws out packed o o′ r r′ f room p room′ q =
+    let stream : take r packed ≡ packOf ws = entry-wrote (packOf ws) out (p ∙ ap answered (packs ws out (fits 20 ws f) room)) in
+    let words : unpackOf (packOf ws) ≡ ws = unpack-pack (fits 20 ws f) in
+    answer-settled
+    (q ∙ ap (λ (s : List ℕ). answered (unpacking s o)) stream
+    ∙ ap answered (unpacks (packOf ws) o (packed-good ws) (rw words room′))
+    ∙ ap (λ (l : List ℕ). answered (written l o)) words)
+    (sym (written-answer ws o))
+
+-- a good stream, unpacked and packed through the entries with room enough, is the same stream
+pub entry-bytes-back : (s out words o o′ : List ℕ) (r r′ : ℕ)
+    → fit 8 s ≡ true
+    → checked s 0 ≡ 0
+    → length (unpackOf s) ≤ length out
+    → answer r words ≡ answered (unpacking s out)
+    → length s ≤ length o
+    → answer r′ o′ ≡ answered (packing (take r words) o)
+    → (r′ ≡ length s) × (o′ ≡ over s o)
+entry-bytes-back s out words o o′ r r′ f g room p room′ q =
+    let held : take r words ≡ unpackOf s = entry-wrote (unpackOf s) out (p ∙ ap answered (unpacks s out g room)) in
+    let bytes : packOf (unpackOf s) ≡ s = pack-unpack (fits 8 s f) g in
+    answer-settled
+    (q ∙ ap (λ (ws : List ℕ). answered (packing ws o)) held
+    ∙ ap answered (packs (unpackOf s) o (unpack-fits s) (rw bytes room′))
+    ∙ ap (λ (l : List ℕ). answered (written l o)) bytes)
+    (sym (written-answer s o))
 
 -- ---- the entries for C answer what `unpack` writes
 

@@ -77,7 +77,7 @@ sizeOf NoRoom = 0
 abbrev pub told : Coded → List ℕ → Outcome
 told answer left = record { refusal = refusalOf answer; size = sizeOf answer; left = left }
 
--- ---- the two entries for C
+-- ---- the entries for C
 
 -- a value, or 2 ^ 63 plus the refusal number
 unfoldable pub entry : ℕ → ℕ → ℕ
@@ -90,3 +90,15 @@ wordCount bytes = entry (checked bytes 0) (length (unpackOf bytes))
 -- which word stands at place k, counted from 0: checks 11, 12, and 13 past the last word
 unfoldable pub wordEntry : List ℕ → ℕ → ℕ
 wordEntry bytes k = entry (checked bytes (cond (ltb k (length (unpackOf bytes))) 0 13)) (wordAt bytes k)
+
+-- an answer, and what the call left in the memory that was lent for it
+pub record Answer : Type 0 where
+  pub told : ℕ
+  pub left : List ℕ
+
+abbrev pub answer : ℕ → List ℕ → Answer
+answer told left = record { told = told; left = left }
+
+-- packing and unpacking as entries give them: the length that was written, or 2 ^ 63 plus the refusal number
+unfoldable pub answered : Outcome → Answer
+answered o = answer (entry (o .refusal) (o .size)) (o .left)

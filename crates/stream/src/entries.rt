@@ -1,10 +1,13 @@
-// The two entries for the host program in C. Refusing, either answers 2^63 plus the refusal number.
+// The entries for the host program in C. Refusing, each answers 2^63 plus the refusal number.
 ghost use mathlib.Core.Path.{_≡_};
 ghost use Prim.Native.Nat.{_+_};
-ghost use Rattle.stream.specs.Calls.{wordCount, wordEntry};
+ghost use Rattle.stream.specs.Calls.{packing, unpacking, refusalOf, sizeOf, entry, wordCount, wordEntry, answer, answered};
+use crate::Coded;
 use crate::read::flaw;
 use crate::read::held;
+use crate::read::unpack;
 use crate::read::word;
+use crate::write::pack;
 
 const REFUSED: u64 = 0x8000_0000_0000_0000;
 
@@ -33,4 +36,35 @@ pub extern "C" fn dextolumen_word_at(bytes: &[u8], k: usize) -> u64
         return REFUSED + 13;
     }
     REFUSED + number
+}
+
+// The length that packing or unpacking wrote, or why it refused.
+fn number_of(coded: Coded) -> u64
+    ensures { λ r. ⌜ r ≡ entry (refusalOf coded) (sizeOf coded) ⌝ }
+{
+    match coded {
+        Coded::Done(n) => n as u64,
+        Coded::BadWord => REFUSED + 1,
+        Coded::BadLength => REFUSED + 11,
+        Coded::BadTail => REFUSED + 12,
+        Coded::NoRoom => REFUSED + 13,
+    }
+}
+
+// Packs words into `out`, and answers how many bytes they make.
+#[no_mangle]
+pub extern "C" fn dextolumen_pack(words: &[u32], out: &mut [u8]) -> u64
+    ensures { λ r. ⌜ answer r (now (out .exit)) ≡ answered (packing (now (words .entry)) (now (out .entry))) ⌝ }
+{
+    let coded = pack(words, out);
+    number_of(coded)
+}
+
+// Unpacks a stream into `out`, and answers how many words it holds.
+#[no_mangle]
+pub extern "C" fn dextolumen_unpack(bytes: &[u8], out: &mut [u32]) -> u64
+    ensures { λ r. ⌜ answer r (now (out .exit)) ≡ answered (unpacking (now (bytes .entry)) (now (out .entry))) ⌝ }
+{
+    let coded = unpack(bytes, out);
+    number_of(coded)
 }

@@ -74,7 +74,7 @@ stream-balanced : (bytes : List ℕ) → EachBalanced (tallyOf bytes)
 unfolding entryOf
 stream-balanced bytes = go (ltb 8192 (length bytes))
   where
-    go : (b : Bool) → EachBalanced ((cond {A = Entry} b (entry true 0 noTally) (entry false (running bytes fresh .refusal) (talliedOf bytes fresh))) .tally)
+    go : (b : Bool) → EachBalanced ((cond {A = Entry} b (entry true 0 noTally) (entry false (running resetOf bytes fresh .refusal) (talliedOf bytes fresh))) .tally)
     go true = none-balanced
     go false = run-balanced bytes fresh
 
@@ -113,7 +113,7 @@ unfolding entryOf
 stream-each bytes = go (ltb 8192 (length bytes)) refl
   where
     go : (b : Bool) → ltb 8192 (length bytes) ≡ b
-        → EachWithin 3276 ((cond {A = Entry} b (entry true 0 noTally) (entry false (running bytes fresh .refusal) (talliedOf bytes fresh))) .tally)
+        → EachWithin 3276 ((cond {A = Entry} b (entry true 0 noTally) (entry false (running resetOf bytes fresh .refusal) (talliedOf bytes fresh))) .tally)
     go true e = none-each 3276
     go false e =
         each-more (length (wordsOf bytes)) 3276 (talliedOf bytes fresh)
@@ -177,7 +177,7 @@ words-passed (w ∷ ws) r m t k = go (eqb (stepOf chip r w m .refusal) 0) refl (
         (ap (λ (b : Ran Registers Memories). runFrom (stepOf chip) b ws .sum) halts
         ∙ ap (λ (b : Ran Registers Memories). b .sum) (stays (stepOf chip) ws (ran (o .refusal) k (passedIn t % 2 ^ 64) r m) some))
 
-run-passed : (bytes : List ℕ) (m : Memories) → passedIn (talliedOf bytes m) % 2 ^ 64 ≡ running bytes m .sum
+run-passed : (bytes : List ℕ) (m : Memories) → passedIn (talliedOf bytes m) % 2 ^ 64 ≡ running resetOf bytes m .sum
 unfolding talliedOf running
 run-passed bytes m = go (eqb (flawOf bytes m) 0)
   where

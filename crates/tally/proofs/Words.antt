@@ -168,7 +168,7 @@ module _ (bytes : List ℕ) (m₀ : Memories) where
   -- the whole count is the count of the words that are left, from where k words came to; what passed so far is what the run has summed
   pub record Reached (m : Memories) (r : Registers) (t : Tally) (k : ℕ) : Type 0 where
     pub same : talliedFrom resetOf m₀ noTally (wordsOf bytes) ≡ talliedFrom r m t (drop k (wordsOf bytes))
-    pub run : RunReached bytes m₀ m r (passedIn t % 2 ^ 64) k
+    pub run : RunReached resetOf bytes m₀ m r (passedIn t % 2 ^ 64) k
     pub each : EachWithin k t
 
   pub reached-start : {r : Registers} {t : Tally} → r ≡ resetOf → t ≡ noTally → Reached m₀ r t 0
@@ -176,7 +176,7 @@ module _ (bytes : List ℕ) (m₀ : Memories) where
       rw (f)
       (record {
         same = ap (λ (q : Registers). talliedFrom q m₀ noTally (wordsOf bytes)) (sym e);
-        run = run-start bytes m₀ e;
+        run = run-start resetOf bytes m₀ e;
         each = none-each 0;
       })
 
@@ -204,7 +204,7 @@ module _ (bytes : List ℕ) (m₀ : Memories) where
                 ∙ tallied-more (wordsOf bytes) k (wordOf 0) r m t below here e
                 ∙ ap (λ (x : Word). talliedFrom r′ m′ (added t (wordTally r x m)) (drop (k + 1) (wordsOf bytes))) (word-at bytes k)
                 ∙ ap (λ (x : Tally). talliedFrom r′ m′ x (drop (k + 1) (wordsOf bytes))) is;
-            run = subst (λ (x : ℕ). RunReached bytes m₀ m′ r′ x (k + 1)) sum (run-more bytes m₀ (so .run) left told e);
+            run = subst (λ (x : ℕ). RunReached resetOf bytes m₀ m′ r′ x (k + 1)) sum (run-more resetOf bytes m₀ (so .run) left told e);
             each = subst (EachWithin (k + 1)) is each;
           }
 
@@ -212,7 +212,7 @@ module _ (bytes : List ℕ) (m₀ : Memories) where
       pub reached-halt : n ≢ 0 → (talliedFrom resetOf m₀ noTally (wordsOf bytes) ≡ t) × (runOf (stepOf chip) resetOf (wordsOf bytes) m₀ .refusal ≡ n)
           × (runOf (stepOf chip) resetOf (wordsOf bytes) m₀ .sum ≡ passedIn t % 2 ^ 64)
       reached-halt e =
-          let end = sym (run-halt bytes m₀ (so .run) left told e) in (
+          let end = sym (run-halt resetOf bytes m₀ (so .run) left told e) in (
             so .same ∙ tallied-halt (wordsOf bytes) k (wordOf 0) r m t below here e,
             ap (λ (a : Ran Registers Memories). a .refusal) end,
             ap (λ (a : Ran Registers Memories). a .sum) end,
@@ -222,7 +222,7 @@ module _ (bytes : List ℕ) (m₀ : Memories) where
     pub reached-end : length (unpackOf bytes) ≤ k → (talliedFrom resetOf m₀ noTally (wordsOf bytes) ≡ t) × (runOf (stepOf chip) resetOf (wordsOf bytes) m₀ .refusal ≡ 0)
         × (runOf (stepOf chip) resetOf (wordsOf bytes) m₀ .sum ≡ passedIn t % 2 ^ 64)
     reached-end h =
-        let end = sym (run-end bytes m₀ (so .run) h) in (
+        let end = sym (run-end resetOf bytes m₀ (so .run) h) in (
           so .same ∙ tallied-none (wordsOf bytes) k (wordOf 0) r m t (rw (words-length bytes) h),
           ap (λ (a : Ran Registers Memories). a .refusal) end,
           ap (λ (a : Ran Registers Memories). a .sum) end,

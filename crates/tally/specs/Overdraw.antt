@@ -94,7 +94,7 @@ entry long refusal tally = record { long = long; refusal = refusal; tally = tall
 
 -- a recording's entry: it is too long, or has its refusal and its tally
 unfoldable pub entryOf : List ℕ → Entry
-entryOf bytes = cond (ltb 8192 (length bytes)) (entry true 0 noTally) (entry false (running bytes fresh .refusal) (talliedOf bytes fresh))
+entryOf bytes = cond (ltb 8192 (length bytes)) (entry true 0 noTally) (entry false (running resetOf bytes fresh .refusal) (talliedOf bytes fresh))
 
 -- its tally
 abbrev pub tallyOf : List ℕ → Tally
@@ -127,7 +127,7 @@ pub record Overdraw : Type 0 where
   pub invisible : (r : Registers) (c : Coordinate) (n : ℕ) (m : Memories) → shapeOf (r .figure .shape) ≡ Line → isOn invBit (r .modes .lstatus) ≡ true
       → wordTally r (At c n) m ≡ noTally
   -- what passed in all is the count that a run tells
-  pub passed : (bytes : List ℕ) (m : Memories) → passedIn (talliedOf bytes m) % 2 ^ 64 ≡ running bytes m .sum
+  pub passed : (bytes : List ℕ) (m : Memories) → passedIn (talliedOf bytes m) % 2 ^ 64 ≡ running resetOf bytes m .sum
   -- each total is the sum over the streams
   pub figures-sum : (kind : Kind) (streams : List (List ℕ)) → countIn kind (talliesOf streams) .figures ≡ sumOf (λ t. countIn kind t .figures) (map tallyOf streams)
   pub offered-sum : (kind : Kind) (streams : List (List ℕ)) → countIn kind (talliesOf streams) .offered ≡ sumOf (λ t. countIn kind t .offered) (map tallyOf streams)

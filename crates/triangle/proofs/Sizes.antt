@@ -1,8 +1,9 @@
--- Which triangles need divisions a pixel: none whose coordinates are at most 16,383. Assumes nothing.
+-- Which triangles need divisions a pixel: none whose coordinates the card takes. Assumes nothing.
 use Prim.Native.Nat.{ℕ, _*_, _≤_}
 use native.Mathlib.Nat.{mul-le-mul}
 use native.Mathlib.Omega.{arith}
 use Rattle.picture.specs.declared.Vertex.{Vertex}
+use Rattle.picture.specs.Limits.{largestCoordinate}
 use Rattle.triangle.specs.declared.Corners.{Corners}
 use Rattle.triangle.specs.Edge.{plusOf, minusOf, areaOf}
 use Rattle.triangle.specs.Loops.{Large}
@@ -23,6 +24,6 @@ area-low s t a b c =
       mul-le-mul {n₁ = t .a .y} {m₁ = t .c .x} {n₂ = s} {m₂ = s} (a .up) (c .across),
     )
 
--- with coordinates up to 16,383 no triangle is too large for carried numbers, so `divided_row` may not be called
-pub never-large : (t : Corners) → Below 16383 (t .a) → Below 16383 (t .b) → Below 16383 (t .c) → Large t → ⊥
-never-large t a b c h = omega (arith, area-low 16383 t a b c, h .over)
+-- with coordinates that the card takes no triangle is too large for carried numbers, so `divided_row` may not be called
+pub never-large : (t : Corners) → Below largestCoordinate (t .a) → Below largestCoordinate (t .b) → Below largestCoordinate (t .c) → Large t → ⊥
+never-large t a b c h = omega (arith, area-low largestCoordinate t a b c, h .over)

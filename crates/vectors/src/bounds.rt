@@ -9,7 +9,7 @@ fn broken(name: &[u8], r: Registers) {
     row(name, r, 4, 8);
 }
 
-// Started, and the line length: too short, too long, no multiple of 64.
+// Started, the line length: too short, too long, no multiple of 64; and the layout.
 fn frame() {
     let mut a = ready();
     a.started = 2;
@@ -23,6 +23,9 @@ fn frame() {
     let mut d = ready();
     d.frame.line = 257;
     broken(b"bounds, line length 257", d);
+    let mut e = ready();
+    e.frame.layout = 2;
+    broken(b"bounds, layout 2", e);
 }
 
 // The words of the modes.

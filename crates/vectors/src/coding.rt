@@ -1,4 +1,4 @@
-// Packing and unpacking with a lent output, and the two entries for C.
+// Packing and unpacking with a lent output, and two of the entries for C.
 use crate::print::print;
 use crate::print::print_call;
 use crate::print::print_number;

@@ -12,14 +12,15 @@ pub(crate) fn ready() -> Registers {
     r
 }
 
-// The first 21 of a record's 46 numbers, in the order of docs/REGISTERS.md: what was set.
-fn settings(r: Registers) -> [u16; 21] {
+// The first 22 of a record's 47 numbers, in the order of docs/REGISTERS.md: what was set.
+fn settings(r: Registers) -> [u16; 22] {
     let modes = r.modes;
     let window = r.window;
     let dash = r.dash;
     [
         r.started,
         r.frame.line,
+        r.frame.layout,
         modes.pmode,
         modes.lmode,
         modes.zcontrol,

@@ -1,8 +1,11 @@
-// A stream's line: the first line of what the drawing program prints for it, and a checksum of all of that.
+// A stream's line: the first line of what the drawing program prints for it, a checksum of all of that, and one of what it would print over
+// tiles.
 ghost use Rattle.io.specs.Counts.{Counts};
 use crate::print::print;
 use crate::print::print_hex;
+use chip::run::Ran;
 use chip::run::run;
+use chip::run::run_tiled;
 use report::Written;
 use report::write;
 
@@ -62,7 +65,15 @@ fn print_text(text: &[u8]) {
     print(&text[..n]);
     print(b", text ");
     print_hex(checksum(text));
-    print(b"\n");
+}
+
+// Writes what a run and its picture come to as text, and tells how long that is.
+fn put_text(ran: Ran, im: &[u16], zm: &[u16], out: &mut [u8]) -> usize
+    ensures { λ r. ⌜ Counts r (now (out .exit)) ⌝ }
+{
+    let line = ran.registers.frame.line;
+    let answer = write(ran.index, ran.refusal, ran.sum, line, im, zm, out);
+    written(answer, out)
 }
 
 // Prints what a stream comes to on a fresh picture of 8,192 places.
@@ -70,11 +81,21 @@ fn print_drawn(bytes: &[u8]) {
     let mut im = [0u16; 8192];
     let mut zm = [65535u16; 8192];
     let ran = run(bytes, &mut im, &mut zm);
-    let line = ran.registers.frame.line;
     let mut out = [0u8; 180308];
-    let answer = write(ran.index, ran.refusal, ran.sum, line, &im, &zm, &mut out);
-    let n = written(answer, &out);
+    let n = put_text(ran, &im, &zm, &mut out);
     print_text(&out[..n]);
+}
+
+// Prints the checksum of what it comes to over tiles: places are told as in rows, whatever pixel lies at them.
+fn print_tiled(bytes: &[u8]) {
+    let mut im = [0u16; 8192];
+    let mut zm = [65535u16; 8192];
+    let ran = run_tiled(bytes, &mut im, &mut zm);
+    let mut out = [0u8; 180308];
+    let n = put_text(ran, &im, &zm, &mut out);
+    print(b", tiled ");
+    print_hex(checksum(&out[..n]));
+    print(b"\n");
 }
 
 // Prints a stream's line.
@@ -86,4 +107,5 @@ pub(crate) fn print_stream(name: &[u8], bytes: &[u8]) {
         return;
     }
     print_drawn(bytes);
+    print_tiled(bytes);
 }

@@ -6,6 +6,18 @@ use lib.Seq.{length-take-le}
 use Rattle.draw.proofs.main.Statement.{statement}
 use Rattle.draw.proofs.main.Tie as tie
 
+arg-count-requires : tie.Need-arg-count-requires
+arg-count-requires c κs = search needs
+
+slice-aggregate-write-all : tie.Need-slice-aggregate-write-all
+slice-aggregate-write-all c = search needs
+
+write-all-requires : tie.Need-write-all-requires
+write-all-requires c κs = search needs
+
+returns : tie.Need-returns
+returns c = search needs
+
 slice-aggregate-take : tie.Need-slice-aggregate-take
 slice-aggregate-take c = search needs
 
@@ -39,16 +51,20 @@ slice-aggregate-fail c = search needs
 fail-requires : tie.Need-fail-requires
 fail-requires c κs = search needs
 
-returns : tie.Need-returns
-returns c = search needs
-
 returns-2 : tie.Need-returns-2
 returns-2 c = search needs
+
+returns-3 : tie.Need-returns-3
+returns-3 c = search needs
 
 pub main-spec : {M : Type 1} → statement M
 main-spec =
     tie.close
     (tie.spec
+    arg-count-requires
+    slice-aggregate-write-all
+    write-all-requires
+    returns
     slice-aggregate-take
     take-requires
     enum-known-taken
@@ -58,5 +74,5 @@ main-spec =
     enum-told
     slice-aggregate-fail
     fail-requires
-    returns
-    returns-2)
+    returns-2
+    returns-3)

@@ -32,38 +32,38 @@ print-words-requires c κs = omega (arith, unpacked-fits _ _ (c .before .before 
 enum-told : tie.Need-enum-told
 enum-told c = search needs
 
-slice-aggregate-print : tie.Need-slice-aggregate-print
-slice-aggregate-print c = search needs
+slice-aggregate-refuse : tie.Need-slice-aggregate-refuse
+slice-aggregate-refuse c = search needs
 
-print-requires : tie.Need-print-requires
-print-requires c κs = search needs
+refuse-requires : tie.Need-refuse-requires
+refuse-requires c κs = search needs
 
 enum-told-2 : tie.Need-enum-told-2
 enum-told-2 c = search needs
 
-slice-aggregate-print-2 : tie.Need-slice-aggregate-print-2
-slice-aggregate-print-2 c = search needs
+slice-aggregate-refuse-2 : tie.Need-slice-aggregate-refuse-2
+slice-aggregate-refuse-2 c = search needs
 
-print-requires-2 : tie.Need-print-requires-2
-print-requires-2 c κs = search needs
+refuse-requires-2 : tie.Need-refuse-requires-2
+refuse-requires-2 c κs = search needs
 
 enum-told-3 : tie.Need-enum-told-3
 enum-told-3 c = search needs
 
-slice-aggregate-print-3 : tie.Need-slice-aggregate-print-3
-slice-aggregate-print-3 c = search needs
+slice-aggregate-refuse-3 : tie.Need-slice-aggregate-refuse-3
+slice-aggregate-refuse-3 c = search needs
 
-print-requires-3 : tie.Need-print-requires-3
-print-requires-3 c κs = search needs
+refuse-requires-3 : tie.Need-refuse-requires-3
+refuse-requires-3 c κs = search needs
 
 enum-told-4 : tie.Need-enum-told-4
 enum-told-4 c = search needs
 
-slice-aggregate-print-4 : tie.Need-slice-aggregate-print-4
-slice-aggregate-print-4 c = search needs
+slice-aggregate-refuse-4 : tie.Need-slice-aggregate-refuse-4
+slice-aggregate-refuse-4 c = search needs
 
-print-requires-4 : tie.Need-print-requires-4
-print-requires-4 c κs = search needs
+refuse-requires-4 : tie.Need-refuse-requires-4
+refuse-requires-4 c κs = search needs
 
 returns : tie.Need-returns
 returns c = search needs
@@ -92,17 +92,17 @@ print-stream-spec =
     slice-aggregate-print-words
     print-words-requires
     enum-told
-    slice-aggregate-print
-    print-requires
+    slice-aggregate-refuse
+    refuse-requires
     enum-told-2
-    slice-aggregate-print-2
-    print-requires-2
+    slice-aggregate-refuse-2
+    refuse-requires-2
     enum-told-3
-    slice-aggregate-print-3
-    print-requires-3
+    slice-aggregate-refuse-3
+    refuse-requires-3
     enum-told-4
-    slice-aggregate-print-4
-    print-requires-4
+    slice-aggregate-refuse-4
+    refuse-requires-4
     returns
     returns-2
     returns-3

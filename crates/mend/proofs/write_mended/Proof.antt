@@ -45,26 +45,29 @@ fail-requires c κs = search needs
 returns : tie.Need-returns
 returns c = search needs
 
+returns-2 : tie.Need-returns-2
+returns-2 c = search needs
+
 array-share-prefix-indices : tie.Need-array-share-prefix-indices
-array-share-prefix-indices c = indices-fit (c .before .before .before .before .before .before .repair .ensures)
+array-share-prefix-indices c = indices-fit (c .before .before .before .before .before .before .before .before .before .repair .ensures)
 
 slice-aggregate-say-list : tie.Need-slice-aggregate-say-list
-slice-aggregate-say-list c = sym (length-take-le _ _ (indices-fit (c .before .before .before .before .before .before .before .repair .ensures)))
+slice-aggregate-say-list c = sym (length-take-le _ _ (indices-fit (c .before .before .before .before .before .before .before .before .before .before .repair .ensures)))
 
 array-share-prefix-numbers : tie.Need-array-share-prefix-numbers
-array-share-prefix-numbers c = numbers-fit (c .before .before .before .before .before .before .before .repair .ensures)
+array-share-prefix-numbers c = numbers-fit (c .before .before .before .before .before .before .before .before .before .before .repair .ensures)
 
 slice-aggregate-say-list-2 : tie.Need-slice-aggregate-say-list-2
-slice-aggregate-say-list-2 c = sym (length-take-le _ _ (numbers-fit (c .before .before .before .before .before .before .before .before .repair .ensures)))
+slice-aggregate-say-list-2 c = sym (length-take-le _ _ (numbers-fit (c .before .before .before .before .before .before .before .before .before .before .before .repair .ensures)))
 
 say-list-requires : tie.Need-say-list-requires
-say-list-requires c κs = (listed-alike (c .before .before .before .before .before .before .before .before .repair .ensures), listed-low (c .before .before .before .before .before .before .before .before .repair .ensures) (c .before .before .before .before .before .before .before .before .before .before .before .before .before .before .before .before .pre))
+say-list-requires c κs = (listed-alike (c .before .before .before .before .before .before .before .before .before .before .before .repair .ensures), listed-low (c .before .before .before .before .before .before .before .before .before .before .before .repair .ensures) (c .before .before .before .before .before .before .before .before .before .before .before .before .before .before .before .before .before .before .before .pre))
 
 array-share-prefix-out-2 : tie.Need-array-share-prefix-out-2
-array-share-prefix-out-2 c = size-fits (c .before .before .before .before .before .before .before .before .before .repair .ensures)
+array-share-prefix-out-2 c = size-fits (c .before .before .before .before .before .before .before .before .before .before .before .before .repair .ensures)
 
 slice-aggregate-held : tie.Need-slice-aggregate-held
-slice-aggregate-held c = sym (length-take-le _ _ (size-fits (c .before .before .before .before .before .before .before .before .before .before .repair .ensures)))
+slice-aggregate-held c = sym (length-take-le _ _ (size-fits (c .before .before .before .before .before .before .before .before .before .before .before .before .before .repair .ensures)))
 
 held-requires : tie.Need-held-requires
 held-requires c κs = search needs
@@ -72,8 +75,8 @@ held-requires c κs = search needs
 say-summary-requires : tie.Need-say-summary-requires
 say-summary-requires c κs = search needs
 
-returns-2 : tie.Need-returns-2
-returns-2 c = search needs
+returns-3 : tie.Need-returns-3
+returns-3 c = search needs
 
 pub write-mended-spec : {M : Type 1} → statement M
 write-mended-spec =
@@ -92,6 +95,7 @@ write-mended-spec =
     slice-aggregate-fail
     fail-requires
     returns
+    returns-2
     array-share-prefix-indices
     slice-aggregate-say-list
     array-share-prefix-numbers
@@ -101,4 +105,4 @@ write-mended-spec =
     slice-aggregate-held
     held-requires
     say-summary-requires
-    returns-2)
+    returns-3)

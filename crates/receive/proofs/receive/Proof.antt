@@ -17,8 +17,8 @@ abbrev μ-loop : tie.MeasureT-loop
 large-buffer-requires : tie.Need-large-buffer-requires Inv-loop μ-loop
 large-buffer-requires c κs = search needs
 
-begin-requires : tie.Need-begin-requires Inv-loop μ-loop
-begin-requires c κs = search needs
+dextolumen-begin-requires : tie.Need-dextolumen-begin-requires Inv-loop μ-loop
+dextolumen-begin-requires c κs = search needs
 
 loop-holds : tie.Need-loop-holds Inv-loop μ-loop
 loop-holds c = c .before .large-buffer .ensures
@@ -49,13 +49,13 @@ array-share-prefix-piece c =
     let n = rw (c .before .taken .given .1) at (c .before .before .before .before .take .ensures) in
     omega (arith, n, c .before .before .before .before .take .kept .0)
 
-slice-aggregate-feed : tie.Need-slice-aggregate-feed Inv-loop μ-loop
-slice-aggregate-feed c =
+slice-aggregate-dextolumen-feed : tie.Need-slice-aggregate-dextolumen-feed Inv-loop μ-loop
+slice-aggregate-dextolumen-feed c =
     let n = rw (c .before .before .taken .given .1) at (c .before .before .before .before .before .take .ensures) in
     sym (length-take-le _ _ (omega (arith, n, c .before .before .before .before .before .take .kept .0)))
 
-feed-requires : tie.Need-feed-requires Inv-loop μ-loop
-feed-requires c κs = search needs
+dextolumen-feed-requires : tie.Need-dextolumen-feed-requires Inv-loop μ-loop
+dextolumen-feed-requires c κs = search needs
 
 end-requires : tie.Need-end-requires Inv-loop μ-loop
 end-requires c κs = search needs
@@ -88,7 +88,7 @@ receive-spec =
     Inv-loop
     μ-loop
     large-buffer-requires
-    begin-requires
+    dextolumen-begin-requires
     loop-holds
     slice-aggregate-take
     take-requires
@@ -98,8 +98,8 @@ receive-spec =
     fail-requires
     returns
     array-share-prefix-piece
-    slice-aggregate-feed
-    feed-requires
+    slice-aggregate-dextolumen-feed
+    dextolumen-feed-requires
     end-requires
     returns-2
     sub-left

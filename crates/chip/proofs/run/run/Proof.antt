@@ -1,26 +1,17 @@
--- `run::run` meets its contract: 11, 12, 2, and then the words. Assumes nothing.
-use Rattle.chip.proofs.Streams.{run-flawed, run-unlike, run-good}
+-- `run::run` meets its contract: the run from reset. Assumes nothing.
+use mathlib.Core.Path.{ap, _∙_}
+use Rattle.registers.specs.declared.Registers.{Registers}
+use Rattle.machine.specs.Machine.{memories}
+use Rattle.chip.specs.Stream.{running}
 use borrow.Author.Needs.{needs}
 use Rattle.chip.proofs.run.run.Statement.{statement}
 use Rattle.chip.proofs.run.run.Tie as tie
 
-flaw-requires : tie.Need-flaw-requires
-flaw-requires c κs = search needs
+reset-requires : tie.Need-reset-requires
+reset-requires c κs = search needs
 
-refused-requires : tie.Need-refused-requires
-refused-requires c κs = search needs
-
-returns : tie.Need-returns
-returns c = run-flawed _ _ (c .before .before .flaw .ensures) (c .refused .ensures) (c .before .if1 .taken)
-
-refused-requires-2 : tie.Need-refused-requires-2
-refused-requires-2 c κs = search needs
-
-returns-2 : tie.Need-returns-2
-returns-2 c = run-unlike _ _ (c .before .before .before .flaw .ensures) (c .before .before .if1 .left) (c .refused2 .ensures) (c .before .if2 .taken)
-
-run-words-requires : tie.Need-run-words-requires
-run-words-requires c κs = search needs
+run-from-requires : tie.Need-run-from-requires
+run-from-requires c κs = search needs
 
 same-length : tie.Need-same-length
 same-length c = search needs
@@ -28,19 +19,11 @@ same-length c = search needs
 same-length-2 : tie.Need-same-length-2
 same-length-2 c = search needs
 
-returns-3 : tie.Need-returns-3
-returns-3 c = run-good _ _ (c .before .before .before .before .before .before .before .before .before .flaw .ensures) (c .before .before .before .before .before .before .before .before .if1 .left) (c .before .before .before .before .run-words .ensures) (c .before .before .before .before .before .before .before .if2 .left)
+returns : tie.Need-returns
+returns c =
+    let a = c .before .before .before .before .before .before .before .before .before .before .before .args in
+    c .before .before .before .before .run-from .ensures
+    ∙ ap (λ (r : Registers). running r (a .bytes .now) (memories (a .im .now) (a .zm .now))) (c .before .before .before .before .before .before .before .reset .ensures)
 
 pub run-spec : {M : Type 1} → statement M
-run-spec =
-    tie.close
-    (tie.spec
-    flaw-requires
-    refused-requires
-    returns
-    refused-requires-2
-    returns-2
-    run-words-requires
-    same-length
-    same-length-2
-    returns-3)
+run-spec = tie.close (tie.spec reset-requires run-from-requires same-length same-length-2 returns)

@@ -12,7 +12,7 @@ use Rattle.chip.proofs.run.run_words.Tie as tie
 
 abbrev Inv-loop : tie.InvT-loop
 Inv-loop bytes im₀ zm₀ count r₀ sum₀ k₀ im zm r sum k =
-    (k ≤ count) × (count ≡ length (unpackOf bytes)) × (length im ≡ length im₀) × (length zm ≡ length zm₀) × Reached bytes (memories im₀ zm₀) (memories im zm) r sum k
+    (k ≤ count) × (count ≡ length (unpackOf bytes)) × (length im ≡ length im₀) × (length zm ≡ length zm₀) × Reached r₀ bytes (memories im₀ zm₀) (memories im zm) r sum k
 
 abbrev μ-loop : tie.MeasureT-loop
 μ-loop bytes im₀ zm₀ count r₀ sum₀ k₀ im zm r sum k = count - k
@@ -20,11 +20,8 @@ abbrev μ-loop : tie.MeasureT-loop
 held-requires : tie.Need-held-requires Inv-loop μ-loop
 held-requires c κs = search needs
 
-reset-requires : tie.Need-reset-requires Inv-loop μ-loop
-reset-requires c κs = search needs
-
 loop-holds : tie.Need-loop-holds Inv-loop μ-loop
-loop-holds c = (omega arith, c .before .held .ensures, refl, refl, reached-start _ _ (c .reset .ensures))
+loop-holds c = (omega arith, c .held .ensures, refl, refl, reached-start _ _ _ refl)
 
 step-at-requires : tie.Need-step-at-requires Inv-loop μ-loop
 step-at-requires c κs = search needs
@@ -36,7 +33,7 @@ same-length-2 : tie.Need-same-length-2 Inv-loop μ-loop
 same-length-2 c = search needs
 
 returns : tie.Need-returns Inv-loop μ-loop
-returns c = reached-halt _ _ (c .before .before .before .before .before .before .before .before .before .before .before .loop .inv .4) (rw (c .before .before .before .before .before .before .before .before .before .before .before .loop .inv .1) at (c .before .before .before .before .before .before .before .before .before .before .loop-test .taken)) (c .before .before .before .before .before .before .before .step-at .ensures) (c .if1 .taken)
+returns c = reached-halt _ _ _ (c .before .before .before .before .before .before .before .before .before .before .before .loop .inv .4) (rw (c .before .before .before .before .before .before .before .before .before .before .before .loop .inv .1) at (c .before .before .before .before .before .before .before .before .before .before .loop-test .taken)) (c .before .before .before .before .before .before .before .step-at .ensures) (c .if1 .taken)
 
 wrapping-add-u64-requires : tie.Need-wrapping-add-u64-requires Inv-loop μ-loop
 wrapping-add-u64-requires c κs = search needs
@@ -48,7 +45,7 @@ loop-less : tie.Need-loop-less Inv-loop μ-loop
 loop-less c = search needs
 
 loop-again : tie.Need-loop-again Inv-loop μ-loop
-loop-again c = (omega (arith, c .before .before .before .before .before .before .before .before .before .before .before .loop-test .taken), c .before .before .before .before .before .before .before .before .before .before .before .before .loop .inv .1, search needs, search needs, rw (c .wrapping-add-u64 .ensures) (reached-more _ _ (c .before .before .before .before .before .before .before .before .before .before .before .before .loop .inv .4) (rw (c .before .before .before .before .before .before .before .before .before .before .before .before .loop .inv .1) at (c .before .before .before .before .before .before .before .before .before .before .before .loop-test .taken)) (c .before .before .before .before .before .before .before .before .step-at .ensures) (c .before .if1 .left)))
+loop-again c = (omega (arith, c .before .before .before .before .before .before .before .before .before .before .before .loop-test .taken), c .before .before .before .before .before .before .before .before .before .before .before .before .loop .inv .1, search needs, search needs, rw (c .wrapping-add-u64 .ensures) (reached-more _ _ _ (c .before .before .before .before .before .before .before .before .before .before .before .before .loop .inv .4) (rw (c .before .before .before .before .before .before .before .before .before .before .before .before .loop .inv .1) at (c .before .before .before .before .before .before .before .before .before .before .before .loop-test .taken)) (c .before .before .before .before .before .before .before .before .step-at .ensures) (c .before .if1 .left)))
 
 same-length-3 : tie.Need-same-length-3 Inv-loop μ-loop
 same-length-3 c = search needs
@@ -57,7 +54,7 @@ same-length-4 : tie.Need-same-length-4 Inv-loop μ-loop
 same-length-4 c = search needs
 
 returns-2 : tie.Need-returns-2 Inv-loop μ-loop
-returns-2 c = reached-end _ _ (c .before .loop .inv .4) (rw (c .before .loop .inv .1) at (c .loop-test .left))
+returns-2 c = reached-end _ _ _ (c .before .loop .inv .4) (rw (c .before .loop .inv .1) at (c .loop-test .left))
 
 pub run-words-spec : {M : Type 1} → statement M
 run-words-spec =
@@ -66,7 +63,6 @@ run-words-spec =
     Inv-loop
     μ-loop
     held-requires
-    reset-requires
     loop-holds
     step-at-requires
     same-length

@@ -1,7 +1,6 @@
 -- `inside::is_within` meets its contract. Assumes nothing.
 use mathlib.Core.Path.{refl}
 use borrow.Author.Needs.{needs}
-use Rattle.picture.specs.Place.{inMemory}
 use Rattle.picture.specs.Offer.{inWindow}
 use Rattle.line.specs.Step.{within}
 use Rattle.line.proofs.inside.is_within.Statement.{statement}
@@ -11,7 +10,7 @@ cast-memory : tie.Need-cast-memory
 cast-memory c = search needs
 
 returns : tie.Need-returns
-unfolding within inWindow inMemory
+unfolding within inWindow
 returns c = refl
 
 pub is-within-spec : {M : Type 1} → statement M

@@ -6,7 +6,7 @@ use Rattle.picture.proofs.Offers.{keep-placed}
 use Rattle.line.specs.Segment.{xAt, yAt}
 use Rattle.line.specs.Step.{pixelAt}
 use Rattle.line.proofs.Steps.{side-told}
-use Rattle.line.proofs.Insides.{step-offered}
+use Rattle.line.proofs.Insides.{inside-plain, step-offered}
 use borrow.Author.Needs.{needs}
 use Rattle.line.proofs.inside.put_inside.Statement.{statement}
 use Rattle.line.proofs.inside.put_inside.Tie as tie
@@ -18,7 +18,8 @@ place-at-requires : tie.Need-place-at-requires
 place-at-requires c κs =
     let s = c .before .before .before in
     let h = s .pre .0 in
-    (s .pre .1, h .on, c .number .ensures ∙ side-told _ _ _ _ (h .on) (h .at-side) (omega (arith, s .good)))
+    let a = s .args in
+    (s .pre .1, h .on, c .number .ensures ∙ side-told _ _ _ _ (h .on) (h .at-side) (omega (arith, s .good)), inside-plain (a .pen) _ (a .kind) (a .a) (a .b) (s .pre .2))
 
 put-placed-requires : tie.Need-put-placed-requires
 put-placed-requires c κs = search needs

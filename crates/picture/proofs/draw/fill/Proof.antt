@@ -10,7 +10,7 @@ use Rattle.picture.specs.Place.{placeOf, rowsOf}
 use Rattle.picture.specs.Picture.{picture}
 use Rattle.picture.specs.Draw.{seen, spanPixel, spanOffers}
 use Rattle.picture.specs.Loops.{Plain}
-use Rattle.picture.proofs.Places.{place-below, place-beside, inside-of}
+use Rattle.picture.proofs.Places.{place-below, place-beside, inside-of, plain-mine}
 use Rattle.picture.proofs.Spans.{Reached, reached-start, reached-more, reached-i, reached-z}
 use Rattle.picture.proofs.Rows.{carried-start, carried-next, carried-at, row-turn}
 use Rattle.picture.proofs.draw.fill.Statement.{statement}
@@ -69,9 +69,9 @@ draw-one-requires c κs =
     let a = s .args in
     let k = l .loop in
     let h : a .lo + k .j < a .pen .frame .line = omega (arith, k .inv .1, c .before .before .before .before .loop-test .taken, s .pre .0, s .pre .1) in
-    let e = ap (λ (m : ℕ). m + k .j) (k .inv .3) ∙ place-beside (a .pen .frame) (a .lo) (a .y) (k .j) in
+    let e = ap (λ (m : ℕ). m + k .j) (k .inv .3) ∙ place-beside (a .pen .frame) (a .lo) (a .y) (k .j) (s .pre .3) in
     let below = place-below (a .pen .frame) (length (a .im .now)) (length (a .zm .now)) (a .lo + k .j) (a .y)
-    (inside-of (a .pen .frame) (rowsOf (a .pen .frame) (length (a .im .now)) (length (a .zm .now))) (a .lo + k .j) (a .y) h (s .pre .2)) in (
+    (inside-of (a .pen .frame) (rowsOf (a .pen .frame) (length (a .im .now)) (length (a .zm .now))) (a .lo + k .j) (a .y) h (s .pre .2) (plain-mine (a .pen .frame) (a .lo + k .j) (s .pre .3))) in (
       k .inv .2,
       (e, omega (arith, e, below .0, reached-i (k .inv .7)), omega (arith, e, below .1, reached-z (k .inv .7)), omega (arith, k .inv .4, k .inv .0, k .inv .1)),
     )
@@ -104,7 +104,7 @@ loop-again c =
       carried-next (a .i .first) (a .i .add) (k .j) _ (k .ki) (k .inv .5) (c .before .wrapping-add-u64 .ensures),
       carried-next (a .z .first) (a .z .add) (k .j) _ (k .kz) (k .inv .6) (c .wrapping-add-u642 .ensures),
       reached-more (k .inv .7)
-          (row-turn (a .pen) rows (a .kind) (a .lo) (a .y) (a .i) (a .z) (k .j) (picture (k .im) (k .zm) (k .n)) (omega (arith, k .inv .1, c .before .before .before .before .before .before .before .before .before .before .before .loop-test .taken, s .pre .0, s .pre .1)) (s .pre .2)
+          (row-turn (a .pen) rows (a .kind) (a .lo) (a .y) (a .i) (a .z) (k .j) (picture (k .im) (k .zm) (k .n)) (inside-of (a .pen .frame) rows (a .lo + k .j) (a .y) (omega (arith, k .inv .1, c .before .before .before .before .before .before .before .before .before .before .before .loop-test .taken, s .pre .0, s .pre .1)) (s .pre .2) (plain-mine (a .pen .frame) (a .lo + k .j) (s .pre .3)))
           (c .before .before .before .before .before .before .before .before .before .before .whole .ensures ∙ carried-at (a .i) (k .j) (k .ki) (k .inv .5)) (c .before .before .before .before .before .before .before .before .before .whole2 .ensures ∙ carried-at (a .z) (k .j) (k .kz) (k .inv .6)) (d .draw-one .ensures .0)),
     )
 

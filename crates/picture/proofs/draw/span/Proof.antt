@@ -21,8 +21,8 @@ has-row-requires c κs = search needs
 shorter-requires : tie.Need-shorter-requires
 shorter-requires c κs = search needs
 
-fill-requires : tie.Need-fill-requires
-fill-requires c κs =
+fill-row-requires : tie.Need-fill-row-requires
+fill-row-requires c κs =
     let h = c .before .before .before .before .before in
     (c .before .before .if2 .taken, omega (arith, c .before .before .before .shorter .ensures), ltb-true _ _ (sym (h .has-row .ensures) ∙ c .before .before .before .before .if1 .taken))
 
@@ -37,7 +37,7 @@ returns c =
     let a = c .before .before .before .before .before .before .before .before .before .before .before .before .before .before .args in
     let rows = rowsOf (a .pen .frame) (length (a .im .now)) (length (a .zm .now)) in
     let p = picture (a .im .now) (a .zm .now) 0 in
-    c .before .before .before .before .fill .ensures
+    c .before .before .before .before .fill-row .ensures
     ∙ ap (λ (h : ℕ). drawn (a .pen) (spanOffers (a .pen) rows (a .kind) (a .lo) h (a .y) (a .i) (a .z)) p) (c .before .before .before .before .before .before .before .before .shorter .ensures)
     ∙ ap (λ (os : List Offer). drawn (a .pen) os p) (sym (span-right (a .pen) rows (a .kind) (a .lo) (a .y) (a .i) (a .z) (a .hi)))
 
@@ -68,7 +68,7 @@ span-spec =
     (tie.spec
     has-row-requires
     shorter-requires
-    fill-requires
+    fill-row-requires
     same-length
     same-length-2
     returns

@@ -6,15 +6,15 @@ use Rattle.receive.specs.Receive.{textOf, received}
 use Rattle.receive.proofs.text.put_received.Statement.{statement}
 use Rattle.receive.proofs.text.put_received.Tie as tie
 
-finish-requires : tie.Need-finish-requires
-finish-requires c κs = search needs
+dextolumen-finish-requires : tie.Need-dextolumen-finish-requires
+dextolumen-finish-requires c κs = search needs
 
 put-text-requires : tie.Need-put-text-requires
 put-text-requires c κs = search needs
 
 returns : tie.Need-returns
 unfolding received textOf
-returns c = rw (ap (λ (t : Taking). textOf (t .so)) (c .before .before .before .before .finish .ensures)) at (c .put-text .ensures)
+returns c = rw (ap (λ (t : Taking). textOf (t .so)) (c .before .before .before .before .dextolumen-finish .ensures)) at (c .put-text .ensures)
 
 pub put-received-spec : {M : Type 1} → statement M
-put-received-spec = tie.close (tie.spec finish-requires put-text-requires returns)
+put-received-spec = tie.close (tie.spec dextolumen-finish-requires put-text-requires returns)

@@ -4,6 +4,7 @@ use mathlib.Core.List.{List}
 use Prim.Native.Nat.{ℕ}
 use borrow.Author.Needs.{needs}
 use Rattle.machine.specs.Machine.{memories}
+use Rattle.registers.specs.Record.{resetOf}
 use Rattle.chip.specs.Stream.{running}
 use Rattle.show.specs.Show.{drawnOn}
 use Rattle.show.proofs.write.drawn.Statement.{statement}
@@ -23,7 +24,7 @@ unfolding drawnOn
 returns c =
     let s = c .before .before .before .before .before .before .before .before .before .before in
     let bytes = s .args .bytes .now in
-    c .before .before .before .before .run .ensures ∙ ap₂ (λ (i z : List ℕ). running bytes (memories i z)) (s .pre .dark) (s .pre .far)
+    c .before .before .before .before .run .ensures ∙ ap₂ (λ (i z : List ℕ). running resetOf bytes (memories i z)) (s .pre .dark) (s .pre .far)
 
 pub drawn-spec : {M : Type 1} → statement M
 drawn-spec = tie.close (tie.spec run-requires same-length same-length-2 returns)

@@ -5,6 +5,7 @@ use mathlib.Core.Path.{_≡_, sym, ap, ap₂, _∙_}
 use native.Mathlib.Omega.{arith}
 use lib.ListN.{length}
 use Prim.Native.Nat.{ℕ, _+_, _-_, _≤_}
+use Rattle.picture.specs.Limits.{mostRows}
 use Rattle.picture.specs.Place.{rowsOf}
 use Rattle.picture.specs.Picture.{picture, drawn}
 use Prim.Native.Nat.{min}
@@ -22,7 +23,7 @@ abbrev Inv-loop : tie.InvT-loop
 Inv-loop pen constant t d im₀ zm₀ rows top shades y₀ n₀ im zm y n =
     (rows ≡ rowsOf (pen .frame) (length im₀) (length zm₀)) × (top ≡ endOf rows (pen .top) (t .a .y) (t .c .y) (t .b .y))
     × (y₀ ≡ min (startOf (pen .bottom) (t .a .y) (t .c .y) (t .b .y)) (endOf rows (pen .top) (t .a .y) (t .c .y) (t .b .y)))
-    × (Shaded constant t shades) × (pen .frame .line ≤ 65535) × (y₀ ≤ y) × (y ≤ top) × (top ≤ rows) × (rows ≤ 8192)
+    × (Shaded constant t shades) × (pen .frame .line ≤ 65535) × (y₀ ≤ y) × (y ≤ top) × (top ≤ rows) × (rows ≤ mostRows)
     × (Reached pen (rowOffers pen rows constant t) im₀ zm₀ im zm n y)
 
 abbrev μ-loop : tie.MeasureT-loop
@@ -84,7 +85,7 @@ add-n c =
     omega (
       arith,
       reached-count (a .pen .frame .line) (reached-add (k .inv .9) (c .before .before .before .before .draw-row .ensures ∙ turn)) (λ y. row-length (a .pen) _ (a .constant) (a .t) y),
-      mul-le-mul {n₁ = k .y + 1} {m₁ = a .pen .frame .line} {n₂ = 8192} {m₂ = 65535} (omega (arith, c .before .before .before .before .before .before .before .loop-test .taken, k .inv .7, k .inv .8)) (k .inv .4),
+      mul-le-mul {n₁ = k .y + 1} {m₁ = a .pen .frame .line} {n₂ = mostRows} {m₂ = 65535} (omega (arith, c .before .before .before .before .before .before .before .loop-test .taken, k .inv .7, k .inv .8)) (k .inv .4),
     )
 
 add-y : tie.Need-add-y Inv-loop μ-loop
