@@ -49,9 +49,9 @@ typedef struct {
     int64_t line, rows;
 } Picture;
 
-enum { MOST_ROWS = 8192 };
+enum { MOST_ROWS = 16384 };
 
-// Rows in use: the whole rows that fit, at most 8,192. Memories of unlike length are refused, so they have none.
+// Rows in use: the whole rows that fit, at most 16,384. Memories of unlike length are refused, so they have none.
 // The window of INIT holds every vertex and so cuts nothing that these bounds leave.
 static inline Picture picture(uint16_t line, MEMORIES) {
     int64_t rows = ni == nz ? (int64_t)(ni / line) : 0;

@@ -102,9 +102,9 @@ static inline const char *dextolumen_told_text(uint64_t number) {
 /* ---- how far the card reaches */
 
 enum {
-    DEXTOLUMEN_LARGEST_COORDINATE = 8191, /* of a vertex, and of a corner of a picture's region */
-    DEXTOLUMEN_LARGEST_BORDER = 8192,     /* of the window, which is 0 to this both ways from INIT on */
-    DEXTOLUMEN_MOST_ROWS = 8192           /* the rows in use, at most; later places are never touched */
+    DEXTOLUMEN_LARGEST_COORDINATE = 16383, /* of a vertex, and of a corner of a picture's region */
+    DEXTOLUMEN_LARGEST_BORDER = 16384,     /* of the window, which is 0 to this both ways from INIT on */
+    DEXTOLUMEN_MOST_ROWS = 16384           /* the rows in use, at most; later places are never touched */
 };
 
 /* ---- the register record */

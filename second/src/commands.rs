@@ -51,9 +51,9 @@ pub const DEPTH_TEST: i64 = 0x0040;
 pub const SECTIONING: i64 = 0x0020;
 
 /// The largest coordinate, of a vertex and of an image, and the largest
-/// window border (document 01).
-pub const LARGEST_COORDINATE: i64 = 8191;
-pub const LARGEST_BORDER: i64 = 8192;
+/// window border (document 02, [12]).
+pub const LARGEST_COORDINATE: i64 = 16383;
+pub const LARGEST_BORDER: i64 = 16384;
 
 /// An accepted word: the next registers, the figure that the word
 /// completed, if there is one that offers pixels, and the pixel that it

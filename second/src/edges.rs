@@ -151,7 +151,7 @@ fn coordinates() -> Vec<Edge> {
         ("x-open-line-mode-1", 4, "80000 "),
         ("px-open-strip", 0xB, "50000 "),
     ] {
-        for data in [0, 8190, 8191, 8192, 9000, 0x8000, 65535] {
+        for data in [0, 8192, 9000, 16382, 16383, 16384, 0x8000, 65535] {
             let words = format!("{}10005 {}{}", BEGIN, before, word(command, data));
             edges.push(edge(format!("{}-{}", name, data), &words));
         }
@@ -164,8 +164,8 @@ fn windows() -> Vec<Edge> {
     let mut edges = Vec::new();
     let triangle = "10007 30000 50000 400FF 3001F 40000 ";
     for position in 0..5 {
-        for value in [0, 1, 8191, 8192, 8193, 65535] {
-            let mut borders = [0, 8192, 8192, 0, 0];
+        for value in [0, 1, 8193, 16383, 16384, 16385, 65535] {
+            let mut borders = [0, 16384, 16384, 0, 0];
             borders[position] = value;
             let name = format!("window-{}-{}", ["left", "top", "right", "bottom", "last"][position], value);
             edges.push(window_edge(name, borders, triangle));
@@ -175,8 +175,8 @@ fn windows() -> Vec<Edge> {
         ("window-empty-across", [9, 31, 8, 0, 0]),
         ("window-empty-up", [0, 8, 255, 9, 0]),
         ("window-one-pixel", [9, 9, 9, 9, 0]),
-        ("window-column", [9, 8192, 9, 0, 0]),
-        ("window-row", [0, 9, 8192, 9, 0]),
+        ("window-column", [9, 16384, 9, 0, 0]),
+        ("window-row", [0, 9, 16384, 9, 0]),
         ("window-inside", [5, 20, 100, 3, 0]),
     ] {
         edges.push(window_edge(name.to_string(), borders, triangle));
@@ -424,7 +424,7 @@ fn images() -> Vec<Edge> {
         edges.push(edge(format!("img-bit-{}", place), &format!("{}{}{}", BEGIN, word(9, 1 << place), corners)));
     }
     for position in 0..4 {
-        for value in [0, 8191, 8192, 65535] {
+        for value in [0, 8192, 16383, 16384, 65535] {
             let mut corners = [3, 3, 3, 3];
             corners[position] = value;
             let parameters: String = corners.iter().map(|corner| word(0xD, *corner)).collect();

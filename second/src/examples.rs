@@ -184,23 +184,23 @@ fn line_lengths_of_the_sheet() {
 
 #[test]
 fn limits() {
-    assert_eq!(last_refusal("F0000 31FFF"), 0);
-    assert_eq!(last_refusal("F0000 32000"), 9);
-    assert_eq!(last_refusal("F0000 E0006 D2000 D2000 D2000 D2000 D0000"), 0);
-    assert_eq!(last_refusal("F0000 E0006 D2001"), 9);
-    assert_eq!(last_refusal("F0000 E0006 D2000 D2000 D2000 D2001"), 9);
-    assert_eq!(last_refusal("F0000 E0006 D2000 D2000 D2000 D2000 D0001"), 9);
-    assert_eq!(last_refusal("F0000 90000 D1FFF D1FFF D1FFF D1FFF"), 0);
-    assert_eq!(last_refusal("F0000 90000 D1FFF D1FFF D1FFF D2000"), 9);
-    let tall = Picture::cleared(256 * 8193);
+    assert_eq!(last_refusal("F0000 33FFF"), 0);
+    assert_eq!(last_refusal("F0000 34000"), 9);
+    assert_eq!(last_refusal("F0000 E0006 D4000 D4000 D4000 D4000 D0000"), 0);
+    assert_eq!(last_refusal("F0000 E0006 D4001"), 9);
+    assert_eq!(last_refusal("F0000 E0006 D4000 D4000 D4000 D4001"), 9);
+    assert_eq!(last_refusal("F0000 E0006 D4000 D4000 D4000 D4000 D0001"), 9);
+    assert_eq!(last_refusal("F0000 90000 D3FFF D3FFF D3FFF D3FFF"), 0);
+    assert_eq!(last_refusal("F0000 90000 D3FFF D3FFF D3FFF D4000"), 9);
+    let tall = Picture::cleared(256 * 16385);
     let rows = |line_length, layout| tall.rows(&Registers::initial(line_length, layout));
-    assert_eq!((rows(256, Layout::Rows), rows(512, Layout::Rows)), (8192, 4096));
-    assert_eq!((rows(256, Layout::Tiles), rows(384, Layout::Tiles)), (8192, 5460));
+    assert_eq!((rows(256, Layout::Rows), rows(512, Layout::Rows)), (16384, 8192));
+    assert_eq!((rows(256, Layout::Tiles), rows(384, Layout::Tiles)), (16384, 10920));
 }
 
 #[test]
 fn refusal_order() {
-    assert_eq!(last_refusal("F0000 42328"), 9);
+    assert_eq!(last_refusal("F0000 42328"), 10);
     assert_eq!(last_refusal("F0000 E0006 E000D"), 6);
     assert_eq!(last_refusal("F0000 E0006 E0007"), 6);
     assert_eq!(last_refusal("F0000 E0006 C0000"), 4);
@@ -365,7 +365,7 @@ fn refused_words_change_nothing() {
     for word in unpack(&packed("F0000 E0006 D0001 D0002")).unwrap() {
         registers = step(&registers, word).ok().unwrap().registers;
     }
-    for word in unpack(&packed("D2001 F0008 10000 E0002 C0000")).unwrap() {
+    for word in unpack(&packed("D4001 F0008 10000 E0002 C0000")).unwrap() {
         assert!(step(&registers, word).is_err());
     }
     for word in unpack(&packed("D0003 D0004 D0000")).unwrap() {

@@ -5,8 +5,8 @@ use crate::figures::{Figure, Numbers};
 use crate::registers::{bit, Layout, Registers, Window};
 use std::cmp::Ordering;
 
-/// The most rows that are ever in use (document 01).
-const MOST_ROWS: i64 = 8192;
+/// The most rows that are ever in use (document 02, [12]).
+const MOST_ROWS: i64 = 16384;
 /// The depth that all places start with.
 const FARTHEST: i64 = 65535;
 
@@ -42,7 +42,7 @@ impl Picture {
     }
 
     /// The whole rows that fit, in tiles those of the whole bands of four, at
-    /// most 8,192.
+    /// most 16,384.
     pub fn rows(&self, registers: &Registers) -> i64 {
         let rows = self.i.len() as i64 / registers.line_length;
         match registers.layout {

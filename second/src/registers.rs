@@ -114,7 +114,7 @@ impl Registers {
             section: 0xFFFF,
             hardware: 0,
             transparency: 0xFFFF,
-            // 0 to the largest border both ways (document 01); y rises
+            // 0 to the largest border both ways (document 02, [12]); y rises
             // upward, so top is the larger (docs/READINGS.md, "Registers").
             window: Window { left: 0, top: LARGEST_BORDER, right: LARGEST_BORDER, bottom: 0 },
             foreground: 1,

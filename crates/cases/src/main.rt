@@ -10,28 +10,30 @@ use row::passed;
 use row::row;
 use row::unlike;
 
-// Y 8191 accepted, 8192 is 9; window 8192 accepted, 8193 is 9, for the first border and for the last.
+// Y 16383 accepted, 16384 is 9; window 16384 accepted, 16385 is 9, for the first border and for the last: document 02's [12] moves document
+// 01's cases there.
 fn values() -> bool {
-    row(b"Y 8191", &[0xF0000, 0x31FFF], 0)
-        && row(b"Y 8192", &[0xF0000, 0x32000], 9)
-        && row(b"window 8192", &[0xF0000, 0xE0006, 0xD2000], 0)
-        && row(b"window 8193", &[0xF0000, 0xE0006, 0xD2001], 9)
+    row(b"Y 16383", &[0xF0000, 0x33FFF], 0)
+        && row(b"Y 16384", &[0xF0000, 0x34000], 9)
+        && row(b"window 16384", &[0xF0000, 0xE0006, 0xD4000], 0)
+        && row(b"window 16385", &[0xF0000, 0xE0006, 0xD4001], 9)
         && row(
-            b"window 8192, the last",
-            &[0xF0000, 0xE0006, 0xD0000, 0xD2000, 0xD2000, 0xD2000],
+            b"window 16384, the last",
+            &[0xF0000, 0xE0006, 0xD0000, 0xD4000, 0xD4000, 0xD4000],
             0,
         )
         && row(
-            b"window 8193, the last",
-            &[0xF0000, 0xE0006, 0xD0000, 0xD2000, 0xD2000, 0xD2001],
+            b"window 16385, the last",
+            &[0xF0000, 0xE0006, 0xD0000, 0xD4000, 0xD4000, 0xD4001],
             9,
         )
 }
 
-// X 9000 with no figure open is 9. An X or PX that the open figure does not take is 10, by the line mode of that moment; the figure stays
-// open.
+// X 9000 with no figure open is 10 (document 01 says 9), and X 16384 there is 9. An X or PX that the open figure does not take is 10, by the line
+// mode of that moment; the figure stays open.
 fn figures() -> bool {
-    row(b"X 9000 with no figure open", &[0xF0000, 0x42328], 9)
+    row(b"X 9000 with no figure open", &[0xF0000, 0x42328], 10)
+        && row(b"X 16384 with no figure open", &[0xF0000, 0x44000], 9)
         && row(b"X 0 with no figure open", &[0xF0000, 0x40000], 10)
         && row(b"PX 0 with no figure open", &[0xF0000, 0xB0000], 10)
         && row(b"X on a line in mode 1", &[0xF0000, 0x80000, 0x40000], 10)
@@ -63,7 +65,7 @@ fn awaited() -> bool {
         && row(b"command 7 there", &[0xF0000, 0xE0001, 0x70000], 4)
         && row(b"command C there", &[0xF0000, 0xE0001, 0xC0000], 4)
         && row(b"command 0 there", &[0xF0000, 0xE0001, 0x00000], 6)
-        && row(b"Y 8192 there", &[0xF0000, 0xE0001, 0x32000], 6)
+        && row(b"Y 16384 there", &[0xF0000, 0xE0001, 0x34000], 6)
         && row(b"INIT there", &[0xF0000, 0xE0001, 0xF0000], 0)
         && row(
             b"PARM after that INIT",
@@ -118,7 +120,7 @@ fn idle() -> bool {
 // Before the first accepted INIT every word but INIT is 3, save one of a command above 15.
 fn cold() -> bool {
     row(b"Y 0 before INIT", &[0x30000], 3)
-        && row(b"X 9000 before INIT", &[0x42328], 3)
+        && row(b"X 16384 before INIT", &[0x44000], 3)
         && row(b"command 7 before INIT", &[0x70000], 3)
         && row(b"AUX 13 before INIT", &[0xE000D], 3)
         && row(b"PARM 0 before INIT", &[0xD0000], 3)

@@ -104,12 +104,12 @@ fn transfers() -> bool {
         )
 }
 
-// IMG has bits 0 and 2, its corners are at most 8191, and IMODE is 0.
+// IMG has bits 0 and 2, its corners are at most 16383, and IMODE is 0.
 fn values() -> bool {
     row(b"IMG with bit 2", &[0xF0000, 0x90004], 0)
         && row(b"IMG with bit 1", &[0xF0000, 0x90002], 9)
-        && row(b"IMG's corner 8191", &[0xF0000, 0x90000, 0xD1FFF], 0)
-        && row(b"IMG's corner 8192", &[0xF0000, 0x90000, 0xD2000], 9)
+        && row(b"IMG's corner 16383", &[0xF0000, 0x90000, 0xD3FFF], 0)
+        && row(b"IMG's corner 16384", &[0xF0000, 0x90000, 0xD4000], 9)
         && row(b"IMODE 0", &[0xF0000, 0xE0002, 0xD0000], 0)
         && row(b"IMODE 1", &[0xF0000, 0xE0002, 0xD0001], 9)
 }

@@ -1,4 +1,4 @@
--- Where pixels lie in the lent memories (document 01, "What the card models"; requests [8] and [9]).
+-- Where pixels lie in the lent memories (document 01, "What the card models"; requests [8], [9] and [12]).
 use Prim.Native.Nat.{ℕ, _+_, _-_, _*_, _/_, _%_, min}
 use mathlib.Core.Bool.{Bool, true, false, cond, not, _&&_, _||_}
 use lib.Dec.{ltb, eqb}

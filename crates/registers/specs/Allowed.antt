@@ -1,5 +1,5 @@
--- What is allowed of a word's data, and which vertices fit the open figure (document 01, "Registers" and "Figures"; document 02, [1]
--- and [7]; numbers 9 and 10).
+-- What is allowed of a word's data, and which vertices fit the open figure (document 01, "Registers" and "Figures"; document 02, [1],
+-- [7] and [12]; numbers 9 and 10).
 use Prim.Native.Nat.{ℕ, _-_}
 use mathlib.Core.Bool.{Bool, true, false, cond, not, _&&_}
 use lib.Dec.{leb, ltb, eqb}

@@ -1,5 +1,5 @@
 -- Parts of the register record, the record with one part replaced, and what INIT and reset set (document 01, "Registers";
--- document 02, [1], [2] and [7]).
+-- document 02, [1], [2], [7] and [12]).
 use Prim.Native.Nat.{ℕ}
 use mathlib.Core.Bool.{Bool, not}
 use mathlib.Core.List.{[], _∷_}

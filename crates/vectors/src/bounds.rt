@@ -50,24 +50,24 @@ fn modes() {
 // The window's borders.
 fn window() {
     let mut a = ready();
-    a.window.left = 8193;
-    broken(b"bounds, left 8193", a);
+    a.window.left = 16385;
+    broken(b"bounds, left 16385", a);
     let mut b = ready();
-    b.window.top = 8193;
-    broken(b"bounds, top 8193", b);
+    b.window.top = 16385;
+    broken(b"bounds, top 16385", b);
     let mut c = ready();
-    c.window.right = 8193;
-    broken(b"bounds, right 8193", c);
+    c.window.right = 16385;
+    broken(b"bounds, right 16385", c);
     let mut d = ready();
-    d.window.bottom = 8193;
-    broken(b"bounds, bottom 8193", d);
+    d.window.bottom = 16385;
+    broken(b"bounds, bottom 16385", d);
 }
 
 // The Y register, and the open figure.
 fn figure() {
     let mut a = ready();
-    a.latch.y = 8192;
-    broken(b"bounds, Y 8192", a);
+    a.latch.y = 16384;
+    broken(b"bounds, Y 16384", a);
     let mut b = ready();
     b.figure.shape = 4;
     broken(b"bounds, shape 4", b);
@@ -75,17 +75,17 @@ fn figure() {
     c.figure.pair = 2;
     broken(b"bounds, pair 2", c);
     let mut d = ready();
-    d.figure.first.x = 8192;
-    broken(b"bounds, first x 8192", d);
+    d.figure.first.x = 16384;
+    broken(b"bounds, first x 16384", d);
     let mut e = ready();
-    e.figure.first.y = 8192;
-    broken(b"bounds, first y 8192", e);
+    e.figure.first.y = 16384;
+    broken(b"bounds, first y 16384", e);
     let mut f = ready();
-    f.figure.second.x = 8192;
-    broken(b"bounds, second x 8192", f);
+    f.figure.second.x = 16384;
+    broken(b"bounds, second x 16384", f);
     let mut g = ready();
-    g.figure.second.y = 8192;
-    broken(b"bounds, second y 8192", g);
+    g.figure.second.y = 16384;
+    broken(b"bounds, second y 16384", g);
     let mut h = ready();
     h.figure.steps = 32;
     broken(b"bounds, steps 32", h);
@@ -100,20 +100,20 @@ fn region() {
     a.region.way = 3;
     broken(b"bounds, region's way 3", a);
     let mut b = ready();
-    b.region.x0 = 8192;
-    broken(b"bounds, region's x0 8192", b);
+    b.region.x0 = 16384;
+    broken(b"bounds, region's x0 16384", b);
     let mut c = ready();
-    c.region.x1 = 8192;
-    broken(b"bounds, region's x1 8192", c);
+    c.region.x1 = 16384;
+    broken(b"bounds, region's x1 16384", c);
     let mut d = ready();
-    d.region.y1 = 8192;
-    broken(b"bounds, region's y1 8192", d);
+    d.region.y1 = 16384;
+    broken(b"bounds, region's y1 16384", d);
     let mut e = ready();
-    e.region.x = 8192;
-    broken(b"bounds, region's x 8192", e);
+    e.region.x = 16384;
+    broken(b"bounds, region's x 16384", e);
     let mut f = ready();
-    f.region.y = 8192;
-    broken(b"bounds, region's y 8192", f);
+    f.region.y = 16384;
+    broken(b"bounds, region's y 16384", f);
 }
 
 // What is awaited: numbers that take no parameters, and as many come as they take.
@@ -156,13 +156,13 @@ pub(crate) fn rows() {
     window();
     figure();
     parked();
-    values(b"bounds, parked left 8193", 6, [8193, 0, 0, 0, 0]);
-    values(b"bounds, parked top 8193", 6, [0, 8193, 0, 0, 0]);
-    values(b"bounds, parked right 8193", 6, [0, 0, 8193, 0, 0]);
-    values(b"bounds, parked bottom 8193", 6, [0, 0, 0, 8193, 0]);
-    values(b"bounds, parked x0 8192", 14, [8192, 0, 0, 0, 0]);
-    values(b"bounds, parked y0 8192", 15, [0, 8192, 0, 0, 0]);
-    values(b"bounds, parked x1 8192", 14, [0, 0, 8192, 0, 0]);
-    values(b"bounds, parked y1 8192", 15, [0, 0, 0, 8192, 0]);
+    values(b"bounds, parked left 16385", 6, [16385, 0, 0, 0, 0]);
+    values(b"bounds, parked top 16385", 6, [0, 16385, 0, 0, 0]);
+    values(b"bounds, parked right 16385", 6, [0, 0, 16385, 0, 0]);
+    values(b"bounds, parked bottom 16385", 6, [0, 0, 0, 16385, 0]);
+    values(b"bounds, parked x0 16384", 14, [16384, 0, 0, 0, 0]);
+    values(b"bounds, parked y0 16384", 15, [0, 16384, 0, 0, 0]);
+    values(b"bounds, parked x1 16384", 14, [0, 0, 16384, 0, 0]);
+    values(b"bounds, parked y1 16384", 15, [0, 0, 0, 16384, 0]);
     region();
 }

@@ -1,0 +1,244 @@
+-- No record that reset and words left on the former card lay beyond the former limits: INIT and reset set what is within them, and any other word
+-- replaced a part by numbers that were. Assumes nothing.
+use mathlib.Core.Path.{_≡_, refl}
+use mathlib.Core.Bool.{Bool, true}
+use mathlib.Core.List.{List, [], _∷_}
+use Prim.Native.Nat.{ℕ, _+_, _-_, _≤_}
+use native.Mathlib.Omega.{arith}
+use lib.Dec.{ltb, eqb}
+use lib.ListN.{set}
+use borrow.Author.Tests.{ltb-true, le-leb, leb-true}
+use Rattle.picture.specs.declared.Frame.{Frame}
+use Rattle.picture.specs.declared.Vertex.{Vertex}
+use Rattle.registers.specs.declared.Modes.{Modes}
+use Rattle.registers.specs.declared.Window.{Window}
+use Rattle.registers.specs.declared.Dash.{Dash}
+use Rattle.registers.specs.declared.Latch.{Latch}
+use Rattle.registers.specs.declared.Figure.{Figure}
+use Rattle.registers.specs.declared.Parked.{Parked}
+use Rattle.registers.specs.declared.Region.{Region}
+use Rattle.registers.specs.declared.Registers.{Registers}
+use Rattle.registers.specs.declared.word.Word.{Word}
+use Rattle.registers.specs.declared.word.Word.the-variants.{Init, Aux, Parm, At, Img, Ptrn, Reserved, Unmodelled, Unknown}
+use Rattle.registers.specs.declared.word.Coordinate.{Coordinate}
+use Rattle.registers.specs.declared.word.Coordinate.the-variants.{I, Z, Y, X, T1x, T2x, Lx, Px}
+use Rattle.registers.specs.declared.subcommand.Subcommand.{Subcommand}
+use Rattle.registers.specs.declared.subcommand.Subcommand.the-variants.{Nothing, Pmode, Lmode, Zcontrol, Hcontrol, Tpattern, Window as Win, Section, Color, Lpattern, Mask, Lstatus, Imode, Load, Save}
+use Rattle.registers.specs.declared.shape.Shape.{Shape}
+use Rattle.registers.specs.declared.shape.Shape.the-variants.{Closed, Strip, Fan, Line}
+use Rattle.registers.specs.Record.{noVertex, nothingAwaited, regionOf, settings, resetOf, window, withModes, withWindow, withDash, withLatch, withFigure, withParked, withRegion}
+use Rattle.registers.specs.Region.{toward, moved, nextPixel}
+use Rattle.registers.specs.Subcommand.{subcommandOf, wants}
+use Rattle.registers.specs.Figure.{shapeOf, vertexOf, isPair, grownOf}
+use Rattle.registers.specs.Next.{value, awaited, effectOf, parmOf, coordinateOf, transferredOf, after}
+use Rattle.registers.proofs.Truth.{and-both, All, chain-all, all-chain, chosen}
+use Rattle.registers.proofs.Kept.{set-keeps}
+use Rattle.former.specs.Former.{formerCoordinate, formerWindow, wasCoordinate, wasValue, wasNumber, wasWord, wasWindow, wasVertex, wasValues, wasRegion, wasRecord, wasAfter}
+
+-- ---- a record, part by part
+
+pub record Inside (r : Registers) : Type 0 where
+  pub window : wasWindow (r .window) ≡ true
+  pub y : wasCoordinate (r .latch .y) ≡ true
+  pub first : wasVertex (r .figure .first) ≡ true
+  pub second : wasVertex (r .figure .second) ≡ true
+  pub values : wasValues (awaited r) (r .parked .values) ≡ true
+  pub region : wasRegion (r .region) ≡ true
+
+module _ (r : Registers) where
+  abbrev tests : List Bool
+  tests = wasCoordinate (r .latch .y) ∷ wasVertex (r .figure .first) ∷ wasVertex (r .figure .second) ∷ wasValues (awaited r) (r .parked .values) ∷ wasRegion (r .region) ∷ []
+
+  pub inside-parts : wasRecord r ≡ true → Inside r
+  unfolding wasRecord
+  inside-parts e =
+      let q = chain-all (wasWindow (r .window)) tests e in
+      record { window = q .0; y = q .1 .0; first = q .1 .1 .0; second = q .1 .1 .1 .0; values = q .1 .1 .1 .1 .0; region = q .1 .1 .1 .1 .1 .0 }
+
+  pub inside-whole : Inside r → wasRecord r ≡ true
+  unfolding wasRecord
+  inside-whole s = all-chain (wasWindow (r .window)) tests (s .window, (s .y, (s .first, (s .second, (s .values, (s .region, tt))))))
+
+-- a part is replaced
+module _ {r : Registers} (s : Inside r) where
+  in-modes : (m : Modes) → Inside (withModes r m)
+  in-modes m = record { window = s .window; y = s .y; first = s .first; second = s .second; values = s .values; region = s .region }
+
+  in-window : (w : Window) → wasWindow w ≡ true → Inside (withWindow r w)
+  in-window w h = record { window = h; y = s .y; first = s .first; second = s .second; values = s .values; region = s .region }
+
+  in-dash : (d : Dash) → Inside (withDash r d)
+  in-dash d = record { window = s .window; y = s .y; first = s .first; second = s .second; values = s .values; region = s .region }
+
+  in-latch : (l : Latch) → wasCoordinate (l .y) ≡ true → Inside (withLatch r l)
+  in-latch l h = record { window = s .window; y = h; first = s .first; second = s .second; values = s .values; region = s .region }
+
+  in-figure : (f : Figure) → (wasVertex (f .first) ≡ true) × (wasVertex (f .second) ≡ true) → Inside (withFigure r f)
+  in-figure f h = record { window = s .window; y = s .y; first = h .0; second = h .1; values = s .values; region = s .region }
+
+  in-parked : (p : Parked) → wasValues (subcommandOf (p .subcommand)) (p .values) ≡ true → Inside (withParked r p)
+  in-parked p h = record { window = s .window; y = s .y; first = s .first; second = s .second; values = h; region = s .region }
+
+  in-region : (g : Region) → wasRegion g ≡ true → Inside (withRegion r g)
+  in-region g h = record { window = s .window; y = s .y; first = s .first; second = s .second; values = s .values; region = h }
+
+-- ---- parameters
+
+zero-was : (s : Subcommand) → wasValue s 0 ≡ true
+zero-was Nothing = refl
+zero-was Pmode = refl
+zero-was Lmode = refl
+zero-was Zcontrol = refl
+zero-was Hcontrol = refl
+zero-was Tpattern = refl
+zero-was Win = refl
+zero-was Section = refl
+zero-was Color = refl
+zero-was Lpattern = refl
+zero-was Mask = refl
+zero-was Lstatus = refl
+zero-was Imode = refl
+zero-was Load = refl
+zero-was Save = refl
+
+-- the four values, one by one
+abbrev others : Subcommand → List ℕ → List Bool
+others s l = wasValue s (value l 1) ∷ wasValue s (value l 2) ∷ wasValue s (value l 3) ∷ []
+
+each-was : (s : Subcommand) (l : List ℕ) → wasValues s l ≡ true → All (wasValue s (value l 0) ∷ others s l)
+unfolding wasValues
+each-was s l = chain-all (wasValue s (value l 0)) (others s l)
+
+all-was : (s : Subcommand) (l : List ℕ) → All (wasValue s (value l 0) ∷ others s l) → wasValues s l ≡ true
+unfolding wasValues
+all-was s l = all-chain (wasValue s (value l 0)) (others s l)
+
+zeros-were : (s : Subcommand) → wasValues s (0 ∷ 0 ∷ 0 ∷ 0 ∷ 0 ∷ []) ≡ true
+zeros-were s = let z = zero-was s in all-was s _ (z, (z, (z, (z, tt))))
+
+values-set : (s : Subcommand) (l : List ℕ) (k v : ℕ) → wasValue s v ≡ true → wasValues s l ≡ true → wasValues s (set l k v) ≡ true
+values-set s l k v a e =
+    let q = each-was s l e in
+    let keep : (n : ℕ) → wasValue s (value l n) ≡ true → wasValue s (value (set l k v) n) ≡ true = λ n p. set-keeps (wasValue s) l k v n a p in
+    all-was s (set l k v) (keep 0 (q .0), (keep 1 (q .1 .0), (keep 2 (q .1 .1 .0), (keep 3 (q .1 .1 .1 .0), tt))))
+
+borders-were : (l : List ℕ) → wasValues Win l ≡ true → wasWindow (window (value l 0) (value l 1) (value l 2) (value l 3)) ≡ true
+unfolding wasValues wasWindow
+borders-were l f = f
+
+corners-were : (way x0 y0 x1 y1 : ℕ) → All (wasCoordinate x0 ∷ wasCoordinate y0 ∷ wasCoordinate x1 ∷ wasCoordinate y1 ∷ []) → wasRegion (regionOf way x0 y0 x1 y1) ≡ true
+unfolding wasRegion
+corners-were way x0 y0 x1 y1 q =
+    all-chain (wasCoordinate x0) (wasCoordinate x1 ∷ wasCoordinate y1 ∷ wasCoordinate x0 ∷ wasCoordinate y0 ∷ [])
+    (q .0, (q .1 .1 .0, (q .1 .1 .1 .0, (q .0, (q .1 .0, tt)))))
+
+effect-in : (r : Registers) (s : Subcommand) (l : List ℕ) → Inside r → wasValues s l ≡ true → Inside (effectOf r s l)
+unfolding effectOf
+effect-in r Nothing l h f = h
+effect-in r Pmode l h f = in-modes h _
+effect-in r Lmode l h f = in-modes h _
+effect-in r Zcontrol l h f = in-modes h _
+effect-in r Hcontrol l h f = in-modes h _
+effect-in r Tpattern l h f = in-modes h _
+effect-in r Win l h f = in-window h _ (borders-were l f)
+effect-in r Section l h f = in-modes h _
+effect-in r Color l h f = in-dash h _
+effect-in r Lpattern l h f = in-dash h _
+effect-in r Mask l h f = in-modes h _
+effect-in r Lstatus l h f = in-modes h _
+effect-in r Imode l h f = h
+effect-in r Load l h f = in-region h _ (corners-were 1 _ _ _ _ (each-was Load l f))
+effect-in r Save l h f = in-region h _ (corners-were 2 _ _ _ _ (each-was Save l f))
+
+parm-in : (r : Registers) (v : ℕ) → Inside r → wasValue (awaited r) v ≡ true → Inside (parmOf r v)
+unfolding parmOf
+parm-in r v s a =
+    let q = values-set (awaited r) (r .parked .values) (r .parked .came) v a (s .values) in
+    chosen Inside (ltb (r .parked .came + 1) (wants (awaited r))) _ _ (λ t. in-parked s _ q) (λ t. in-parked (effect-in r (awaited r) _ s q) nothingAwaited (zeros-were _))
+
+-- ---- coordinates
+
+no-vertex : wasVertex noVertex ≡ true
+unfolding wasVertex
+no-vertex = refl
+
+module _ (r : Registers) (s : Inside r) where
+  vertex-was : (x : ℕ) → wasCoordinate x ≡ true → wasVertex (vertexOf r x) ≡ true
+  unfolding wasVertex
+  vertex-was x h = and-both h (s .y)
+
+  abbrev Both : Figure → Type 0
+  Both f = (wasVertex (f .first) ≡ true) × (wasVertex (f .second) ≡ true)
+
+  grown-was : (shape : Shape) (end dashed : Bool) (v : Vertex) → wasVertex v ≡ true → Both (grownOf shape end dashed (r .figure) v)
+  unfolding grownOf
+  grown-was Closed end dashed v k = (s .first, s .second)
+  grown-was Strip end dashed v k = chosen Both (isPair (r .figure)) _ _ (λ t. (s .second, k)) (λ t. (s .first, k))
+  grown-was Fan end dashed v k = (s .first, k)
+  grown-was Line end dashed v k = chosen Both end _ _ (λ t. (no-vertex, no-vertex)) (λ t. (k, no-vertex))
+
+  coordinate-in : (c : Coordinate) (n : ℕ) → wasNumber c n ≡ true → Inside (coordinateOf r c n)
+  unfolding coordinateOf
+  coordinate-in I n h = in-latch s _ (s .y)
+  coordinate-in Z n h = in-latch s _ (s .y)
+  coordinate-in Y n h = in-latch s _ h
+  coordinate-in X n h = in-figure s _ (grown-was (shapeOf (r .figure .shape)) _ _ (vertexOf r n) (vertex-was n h))
+  coordinate-in T1x n h = in-figure s _ (vertex-was n h, no-vertex)
+  coordinate-in T2x n h = in-figure s _ (vertex-was n h, no-vertex)
+  coordinate-in Lx n h = in-figure (in-modes s _) _ (vertex-was n h, no-vertex)
+  coordinate-in Px n h = in-figure s _ (grown-was (shapeOf (r .figure .shape)) _ _ (vertexOf r n) (vertex-was n h))
+
+-- ---- regions
+
+toward-was : (a b : ℕ) → wasCoordinate a ≡ true → wasCoordinate b ≡ true → wasCoordinate (toward a b) ≡ true
+unfolding toward
+toward-was a b h k =
+    let p : a ≤ formerCoordinate = leb-true a formerCoordinate h in
+    let q : b ≤ formerCoordinate = leb-true b formerCoordinate k in
+    chosen (λ (n : ℕ). wasCoordinate n ≡ true) (ltb a b) (a + 1) (a - 1)
+    (λ t. let l : a + 1 ≤ formerCoordinate = omega (arith, ltb-true a b t, q) in le-leb _ _ l) (λ t. let l : a - 1 ≤ formerCoordinate = omega (arith, p) in le-leb _ _ l)
+
+abbrev region-tests : Region → List Bool
+region-tests g = wasCoordinate (g .x1) ∷ wasCoordinate (g .y1) ∷ wasCoordinate (g .x) ∷ wasCoordinate (g .y) ∷ []
+
+pub region-each : (g : Region) → wasRegion g ≡ true → All (wasCoordinate (g .x0) ∷ region-tests g)
+unfolding wasRegion
+region-each g = chain-all (wasCoordinate (g .x0)) (region-tests g)
+
+pixel-was : (g : Region) → wasRegion g ≡ true → wasRegion (nextPixel g) ≡ true
+unfolding wasRegion nextPixel
+pixel-was g h =
+    let q = region-each g h in
+    let away : (x y : ℕ) → wasCoordinate x ≡ true → wasCoordinate y ≡ true → wasRegion (moved g x y) ≡ true = λ x y k l.
+    all-chain (wasCoordinate (g .x0)) (region-tests (moved g x y)) (q .0, (q .1 .0, (q .1 .1 .0, (k, (l, tt))))) in
+    chosen (λ (k : Region). wasRegion k ≡ true) (eqb (g .x) (g .x1)) _ _
+    (λ t. chosen (λ (k : Region). wasRegion k ≡ true) (eqb (g .y) (g .y1)) _ _ (λ u. refl)
+    (λ u. away (g .x0) (toward (g .y) (g .y1)) (q .0) (toward-was (g .y) (g .y1) (q .1 .1 .1 .1 .0) (q .1 .1 .0))))
+    (λ t. away (toward (g .x) (g .x1)) (g .y) (toward-was (g .x) (g .x1) (q .1 .1 .1 .0) (q .1 .0)) (q .1 .1 .1 .1 .0))
+
+-- a read, or PTRN, moves the region on
+pub transferred-in : (r : Registers) → Inside r → Inside (transferredOf r)
+transferred-in r s = in-region s _ (pixel-was (r .region) (s .region))
+
+-- ---- words
+
+-- what INIT and reset set, with the former window
+first-in : (started : ℕ) (frame : Frame) → Inside (withWindow (settings started frame) formerWindow)
+unfolding settings wasWindow wasVertex wasValues wasRegion subcommandOf
+first-in started frame = record { window = refl; y = refl; first = refl; second = refl; values = refl; region = refl }
+
+pub reset-in : Inside (withWindow resetOf formerWindow)
+reset-in = first-in 0 _
+
+-- the record after a word within the former limits lies within them, if the one before it did
+pub after-in : (r : Registers) (w : Word) → Inside r → wasWord r w ≡ true → Inside (wasAfter r w)
+unfolding wasAfter after
+after-in r (Init d) s h = first-in 1 _
+after-in r (Aux n) s h = in-parked s _ (zeros-were _)
+after-in r (Parm v) s h = parm-in r v s h
+after-in r (At c n) s h = coordinate-in r s c n h
+after-in r (Img d) s h = in-parked s _ (zeros-were _)
+after-in r (Ptrn v) s h = transferred-in r s
+after-in r Reserved s h = s
+after-in r Unmodelled s h = s
+after-in r Unknown s h = s

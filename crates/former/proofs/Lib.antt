@@ -1,0 +1,5 @@
+pub mod Words
+pub mod Drawing
+pub mod Kept
+pub mod Document
+pub mod Request

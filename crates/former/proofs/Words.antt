@@ -1,0 +1,178 @@
+-- What the former card accepted, today's accepts, whichever of the two windows stands; and the two records go on alike. Assumes nothing.
+use mathlib.Core.Path.{_≡_, refl, ap, _∙_}
+use mathlib.Core.Bool.{Bool, true, false, cond, not}
+use mathlib.Core.List.{List}
+use Prim.Native.Nat.{ℕ, _+_}
+use lib.Dec.{ltb}
+use borrow.Author.Tests.{not-false}
+use Rattle.registers.specs.declared.Window.{Window}
+use Rattle.registers.specs.declared.Parked.{Parked}
+use Rattle.registers.specs.declared.Registers.{Registers}
+use Rattle.registers.specs.declared.word.Word.{Word}
+use Rattle.registers.specs.declared.word.Word.the-variants.{Init, Aux, Parm, At, Img, Ptrn, Reserved, Unmodelled, Unknown}
+use Rattle.registers.specs.declared.word.Coordinate.{Coordinate}
+use Rattle.registers.specs.declared.word.Coordinate.the-variants.{I, Z, Y, X, T1x, T2x, Lx, Px}
+use Rattle.registers.specs.declared.subcommand.Subcommand.{Subcommand}
+use Rattle.registers.specs.declared.subcommand.Subcommand.the-variants.{Nothing, Pmode, Lmode, Zcontrol, Hcontrol, Tpattern, Window as Win, Section, Color, Lpattern, Mask, Lstatus, Imode, Load, Save}
+use Rattle.registers.specs.Record.{nothingAwaited, settings, withWindow, withParked}
+use Rattle.registers.specs.Subcommand.{wants}
+use Rattle.registers.specs.Next.{awaited, joinedOf, counted, effectOf, parmOf, coordinateOf, after}
+use Rattle.registers.specs.Allowed.{allowed, fits}
+use Rattle.registers.specs.Bounds.{windowFits}
+use Rattle.registers.specs.Refusal.{tableOf, table, isUnfit, refusalOf, readTable, readRefusalOf}
+use Rattle.registers.proofs.Truth.{neither}
+use Rattle.registers.proofs.Refusals.{accepted-when, read-when, lowest-none}
+use Rattle.registers.proofs.Kept.{Sound, parts, whole}
+use Rattle.former.specs.Former.{wasWord, wasRecord, wasUnfit, wasBarred, wasRefused, wasAfter, wasReadRefused}
+use Rattle.former.specs.Request.{Widened, kept, first, Alike}
+
+-- ---- what was accepted
+
+-- today's card accepts it, and word and record lie within the former limits
+pub record Taken (ni nz : ℕ) (r : Registers) (w : Word) : Type 0 where
+  pub now : refusalOf ni nz r w ≡ 0
+  pub bounds : wasRecord r ≡ true
+  pub word : wasWord r w ≡ true
+
+-- no row of the former table applied, so none of today's does
+pub was-taken : (ni nz : ℕ) (r : Registers) (w : Word) → wasRefused ni nz r w ≡ 0 → Taken ni nz r w
+unfolding wasRefused refusalOf
+was-taken ni nz r w e =
+    let q = lowest-none 0 (tableOf (wasUnfit ni nz r) (wasBarred r w) r w) .0 e in
+    let fit = neither (isUnfit ni nz r) (not (wasRecord r)) (q .1 .0) in
+    let rest = q .1 .1 .1 .1 .1 .1 in
+    let valued = neither (not (allowed r w)) (not (wasWord r w)) (rest .1 .1 .0) in
+    record {
+      now =
+          lowest-none 0 (table (isUnfit ni nz r) r w) .1
+          (q .0, (fit .0, (q .1 .1 .0, (q .1 .1 .1 .0, (q .1 .1 .1 .1 .0, (q .1 .1 .1 .1 .1 .0, (rest .0, (rest .1 .0, (valued .0, rest .1 .1 .1)))))))));
+      bounds = not-false _ (fit .1);
+      word = not-false _ (valued .1);
+    }
+
+-- ---- whichever window stands
+
+module _ (r : Registers) (v : Window) where
+  allowed-same : (w : Word) → allowed (withWindow r v) w ≡ allowed r w
+  allowed-same (Init d) = refl
+  allowed-same (Aux n) = refl
+  allowed-same (Parm n) = refl
+  allowed-same (At c n) = refl
+  allowed-same (Img d) = refl
+  allowed-same (Ptrn n) = refl
+  allowed-same Reserved = refl
+  allowed-same Unmodelled = refl
+  allowed-same Unknown = refl
+
+  fits-same : (w : Word) → fits (withWindow r v) w ≡ fits r w
+  fits-same (Init d) = refl
+  fits-same (Aux n) = refl
+  fits-same (Parm n) = refl
+  fits-same (At c n) = refl
+  fits-same (Img d) = refl
+  fits-same (Ptrn n) = refl
+  fits-same Reserved = refl
+  fits-same Unmodelled = refl
+  fits-same Unknown = refl
+
+  pub sound-same : windowFits v ≡ true → Sound r → Sound (withWindow r v)
+  sound-same h s = record { started = s .started; frame = s .frame; modes = s .modes; window = h; y = s .y; figure = s .figure; parked = s .parked; region = s .region }
+
+-- today's window of a record that breaks no bound breaks none
+window-fits : (w v : Window) → Widened w v → windowFits w ≡ true → windowFits v ≡ true
+unfolding windowFits
+window-fits w v (kept e) h = ap windowFits e ∙ h
+window-fits w v (first e f) h = ap windowFits f
+
+-- a word that is accepted is so with today's window
+pub wider-taken : (ni nz : ℕ) (r : Registers) (v : Window) (w : Word) → Widened (r .window) v → refusalOf ni nz r w ≡ 0 → refusalOf ni nz (withWindow r v) w ≡ 0
+wider-taken ni nz r v w h e =
+    let a = accepted-when ni nz r w .0 e in
+    let s = parts r (a .sound) in
+    accepted-when ni nz (withWindow r v) w .1
+    (record {
+      known = a .known;
+      same = a .same;
+      sound = whole (withWindow r v) (sound-same r v (window-fits (r .window) v h (s .window)) s);
+      begun = a .begun;
+      assigned = a .assigned;
+      modelled = a .modelled;
+      expected = a .expected;
+      wanted = a .wanted;
+      listed = a .listed;
+      valued = allowed-same r v w ∙ a .valued;
+      fitting = fits-same r v w ∙ a .fitting;
+      placed = a .placed;
+    })
+
+-- ---- the read call
+
+-- a read that was accepted is accepted with today's window, and the record lies within the former limits
+pub read-taken : (ni nz : ℕ) (r : Registers) (v : Window) → Widened (r .window) v → wasReadRefused ni nz r ≡ 0
+    → (readRefusalOf ni nz (withWindow r v) ≡ 0) × (wasRecord r ≡ true)
+unfolding wasReadRefused readRefusalOf
+read-taken ni nz r v h e =
+    let q = lowest-none 1 (readTable (wasUnfit ni nz r) r) .0 e in
+    let fit = neither (isUnfit ni nz r) (not (wasRecord r)) (q .0) in
+    let a = read-when ni nz r .0 (lowest-none 1 (readTable (isUnfit ni nz r) r) .1 (fit .0, q .1)) in
+    let s = parts r (a .sound) in
+    let sound = whole (withWindow r v) (sound-same r v (window-fits (r .window) v h (s .window)) s) in
+    (read-when ni nz (withWindow r v) .1 (record { same = a .same; sound = sound; begun = a .begun; idle = a .idle; outward = a .outward }), not-false _ (fit .1))
+
+-- ---- the record after a word
+
+module _ (r : Registers) (v : Window) (h : Widened (r .window) v) where
+  effect-alike : (s : Subcommand) (p : List ℕ) → Alike (withParked (effectOf r s p) nothingAwaited) (withParked (effectOf (withWindow r v) s p) nothingAwaited)
+  unfolding effectOf
+  effect-alike Nothing p = record { window = h; rest = refl }
+  effect-alike Pmode p = record { window = h; rest = refl }
+  effect-alike Lmode p = record { window = h; rest = refl }
+  effect-alike Zcontrol p = record { window = h; rest = refl }
+  effect-alike Hcontrol p = record { window = h; rest = refl }
+  effect-alike Tpattern p = record { window = h; rest = refl }
+  effect-alike Win p = record { window = kept refl; rest = refl }
+  effect-alike Section p = record { window = h; rest = refl }
+  effect-alike Color p = record { window = h; rest = refl }
+  effect-alike Lpattern p = record { window = h; rest = refl }
+  effect-alike Mask p = record { window = h; rest = refl }
+  effect-alike Lstatus p = record { window = h; rest = refl }
+  effect-alike Imode p = record { window = h; rest = refl }
+  effect-alike Load p = record { window = h; rest = refl }
+  effect-alike Save p = record { window = h; rest = refl }
+
+  parm-alike : (n : ℕ) → Alike (parmOf r n) (parmOf (withWindow r v) n)
+  unfolding parmOf
+  parm-alike n = go (ltb (r .parked .came + 1) (wants (awaited r)))
+    where
+      p : Parked
+      p = joinedOf (r .parked) n
+
+      go : (t : Bool)
+          → Alike (cond t (withParked r (counted p)) (withParked (effectOf r (awaited r) (p .values)) nothingAwaited))
+          (cond t (withParked (withWindow r v) (counted p)) (withParked (effectOf (withWindow r v) (awaited r) (p .values)) nothingAwaited))
+      go true = record { window = h; rest = refl }
+      go false = effect-alike (awaited r) (p .values)
+
+  coordinate-alike : (c : Coordinate) (n : ℕ) → Alike (coordinateOf r c n) (coordinateOf (withWindow r v) c n)
+  unfolding coordinateOf
+  coordinate-alike I n = record { window = h; rest = refl }
+  coordinate-alike Z n = record { window = h; rest = refl }
+  coordinate-alike Y n = record { window = h; rest = refl }
+  coordinate-alike X n = record { window = h; rest = refl }
+  coordinate-alike T1x n = record { window = h; rest = refl }
+  coordinate-alike T2x n = record { window = h; rest = refl }
+  coordinate-alike Lx n = record { window = h; rest = refl }
+  coordinate-alike Px n = record { window = h; rest = refl }
+
+  -- the two records go on alike
+  pub after-alike : (w : Word) → Alike (wasAfter r w) (after (withWindow r v) w)
+  unfolding wasAfter after settings
+  after-alike (Init d) = record { window = first refl refl; rest = refl }
+  after-alike (Aux n) = record { window = h; rest = refl }
+  after-alike (Parm n) = parm-alike n
+  after-alike (At c n) = coordinate-alike c n
+  after-alike (Img d) = record { window = h; rest = refl }
+  after-alike (Ptrn n) = record { window = h; rest = refl }
+  after-alike Reserved = record { window = h; rest = refl }
+  after-alike Unmodelled = record { window = h; rest = refl }
+  after-alike Unknown = record { window = h; rest = refl }
