@@ -1,0 +1,5 @@
+pub mod Laid
+pub mod Bank
+pub mod Door
+pub mod Board
+pub mod Calls
