@@ -1,0 +1,4 @@
+pub mod Sent
+pub mod Parts
+pub mod Taken
+pub mod Turns

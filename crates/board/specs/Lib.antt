@@ -1,4 +1,3 @@
-pub mod Laid
 pub mod Bank
 pub mod Door
 pub mod Board

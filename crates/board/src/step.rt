@@ -1,5 +1,6 @@
 // One word.
 ghost use mathlib.Core.Path.{_≡_};
+ghost use Prim.Native.Nat.{_<_};
 ghost use lib.Dec.{ltb};
 ghost use mathlib.Core.Bool.{cond};
 ghost use Rattle.registers.specs.Word.{decode};
@@ -10,9 +11,8 @@ use crate::Board;
 use crate::door::command_of;
 use crate::door::data_of;
 use crate::is_board;
-use crate::unit::in_layout;
 use crate::unit::is_even;
-use crate::unit::unit_step;
+use crate::unit::part_of;
 
 // The answer to a word: the number that refuses it, 0 for accepted; how many pixels passed in all units; and the next board.
 #[repr(C)]
@@ -62,19 +62,20 @@ fn units_step(
     i3: &mut [u16],
     z3: &mut [u16],
 ) -> Reply
+    requires { ⌜ board .units < 5 ⌝ }
     ensures { λ a. ⌜ outcome (a .refusal) (a .passed) (a .board) (lent (now (i0 .exit)) (now (z0 .exit)) (now (i1 .exit)) (now (z1 .exit)) (now (i2 .exit)) (now (z2 .exit)) (now (i3 .exit)) (now (z3 .exit))) ≡ unitsStep board (decode command «data») (lent (now (i0 .entry)) (now (z0 .entry)) (now (i1 .entry)) (now (z1 .entry)) (now (i2 .entry)) (now (z2 .entry)) (now (i3 .entry)) (now (z3 .entry))) ⌝ }
 {
     let units = board.units;
     let r = board.registers;
-    let a = unit_step(units, 0, r, command, data, i0, z0);
+    let a = part_of(units, 0, r, command, data, i0, z0);
     if a.refusal != 0 {
         return refused(a.refusal, board);
     }
-    let b = unit_step(units, 1, r, command, data, i1, z1);
-    let c = unit_step(units, 2, r, command, data, i2, z2);
-    let d = unit_step(units, 3, r, command, data, i3, z3);
+    let b = part_of(units, 1, r, command, data, i1, z1);
+    let c = part_of(units, 2, r, command, data, i2, z2);
+    let d = part_of(units, 3, r, command, data, i3, z3);
     let last = a.registers;
-    let next = in_layout(last, 0);
+    let next = last.in_layout(0);
     Reply {
         refusal: 0,
         passed: a.passed + b.passed + c.passed + d.passed,

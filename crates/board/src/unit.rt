@@ -1,17 +1,14 @@
 // A board's units: what their memories must be, and what one of them does with a word.
 ghost use mathlib.Core.Path.{_≡_};
-ghost use mathlib.Core.Bool.{_&&_, _||_};
-ghost use Prim.Native.Nat.{_<_, _≤_, _^_};
-ghost use lib.Dec.{eqb, leb};
+ghost use Prim.Native.Nat.{_<_};
 ghost use Rattle.registers.specs.Word.{decode};
 ghost use Rattle.machine.specs.Run.{outcome};
 ghost use Rattle.machine.specs.Machine.{memories};
 ghost use Rattle.board.specs.Bank.{unitEven, evenLengths};
-ghost use Rattle.board.specs.Board.{unitLayout, unitStep, Worked};
-ghost use Rattle.board.specs.Laid.{laid};
+ghost use Rattle.chip.specs.Units.{unitLayout};
+ghost use Rattle.board.specs.Board.{partOf, Part};
 use chip::step::Answer;
 use chip::step::step;
-use picture::Frame;
 use registers::Registers;
 
 // Whether unit u, if there is one, has two memories of length n.
@@ -43,33 +40,15 @@ pub(crate) fn is_even(
 
 // The layout of unit u.
 fn layout_of(units: u16, u: u16) -> u16
+    requires { ⌜ units < 5 ⌝ }
     requires { ⌜ u < 4 ⌝ }
     ensures { λ r. ⌜ r ≡ unitLayout units u ⌝ }
 {
-    if units == 2 {
-        return 2 + u;
-    }
-    if units == 4 {
-        return 4 + u;
-    }
-    0
-}
-
-// temporary
-pub(crate) fn in_layout(r: Registers, layout: u16) -> Registers
-    ensures { λ s. ⌜ s ≡ laid layout r ⌝ }
-{
-    let mut n = r;
-    let frame = Frame {
-        line: r.frame.line,
-        layout: layout,
-    };
-    n.frame = frame;
-    n
+    if units == 1 { 0 } else { units + u }
 }
 
 // A word for unit u, taken in its layout; a unit that the board lacks does nothing.
-pub(crate) fn unit_step(
+pub(crate) fn part_of(
     units: u16,
     u: u16,
     r: Registers,
@@ -78,8 +57,9 @@ pub(crate) fn unit_step(
     im: &mut [u16],
     zm: &mut [u16],
 ) -> Answer
+    requires { ⌜ units < 5 ⌝ }
     requires { ⌜ u < 4 ⌝ }
-    ensures { λ a. ⌜ Worked (outcome (a .refusal) (a .passed) (a .registers) (memories (now (im .exit)) (now (zm .exit)))) (unitStep units r (decode command «data») u (memories (now (im .entry)) (now (zm .entry)))) ⌝ }
+    ensures { λ a. ⌜ Part (outcome (a .refusal) (a .passed) (a .registers) (memories (now (im .exit)) (now (zm .exit)))) (partOf units r (decode command «data») u (memories (now (im .entry)) (now (zm .entry)))) ⌝ }
 {
     if units <= u {
         return Answer {
@@ -89,6 +69,6 @@ pub(crate) fn unit_step(
         };
     }
     let layout = layout_of(units, u);
-    let mine = in_layout(r, layout);
+    let mine = r.in_layout(layout);
     step(mine, command, data, im, zm)
 }

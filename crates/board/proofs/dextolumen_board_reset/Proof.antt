@@ -1,31 +1,28 @@
+-- `dextolumen_board_reset` meets its contract: a number that a board may have fits its record. Assumes nothing.
+use mathlib.Core.Path.{sym, _∙_}
+use native.Mathlib.Omega.{arith}
 use borrow.Author.Needs.{needs}
+use Rattle.board.specs.Calls.{resetting}
+use Rattle.board.proofs.Sent.{board-ways, ways-low}
 use Rattle.board.proofs.dextolumen_board_reset.Statement.{statement}
 use Rattle.board.proofs.dextolumen_board_reset.Tie as tie
-use Rattle.board.proofs.dextolumen_board_reset.Reads as reads
-use Rattle.board.proofs.dextolumen_board_reset.Lts as lts
-use Rattle.board.proofs.is_board.Reads as is-board-reads
-use Rattle.registers.proofs.Registers.reset.Reads as reset-reads
 
--- src/lib.rt:41:9
 reset-requires : tie.Need-reset-requires
 reset-requires c κs = search needs
 
--- src/lib.rt:42:8
 is-board-requires : tie.Need-is-board-requires
 is-board-requires c κs = search needs
 
--- src/lib.rt:46:24
 cast-t4 : tie.Need-cast-t4
-cast-t4 c = ?
+cast-t4 c = omega (arith, ways-low _ (board-ways _ (sym (c .before .is-board .ensures) ∙ c .if1 .taken)))
 
--- src/lib.rt:43:9
 returns : tie.Need-returns
-returns c = ?
+unfolding resetting
+returns c = rw (← c .before .is-board .ensures, c .if1 .taken, c .before .before .reset .ensures)
 
--- src/lib.rt:37:1
 returns-2 : tie.Need-returns-2
-returns-2 c = ?
+unfolding resetting
+returns-2 c = rw (← c .before .is-board .ensures, c .if1 .left, c .before .before .reset .ensures)
 
 pub dextolumen-board-reset-spec : {M : Type 1} → statement M
-dextolumen-board-reset-spec =
-    tie.close (tie.spec reset-requires is-board-requires cast-t4 returns returns-2)
+dextolumen-board-reset-spec = tie.close (tie.spec reset-requires is-board-requires cast-t4 returns returns-2)

@@ -1,21 +1,20 @@
+-- `door::data_of` meets its contract, either way. Assumes nothing.
+use borrow.Author.Tests.{eq-eqb, ne-eqb}
 use borrow.Author.Needs.{needs}
+use Rattle.board.specs.Door.{dataOf}
 use Rattle.board.proofs.door.data_of.Statement.{statement}
 use Rattle.board.proofs.door.data_of.Tie as tie
-use Rattle.board.proofs.door.data_of.Reads as reads
-use Rattle.board.proofs.door.data_of.Lts as lts
-use Rattle.board.proofs.door.solo_data.Reads as solo-data-reads
 
--- src/door.rt:35:9
 solo-data-requires : tie.Need-solo-data-requires
 solo-data-requires c κs = search needs
 
--- src/door.rt:35:9
 returns : tie.Need-returns
-returns c = ?
+unfolding dataOf
+returns c = rw (eq-eqb _ _ (c .before .if1 .taken)) (c .solo-data .ensures)
 
--- src/door.rt:31:1
 returns-2 : tie.Need-returns-2
-returns-2 c = ?
+unfolding dataOf
+returns-2 c = rw (ne-eqb _ _ (c .if1 .left))
 
 pub data-of-spec : {M : Type 1} → statement M
 data-of-spec = tie.close (tie.spec solo-data-requires returns returns-2)

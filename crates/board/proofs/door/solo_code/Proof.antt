@@ -1,15 +1,16 @@
+-- `door::solo_code` meets its contract, either way. Assumes nothing.
+use borrow.Author.Tests.{eq-eqb, ne-eqb}
+use Rattle.board.specs.Door.{soloCode}
 use Rattle.board.proofs.door.solo_code.Statement.{statement}
 use Rattle.board.proofs.door.solo_code.Tie as tie
-use Rattle.board.proofs.door.solo_code.Reads as reads
-use Rattle.board.proofs.door.solo_code.Lts as lts
 
--- src/door.rt:6:1
 returns : tie.Need-returns
-returns c = ?
+unfolding soloCode
+returns c = rw (eq-eqb _ _ (c .if1 .taken))
 
--- src/door.rt:6:1
 returns-2 : tie.Need-returns-2
-returns-2 c = ?
+unfolding soloCode
+returns-2 c = rw (ne-eqb _ _ (c .if1 .left))
 
 pub solo-code-spec : {M : Type 1} → statement M
 solo-code-spec = tie.close (tie.spec returns returns-2)

@@ -1,35 +1,31 @@
+-- `read::read_number` meets its contract, number by number. Assumes nothing.
+use borrow.Author.Tests.{lt-ltb, le-ltb, eq-eqb, ne-eqb}
 use borrow.Author.Needs.{needs}
+use Rattle.board.specs.Calls.{readNumberBy}
 use Rattle.board.proofs.read.read_number.Statement.{statement}
 use Rattle.board.proofs.read.read_number.Tie as tie
-use Rattle.board.proofs.read.read_number.Reads as reads
-use Rattle.board.proofs.read.read_number.Lts as lts
-use Rattle.board.proofs.step.is_whole.Reads as is-whole-reads
-use Rattle.registers.proofs.Registers.is_sound.Reads as is-sound-reads
 
--- src/read.rt:23:9
 is-whole-requires : tie.Need-is-whole-requires
 is-whole-requires c κs = search needs
 
--- src/read.rt:23:34
 is-sound-requires : tie.Need-is-sound-requires
 is-sound-requires c κs = search needs
 
--- src/read.rt:24:9
 returns : tie.Need-returns
-returns c = ?
+unfolding readNumberBy
+returns c = rw (← c .before .is-sound .ensures, ← c .before .before .is-whole .ensures, c .if1 .taken)
 
--- src/read.rt:27:9
 returns-2 : tie.Need-returns-2
-returns-2 c = ?
+unfolding readNumberBy
+returns-2 c = rw (← c .before .before .before .is-sound .ensures, ← c .before .before .before .before .is-whole .ensures, c .before .before .if1 .left, eq-eqb _ _ (c .if2 .taken))
 
--- src/read.rt:30:9
 returns-3 : tie.Need-returns-3
-returns-3 c = ?
+unfolding readNumberBy
+returns-3 c = rw (← c .before .before .before .before .before .is-sound .ensures, ← c .before .before .before .before .before .before .is-whole .ensures, c .before .before .before .before .if1 .left, ne-eqb _ _ (c .before .before .if2 .left), lt-ltb _ _ (c .if3 .taken))
 
--- src/read.rt:19:1
 returns-4 : tie.Need-returns-4
-returns-4 c = ?
+unfolding readNumberBy
+returns-4 c = rw (← c .before .before .before .before .before .is-sound .ensures, ← c .before .before .before .before .before .before .is-whole .ensures, c .before .before .before .before .if1 .left, ne-eqb _ _ (c .before .before .if2 .left), le-ltb _ _ (c .if3 .left))
 
 pub read-number-spec : {M : Type 1} → statement M
-read-number-spec =
-    tie.close (tie.spec is-whole-requires is-sound-requires returns returns-2 returns-3 returns-4)
+read-number-spec = tie.close (tie.spec is-whole-requires is-sound-requires returns returns-2 returns-3 returns-4)
