@@ -2,3 +2,6 @@ pub mod Sent
 pub mod Parts
 pub mod Taken
 pub mod Turns
+pub mod Settled
+pub mod Request8
+pub mod Refused

@@ -2,3 +2,5 @@ pub mod Bank
 pub mod Door
 pub mod Board
 pub mod Calls
+pub mod Request
+pub mod Refusals

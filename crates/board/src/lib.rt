@@ -4,6 +4,7 @@
 ghost use mathlib.Core.Path.{_≡_};
 ghost use Rattle.board.specs.Door.{isBoard};
 ghost use Rattle.board.specs.Calls.{resetting};
+
 mod door;
 pub mod read;
 pub mod run;
