@@ -38,6 +38,7 @@ use Rattle.board.specs.Request.{Agree, Beside, NoTransfers, soloWords, R
 use Rattle.chip.proofs.Units.{units as promises}
 use Rattle.board.proofs.Sent.{ways-board, ways-low, ways-some}
 use Rattle.board.proofs.Parts.{part-is, part-none}
+use Rattle.board.proofs.Recoded.{recoded}
 
 -- ---- four units, of which some are there
 
@@ -206,7 +207,8 @@ module _ (laws : Units) (units n n′ : ℕ) (ways : Ways units) (m : Bank) (r :
 
 -- ---- some words
 
-reset-rows : resetOf ≡ laid 0 resetOf
+-- reset has rows
+pub reset-rows : resetOf ≡ laid 0 resetOf
 unfolding settings
 reset-rows = refl
 
@@ -326,6 +328,7 @@ from-units laws =
           record { told = k .told; left = k .left };
       streams = λ units n n′ ways m i′ z′ agree bytes bytes′ solo free always o p.
           told-alike units n n′ o p (stream-alike laws units n n′ ways m (memories i′ z′) agree bytes bytes′ solo free always);
+      recoded = recoded;
     }
 
 -- a board's memories, read together, are those of one chip, and its counts sum to the chip's

@@ -48,6 +48,10 @@ module _ (units d : ℕ) where
   unfolding commandOf unitWord
   sent-word c = each (isSeveral units) c
 
+  -- the data alone makes of a word what one chip is given
+  pub solo-data-word : (c : ℕ) → decode c (dataOf units c d) ≡ soloWord units (decode c d)
+  solo-data-word c = each false c
+
 -- a single chip's code has two bits
 pub code-low : (units code : ℕ) → soloCode units code ≤ 3
 unfolding soloCode

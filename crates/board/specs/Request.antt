@@ -4,7 +4,8 @@
 use mathlib.Core.Path.{_≡_}
 use mathlib.Core.Bool.{false, _&&_}
 use mathlib.Core.List.{List, [], _∷_, map, List·Memᴰ}
-use Prim.Native.Nat.{ℕ, _<_}
+use Prim.Native.Nat.{ℕ, _+_, _*_, _/_, _%_, _<_}
+use Rattle.stream.specs.Format.{unpackOf, packOf}
 use Rattle.stream.specs.Calls.{checked}
 use Rattle.registers.specs.declared.Registers.{Registers}
 use Rattle.registers.specs.declared.word.Word.{Word}
@@ -22,7 +23,7 @@ use Rattle.chip.specs.Demands.{Ended}
 use Rattle.chip.specs.Units.{Ways, SameRows}
 use Rattle.board.specs.declared.Board.{Board}
 use Rattle.board.specs.Bank.{Bank, memoriesOf}
-use Rattle.board.specs.Door.{isSeveral, isTransfer, soloWord}
+use Rattle.board.specs.Door.{isSeveral, isTransfer, soloWord, dataOf}
 use Rattle.board.specs.Board.{board, boardStep}
 use Rattle.board.specs.Calls.{boardRunning}
 
@@ -50,6 +51,14 @@ NoTransfers units ws = (w : Word) → List·Memᴰ w ws → isSeveral units && i
 -- the same words, as one chip is given them
 abbrev pub soloWords : ℕ → List Word → List Word
 soloWords units ws = map (soloWord units) ws
+
+-- the same of a word as the 20 bits that it is: the same command, and data that has that code where it is INIT's
+abbrev pub soloNumber : ℕ → ℕ → ℕ
+soloNumber units n = n / 65536 * 65536 + dataOf units (n / 65536) (n % 65536)
+
+-- and of a packed stream
+abbrev pub soloBytes : ℕ → List ℕ → List ℕ
+soloBytes units bytes = packOf (map (soloNumber units) (unpackOf bytes))
 
 -- the rows in use agree where a word comes; INIT draws nothing, and asks for none
 abbrev pub RowsAgree : ℕ → ℕ → ℕ → Registers → Word → Memories → Type 0
@@ -119,3 +128,5 @@ pub record Request8 : Type 0 where
       → (bytes bytes′ : List ℕ) → SoloStream units bytes bytes′ → NoTransfers units (wordsOf bytes)
       → Along (stepOf chip) (RowsAgree units n n′) (ran 0 0 0 resetOf (memories i′ z′)) (wordsOf bytes′)
       → (o : BoardEnded units bytes m) (p : Ended resetOf bytes′ i′ z′) → StreamsAlike units n n′ o p
+  -- and a stream that 11 and 12 don't touch has such a one beside it
+  pub recoded : (units : ℕ) (bytes : List ℕ) → checked bytes 0 ≡ 0 → SoloStream units bytes (soloBytes units bytes)
