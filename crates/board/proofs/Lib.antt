@@ -4,5 +4,6 @@ pub mod Taken
 pub mod Turns
 pub mod Settled
 pub mod Recoded
+pub mod Rows
 pub mod Request8
 pub mod Refused

@@ -1,12 +1,12 @@
 -- The parts of a board's units in a word, as the code finds them. Assumes nothing.
 use mathlib.Core.Path.{_≡_, refl, sym, ap, _∙_, subst}
 use mathlib.Core.Logic.{_≢_}
-use mathlib.Core.Bool.{Bool, true, false, cond, not}
+use mathlib.Core.Bool.{Bool, true, false}
 use mathlib.Core.List.{List}
 use Prim.Native.Nat.{ℕ, _+_, _^_, _≤_, _<_}
 use native.Mathlib.Omega.{arith}
-use lib.Dec.{eqb, ltb}
-use borrow.Author.Tests.{lt-ltb, le-ltb, eq-eqb, ne-eqb}
+use lib.Dec.{ltb}
+use borrow.Author.Tests.{lt-ltb, le-ltb, ne-eqb}
 use Rattle.registers.specs.declared.Registers.{Registers}
 use Rattle.registers.specs.declared.word.Word.{Word}
 use Rattle.registers.specs.Record.{laid}
@@ -15,7 +15,7 @@ use Rattle.machine.specs.Machine.{Memories, memories, stepOf}
 use Rattle.machine.proofs.Steps.{refused-leaves}
 use Rattle.chip.specs.Chip.{chip}
 use Rattle.chip.specs.Units.{unitLayout}
-use Rattle.chip.proofs.Laws.{count-low}
+use Rattle.chip.proofs.Units.{units as promises}
 use Rattle.board.specs.declared.Board.{Board}
 use Rattle.board.specs.declared.step.Reply.{Reply}
 use Rattle.board.specs.Bank.{Bank, bank}
@@ -50,7 +50,7 @@ module _ (units : ℕ) (r : Registers) (w : Word) (u : ℕ) (m : Memories) where
       let same = told ∙ ap (λ (q : Registers). stepOf chip q w m) (is ∙ ap (λ (k : ℕ). laid k r) lies) in
       record {
         is = same ∙ sym (part-is h);
-        low = subst (λ (q : Outcome Registers Memories). q .passed < 2 ^ 32) (sym same) (count-low (laid (unitLayout units u) r) w m);
+        low = subst (λ (q : Outcome Registers Memories). q .passed < 2 ^ 32) (sym same) (promises .count (laid (unitLayout units u) r) w m);
       }
 
   -- refused, it leaves its memories

@@ -1,18 +1,16 @@
 -- Words and packed streams with the chips code that one chip takes. Assumes nothing.
-use mathlib.Core.Path.{_≡_, refl, sym, ap, ap₂, _∙_, subst}
+use mathlib.Core.Path.{_≡_, refl, sym, ap, ap₂, _∙_}
 use mathlib.Core.Bool.{Bool, true, false, cond}
 use mathlib.Core.List.{List, [], _∷_, map}
-use Prim.Native.Nat.{ℕ, _+_, _*_, _/_, _%_, _^_, _≤_, _<_}
+use Prim.Native.Nat.{ℕ, _/_, _%_, _^_, _<_}
 use native.Mathlib.Omega.{arith}
 use lib.Dec.{eqb}
-use Rattle.stream.specs.Format.{unpackOf, packOf}
+use Rattle.stream.specs.Format.{unpackOf}
 use Rattle.stream.specs.Calls.{checked}
 use Rattle.stream.proofs.Bits.{Fits, none, more}
 use Rattle.stream.proofs.Round.{unpack-fits, unpack-pack, packed-good}
-use Rattle.registers.specs.declared.word.Word.{Word}
 use Rattle.registers.specs.Word.{decode, wordOf}
-use Rattle.chip.specs.Stream.{wordsOf}
-use Rattle.board.specs.Door.{soloCode, soloData, soloWord, dataOf}
+use Rattle.board.specs.Door.{soloData, soloWord, dataOf}
 use Rattle.board.specs.Request.{soloNumber, soloWords, soloBytes, SoloStream}
 use Rattle.board.proofs.Sent.{code-low, solo-data-word}
 

@@ -1,7 +1,7 @@
 -- What a board refuses beside what one chip refuses: INIT through the door, commands that several units do not take, memories of unlike length.
 -- Assumes nothing.
 use mathlib.Core.Path.{_≡_, refl, sym, ap, ap₂, _∙_}
-use mathlib.Core.Logic.{_≢_, _⊎_, inl, inr}
+use mathlib.Core.Logic.{_≢_}
 use mathlib.Core.Bool.{Bool, true, false, cond, not, _&&_, _||_, false≢true}
 use Prim.Native.Nat.{ℕ, _+_, _*_, _/_, _%_, _≤_, _<_}
 use native.Mathlib.Omega.{arith}
@@ -10,26 +10,26 @@ use lib.ListN.{length}
 use borrow.Author.Tests.{lt-leb, eqb-true, eq-eqb, ne-eqb}
 use Rattle.registers.specs.declared.Registers.{Registers}
 use Rattle.registers.specs.declared.word.Word.{Word}
-use Rattle.registers.specs.declared.word.Word.the-variants.{Init, Aux, Parm, At, Img, Ptrn, Reserved, Unmodelled, Unknown}
+use Rattle.registers.specs.declared.word.Word.the-variants.{Init, Unmodelled}
 use Rattle.registers.specs.Lines.{chipsIn, unitIn}
 use Rattle.registers.specs.Record.{laid}
 use Rattle.registers.specs.Allowed.{initAllowed}
 use Rattle.registers.specs.Bounds.{inBounds}
 use Rattle.registers.specs.Refusal.{isUnknown, isCold, refusalOf}
 use Rattle.registers.proofs.Truth.{both}
-use Rattle.machine.specs.Run.{Outcome, outcome}
-use Rattle.machine.specs.Machine.{Memories, stepOf}
+use Rattle.machine.specs.Run.{Outcome}
+use Rattle.machine.specs.Machine.{Memories}
 use Rattle.machine.proofs.Steps.{step-number}
 use Rattle.chip.specs.Chip.{chip}
-use Rattle.chip.specs.Units.{Ways, unitLayout, Units}
+use Rattle.chip.specs.Units.{Ways, unitLayout}
 use Rattle.chip.proofs.Units.{units as promises}
 use Rattle.board.specs.declared.Board.{Board}
 use Rattle.board.specs.Bank.{Bank, unitEven, evenLengths, isEven}
-use Rattle.board.specs.Door.{isBoard, isSeveral, ownCode, soloCode, soloData, soloWord, isTransfer, unitWord}
+use Rattle.board.specs.Door.{isBoard, isSeveral, ownCode, soloCode, soloData, isTransfer, unitWord}
 use Rattle.board.specs.Board.{board, together, refused, partIn, unitsStep, isWholeBy, isWhole, boardStep}
 use Rattle.board.specs.Calls.{resetting, readNumberBy, boardReading}
 use Rattle.board.specs.Refusals.{Fit, BoardRefusals}
-use Rattle.board.proofs.Sent.{board-ways, ways-some}
+use Rattle.board.proofs.Sent.{board-ways, ways-some, first-layout}
 use Rattle.board.proofs.Parts.{part-is}
 
 -- ---- truth values
@@ -74,11 +74,6 @@ solo-unit units d e = go (eqb (chipsIn d) (ownCode units))
     go false = rw (unit-kept d 3 (omega arith), ne-eqb (unitIn d) 0 e, and-false (eqb (chipsIn (d / 256 * 256 + 3 * 64 + d % 64)) 0) false refl)
 
 -- ---- a board that 2 does not apply to
-
-layout-low : (units : ℕ) → Ways units → unitLayout units 0 ≤ 7
-layout-low units (inl e) = rw e (omega arith)
-layout-low units (inr (inl e)) = rw e (omega arith)
-layout-low units (inr (inr e)) = rw e (omega arith)
 
 -- the units' number is the first one's
 units-number : (b : Board) (v : Word) (m : Bank) → unitsStep b v m .refusal ≡ partIn b v m 0 .refusal
@@ -140,7 +135,7 @@ module _ (b : Board) (m : Bank) (fit : Fit b m) where
       (units-number b v m
       ∙ ap (λ (o : Outcome Registers Memories). o .refusal) (part-is (b .units) r v 0 (m .first) (ways-some (b .units) (h .ways)))
       ∙ step-number chip (laid k r) v (m .first)
-      ∙ promises .number k (length (m .first .i)) (length (m .first .z)) r v (layout-low (b .units) (h .ways))
+      ∙ promises .number k (length (m .first .i)) (length (m .first .z)) r v (first-layout (b .units) (h .ways))
       ∙ ap₂ (λ (z : ℕ) (q : Registers). refusalOf n z q v) (h .like) (sym (h .rows)))
 
 given-init : (units d : ℕ) → unitWord units (Init d) ≡ Init (soloData units d)

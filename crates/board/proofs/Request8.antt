@@ -3,7 +3,7 @@
 use mathlib.Core.Path.{_≡_, refl, sym, ap, ap₂, _∙_, subst}
 use mathlib.Core.Logic.{_≢_, _⊎_, inl, inr}
 use mathlib.Core.Bool.{Bool, true, false, cond, _&&_, _||_}
-use mathlib.Core.List.{List, [], _∷_, map, foldl, foldl-map, List·Memᴰ, List·Memᴰ·head, List·Memᴰ·tail}
+use mathlib.Core.List.{List, [], _∷_, foldl, List·Memᴰ, List·Memᴰ·head, List·Memᴰ·tail}
 use Prim.Native.Nat.{ℕ, zero, suc, _+_, _/_, _%_, _≤_, _<_}
 use native.Mathlib.Omega.{arith}
 use native.Mathlib.Nat.{mod-lt}
@@ -14,13 +14,14 @@ use Rattle.stream.specs.Calls.{checked}
 use Rattle.registers.specs.declared.Registers.{Registers}
 use Rattle.registers.specs.declared.word.Word.{Word}
 use Rattle.registers.specs.Record.{laid, settings, resetOf}
+use Rattle.registers.specs.Refusal.{refusalOf}
 use Rattle.registers.proofs.Truth.{and-both}
 use Rattle.machine.specs.Run.{Outcome, outcome, Step, Ran, ran, advance, runFrom, runOf}
 use Rattle.machine.specs.Along.{Along}
 use Rattle.machine.specs.Machine.{Memories, memories, Even, stepOf, numberOf}
-use Rattle.machine.specs.Shares.{sumOf, ReadTogether}
+use Rattle.machine.specs.Shares.{sumOf}
 use Rattle.machine.specs.Touched.{cellIn}
-use Rattle.machine.specs.Offers.{State, state, onward, allOf}
+use Rattle.machine.specs.Offers.{State, state, onward}
 use Rattle.machine.specs.Alike.{AlikeOutcome, AlikeRun}
 use Rattle.machine.proofs.Runs.{zero-or-not}
 use Rattle.machine.proofs.Steps.{step-either, step-refused, step-number}
@@ -31,14 +32,15 @@ use Rattle.chip.specs.Demands.{Ended}
 use Rattle.chip.specs.Units.{Ways, unitLayout, unitStep, oneStep, Together, Units}
 use Rattle.board.specs.declared.Board.{Board}
 use Rattle.board.specs.Bank.{Bank, bank, memoriesOf, unitEven, evenLengths, isEven}
-use Rattle.board.specs.Door.{isBoard, isSeveral, isTransfer, soloWord, unitWord}
-use Rattle.board.specs.Board.{board, partOf, together, refused, partIn, unitsStep, isWholeBy, isWhole, boardStep}
+use Rattle.board.specs.Door.{isSeveral, isTransfer, soloWord, unitWord}
+use Rattle.board.specs.Board.{board, together, refused, partIn, unitsStep, isWholeBy, isWhole, boardStep}
 use Rattle.board.specs.Calls.{resetting, boardFlaw, runningFrom, boardRunning}
-use Rattle.board.specs.Request.{Agree, Beside, NoTransfers, soloWords, RowsAgree, RowsAlways, Told, toldBy, allTold, WordsAlike, BoardEnded, StreamsAlike, SoloStream, Request8}
+use Rattle.board.specs.Request.{Agree, Beside, NoTransfers, soloWords, RowsAgree, RowsAlways, Told, allTold, BoardEnded, StreamsAlike, SoloStream, Request8}
 use Rattle.chip.proofs.Units.{units as promises}
-use Rattle.board.proofs.Sent.{ways-board, ways-low, ways-some}
+use Rattle.board.proofs.Sent.{ways-board, ways-low, ways-some, first-layout}
 use Rattle.board.proofs.Parts.{part-is, part-none}
 use Rattle.board.proofs.Recoded.{recoded}
+use Rattle.board.proofs.Rows.{always-agree}
 
 -- ---- four units, of which some are there
 
@@ -123,9 +125,6 @@ module _ (laws : Units) (units n n′ : ℕ) (ways : Ways units) (m : Bank) (r :
   one-rows w = step-either chip (laid 0 r) w m′ (λ o. o .registers ≡ laid 0 (o .registers)) (λ e. laws .next 0 r w) (λ e. refl)
 
   module _ (v : Word) (same-rows : RowsAgree units n n′ r v m′) where
-    both : Together units n n′ r v (memoriesOf m) m′
-    both = laws .word units n n′ ways r v (memoriesOf m) m′ (agree .even) (agree .even′) same-rows (agree .together)
-
     abbrev part : ℕ → Outcome Registers Memories
     part u = partIn (board units r) v m u
 
@@ -139,45 +138,19 @@ module _ (laws : Units) (units n n′ : ℕ) (ways : Ways units) (m : Bank) (r :
     some : 0 < units
     some = ways-some units ways
 
-    below-four : (u : ℕ) → u < units → u < 4
-    below-four u l = omega (arith, ways-low units ways)
-
+    -- the first one's number is the one chip's
     number : part 0 .refusal ≡ one .refusal
-    number = ap (λ (o : Outcome Registers Memories). o .refusal) (here 0 some) ∙ both .refusal 0 some
+    number =
+        let k = unitLayout units 0 in
+        ap (λ (o : Outcome Registers Memories). o .refusal) (here 0 some)
+        ∙ step-number chip (laid k r) v (m .first)
+        ∙ ap₂ (λ (i z : ℕ). refusalOf i z (laid k r) v) (agree .even 0 some .0) (agree .even 0 some .1)
+        ∙ laws .number k n n r v (first-layout units ways)
+        ∙ laws .lengths n n′ (laid 0 r) v
+        ∙ sym (ap₂ (λ (i z : ℕ). refusalOf i z (laid 0 r) v) (agree .even′ .0) (agree .even′ .1))
+        ∙ sym (step-number chip (laid 0 r) v m′)
 
-    count : part 0 .passed + part 1 .passed + part 2 .passed + part 3 .passed ≡ one .passed
-    count =
-        sum-four units ways (λ u. unitStep units r v (memoriesOf m) u .passed) (λ u. part u .passed)
-        (λ u l. ap (λ (o : Outcome Registers Memories). o .passed) (here u l))
-        (λ u l. ap (λ (o : Outcome Registers Memories). o .passed) (part-none units r v u (memoriesOf m u) l))
-        ∙ both .passed
-
-    abbrev after : Bank
-    after = bank (part 0 .memories) (part 1 .memories) (part 2 .memories) (part 3 .memories)
-
-    after-unit : (u : ℕ) → u < units → memoriesOf after u ≡ unitStep units r v (memoriesOf m) u .memories
-    after-unit u l = four (λ k. part k .memories) u (below-four u l) ∙ ap (λ (o : Outcome Registers Memories). o .memories) (here u l)
-
-    after-agree : Agree units n n′ after (one .memories)
-    after-agree =
-        record {
-          even = λ u l. subst (Even n) (sym (after-unit u l)) (both .even u l);
-          even′ = both .even′;
-          together = λ p h k. ap (λ (c : Memories). cellIn c (p / units)) (after-unit (p % units) (mod-lt p some)) ∙ both .together p h k;
-        }
-
-    after-registers : laid 0 (part 0 .registers) ≡ one .registers
-    after-registers = ap (λ (o : Outcome Registers Memories). laid 0 (o .registers)) (here 0 some) ∙ ap (laid 0) (both .registers 0 some) ∙ sym (one-rows v)
-
-    accepted-alike : one .refusal ≡ 0
-        → AlikeOutcome (Beside units n n′) (together units (part 0) (part 1) (part 2) (part 3)) one
-    accepted-alike e =
-        record {
-          refusal = sym e;
-          passed = count;
-          state = record { same = ap (board units) after-registers; rows = one-rows v; agree = after-agree };
-        }
-
+    -- refused, all stay as they were
     refused-alike : one .refusal ≢ 0 → AlikeOutcome (Beside units n n′) (refused (part 0 .refusal) (board units r) m) one
     refused-alike e =
         subst (AlikeOutcome (Beside units n n′) (refused (part 0 .refusal) (board units r) m)) (sym stands)
@@ -189,6 +162,45 @@ module _ (laws : Units) (units n n′ : ℕ) (ways : Ways units) (m : Bank) (r :
       where
         stands : one ≡ outcome (numberOf chip (laid 0 r) v m′) 0 (laid 0 r) m′
         stands = step-refused chip (laid 0 r) v m′ (λ z. e (step-number chip (laid 0 r) v m′ ∙ z))
+
+    module _ (e : one .refusal ≡ 0) where
+      both : Together units n n′ r v (memoriesOf m) m′
+      both =
+          laws .word units n n′ ways r v (memoriesOf m) m′ (agree .even) (agree .even′)
+          (same-rows (ap (λ (q : Registers). numberOf chip q v m′) rows ∙ sym (step-number chip (laid 0 r) v m′) ∙ e)) (agree .together)
+
+      count : part 0 .passed + part 1 .passed + part 2 .passed + part 3 .passed ≡ one .passed
+      count =
+          sum-four units ways (λ u. unitStep units r v (memoriesOf m) u .passed) (λ u. part u .passed)
+          (λ u l. ap (λ (o : Outcome Registers Memories). o .passed) (here u l))
+          (λ u l. ap (λ (o : Outcome Registers Memories). o .passed) (part-none units r v u (memoriesOf m u) l))
+          ∙ both .passed
+
+      abbrev after : Bank
+      after = bank (part 0 .memories) (part 1 .memories) (part 2 .memories) (part 3 .memories)
+
+      after-unit : (u : ℕ) → u < units → memoriesOf after u ≡ unitStep units r v (memoriesOf m) u .memories
+      after-unit u l = four (λ k. part k .memories) u (omega (arith, l, ways-low units ways)) ∙ ap (λ (o : Outcome Registers Memories). o .memories) (here u l)
+
+      after-agree : Agree units n n′ after (one .memories)
+      after-agree =
+          record {
+            even = λ u l. subst (Even n) (sym (after-unit u l)) (both .even u l);
+            even′ = both .even′;
+            together = λ p h k. ap (λ (c : Memories). cellIn c (p / units)) (after-unit (p % units) (mod-lt p some)) ∙ both .together p h k;
+          }
+
+      after-registers : laid 0 (part 0 .registers) ≡ one .registers
+      after-registers = ap (λ (o : Outcome Registers Memories). laid 0 (o .registers)) (here 0 some) ∙ ap (laid 0) (both .registers 0 some) ∙ sym (one-rows v)
+
+      -- accepted, what they leave belongs together
+      accepted-alike : AlikeOutcome (Beside units n n′) (together units (part 0) (part 1) (part 2) (part 3)) one
+      accepted-alike =
+          record {
+            refusal = sym e;
+            passed = count;
+            state = record { same = ap (board units) after-registers; rows = one-rows v; agree = after-agree };
+          }
 
     units-alike : AlikeOutcome (Beside units n n′) (unitsStep (board units r) v m) one
     unfolding unitsStep
@@ -329,6 +341,7 @@ from-units laws =
       streams = λ units n n′ ways m i′ z′ agree bytes bytes′ solo free always o p.
           told-alike units n n′ o p (stream-alike laws units n n′ ways m (memories i′ z′) agree bytes bytes′ solo free always);
       recoded = recoded;
+      natural = always-agree laws;
     }
 
 -- a board's memories, read together, are those of one chip, and its counts sum to the chip's

@@ -11,7 +11,7 @@ use Rattle.registers.specs.declared.word.Word.{Word}
 use Rattle.registers.specs.declared.word.Word.the-variants.{Unmodelled, Unknown}
 use Rattle.registers.specs.Word.{commands, decode}
 use Rattle.registers.proofs.Table.{everywhere}
-use Rattle.chip.specs.Units.{Ways}
+use Rattle.chip.specs.Units.{Ways, unitLayout}
 use Rattle.board.specs.Door.{isBoard, isSeveral, soloCode, soloWord, isTransfer, unitWord, commandOf, dataOf}
 
 -- ---- words
@@ -94,3 +94,9 @@ pub ways-some : (units : ℕ) → Ways units → 0 < units
 ways-some units (inl e) = omega arith
 ways-some units (inr (inl e)) = omega arith
 ways-some units (inr (inr e)) = omega arith
+
+-- and the first unit's layout is one of eight
+pub first-layout : (units : ℕ) → Ways units → unitLayout units 0 ≤ 7
+first-layout units (inl e) = rw e (omega arith)
+first-layout units (inr (inl e)) = rw e (omega arith)
+first-layout units (inr (inr e)) = rw e (omega arith)

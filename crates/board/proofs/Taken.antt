@@ -1,16 +1,12 @@
 -- The ways out of a board's calls: a word, a read, reset. Assumes nothing.
-use mathlib.Core.Path.{_≡_, refl, sym, ap, _∙_, subst}
+use mathlib.Core.Path.{_≡_, sym, ap, _∙_}
 use mathlib.Core.Logic.{_≢_}
-use mathlib.Core.Bool.{Bool, true, false, cond, not, _&&_}
-use mathlib.Core.List.{List}
+use mathlib.Core.Bool.{Bool, true, false, cond, not}
 use Prim.Native.Nat.{ℕ, _<_}
-use native.Mathlib.Omega.{arith}
 use lib.Dec.{eqb, ltb}
 use borrow.Author.Tests.{not-true, not-false, ne-eqb}
-use Rattle.registers.specs.declared.Registers.{Registers}
 use Rattle.registers.specs.declared.word.Word.{Word}
 use Rattle.registers.specs.Word.{decode}
-use Rattle.registers.specs.Refusal.{isUnknown}
 use Rattle.registers.proofs.Commands.{decode-unknown}
 use Rattle.registers.proofs.Truth.{both}
 use Rattle.machine.specs.Run.{Outcome, outcome}
@@ -19,10 +15,9 @@ use Rattle.chip.specs.declared.transfer.Reading.{Reading}
 use Rattle.chip.specs.Read.{reading}
 use Rattle.board.specs.declared.Board.{Board}
 use Rattle.board.specs.declared.step.Reply.{Reply}
-use Rattle.board.specs.declared.read.Seen.{Seen}
 use Rattle.board.specs.Bank.{Bank, isEven}
-use Rattle.board.specs.Door.{isBoard, unitWord, commandOf, dataOf}
-use Rattle.board.specs.Board.{board, together, refused, partIn, unitsStep, isWholeBy, isWhole, boardStep}
+use Rattle.board.specs.Door.{unitWord, commandOf, dataOf}
+use Rattle.board.specs.Board.{board, refused, partIn, unitsStep, isWholeBy, isWhole, boardStep}
 use Rattle.board.specs.Calls.{seen, readNumberBy, readNumber, readBy, boardReading}
 use Rattle.board.proofs.Sent.{sent-word, board-ways, ways-low}
 

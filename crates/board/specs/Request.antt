@@ -11,9 +11,9 @@ use Rattle.registers.specs.declared.Registers.{Registers}
 use Rattle.registers.specs.declared.word.Word.{Word}
 use Rattle.registers.specs.Record.{laid, resetOf}
 use Rattle.registers.specs.Refusal.{isInit}
-use Rattle.machine.specs.Run.{Step, Ran, ran, runOf}
+use Rattle.machine.specs.Run.{Step, ran, runOf}
 use Rattle.machine.specs.Along.{Along}
-use Rattle.machine.specs.Machine.{Memories, memories, Even, stepOf}
+use Rattle.machine.specs.Machine.{Memories, memories, Even, numberOf, stepOf}
 use Rattle.machine.specs.Shares.{ReadTogether}
 use Rattle.machine.specs.Offers.{State, state, onward, allOf}
 use Rattle.machine.specs.Alike.{AlikeOutcome, AlikeRun}
@@ -60,9 +60,9 @@ soloNumber units n = n / 65536 * 65536 + dataOf units (n / 65536) (n % 65536)
 abbrev pub soloBytes : ℕ → List ℕ → List ℕ
 soloBytes units bytes = packOf (map (soloNumber units) (unpackOf bytes))
 
--- the rows in use agree where a word comes; INIT draws nothing, and asks for none
+-- the rows in use agree where an accepted word comes; INIT draws nothing, and asks for none
 abbrev pub RowsAgree : ℕ → ℕ → ℕ → Registers → Word → Memories → Type 0
-RowsAgree units n n′ r w m = isInit w ≡ false → SameRows units n n′ r
+RowsAgree units n n′ r w m = numberOf chip r w m ≡ 0 → isInit w ≡ false → SameRows units n n′ r
 
 -- so it is at each of some words, refused ones among them
 abbrev pub RowsAlways : ℕ → ℕ → ℕ → State Registers Memories → List Word → Type 0
@@ -130,3 +130,5 @@ pub record Request8 : Type 0 where
       → (o : BoardEnded units bytes m) (p : Ended resetOf bytes′ i′ z′) → StreamsAlike units n n′ o p
   -- and a stream that 11 and 12 don't touch has such a one beside it
   pub recoded : (units : ℕ) (bytes : List ℕ) → checked bytes 0 ≡ 0 → SoloStream units bytes (soloBytes units bytes)
+  -- the rows in use always agree, if the one chip has as many places as the units together
+  pub natural : (units n : ℕ) → Ways units → (r : Registers) (w : Word) (m : Memories) → RowsAgree units n (n * units) r w m

@@ -5,7 +5,7 @@ ghost use lib.Dec.{ltb};
 ghost use mathlib.Core.Bool.{cond};
 ghost use Rattle.registers.specs.Word.{decode};
 ghost use Rattle.machine.specs.Run.{outcome};
-ghost use Rattle.board.specs.Bank.{lent, evenLengths};
+ghost use Rattle.board.specs.Bank.{lent};
 ghost use Rattle.board.specs.Board.{isWholeBy, unitsStep, boardStep};
 use crate::Board;
 use crate::door::command_of;

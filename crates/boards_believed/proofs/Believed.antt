@@ -1,7 +1,7 @@
 -- What an operator believes of a board's picture: demand 3 of one chip, read at the places that stand for it. Assumes nothing.
-use mathlib.Core.Path.{_≡_, refl, sym, subst}
+use mathlib.Core.Path.{refl, sym, subst}
 use mathlib.Core.List.{List, map}
-use Prim.Native.Nat.{ℕ, _/_, _%_, _<_}
+use Prim.Native.Nat.{ℕ, _/_, _%_}
 use lib.ListN.{length}
 use Rattle.picture.specs.Cell.{Cell}
 use Rattle.registers.specs.declared.word.Word.{Word}
