@@ -82,8 +82,9 @@ static uint64_t draw(const Row *row, uint16_t layout, uint16_t *im, uint16_t *zm
     uint64_t count = 0;
     for (size_t k = 0; k < drawn; k++) {
         const Point *c = figures[k];
-        count += row->segments ? dextolumen_bench_segment(LINE, layout, row->mode, 0xF0CCAA1D, 0xBEEF, 0x1234, OF(c[0]), OF(c[1]), im, places, zm, places)
-                               : dextolumen_bench_triangle(LINE, layout, row->mode, OF(c[0]), OF(c[1]), OF(c[2]), im, places, zm, places);
+        count += row->segments
+            ? dextolumen_bench_segment(LINE, layout, row->mode, 0xF0CCAA1D, 0xBEEF, 0x1234, OF(c[0]), OF(c[1]), im, places, zm, places)
+            : dextolumen_bench_triangle(LINE, layout, row->mode, OF(c[0]), OF(c[1]), OF(c[2]), im, places, zm, places);
     }
     return count;
 }
@@ -104,8 +105,8 @@ static void agree(const Row *row, size_t board, uint64_t count, uint64_t expecte
         unlike += units[0][there] != chip[0][at] || units[1][there] != chip[1][at];
     }
     if (count == expected && unlike == 0) return;
-    printf("%s: %lu units tell %lu, one chip %lu, and %lu places differ\n", row->name, (unsigned long)board, (unsigned long)count, (unsigned long)expected,
-           (unsigned long)unlike);
+    printf("%s: %lu units tell %lu, one chip %lu, and %lu places differ\n", row->name, (unsigned long)board, (unsigned long)count,
+           (unsigned long)expected, (unsigned long)unlike);
     exit(1);
 }
 

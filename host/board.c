@@ -100,7 +100,7 @@ int main(void) {
         if (!read_together(sizes[k], &fewest)) fault("another picture in one call", sizes[k], count);
     }
     if (fewest == 0) fault("a unit has nothing drawn", UNITS, count);
-    printf("board: %lu words, %lu passed: on 1, 2 and 4 units the picture is one chip's; of four each has %lu lit pixels or more\n", (unsigned long)count,
-           (unsigned long)sum, (unsigned long)fewest);
+    printf("board: %lu words, %lu passed: on 1, 2 and 4 units the picture is one chip's; of four each has %lu lit pixels or more\n",
+           (unsigned long)count, (unsigned long)sum, (unsigned long)fewest);
     return fflush(stdout) != 0;
 }

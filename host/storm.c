@@ -74,10 +74,11 @@ static uint64_t changed(const struct memory *a, const struct memory *b) {
 
 // ---- what is told
 
-static uint64_t thrown, told_by[DEXTOLUMEN_NO_REGION + 1], told_read[DEXTOLUMEN_NO_REGION + 1], cut, uncut, bends, tiled, shared, high, wide;
+static uint64_t thrown, told_by[DEXTOLUMEN_NO_REGION + 1], told_read[DEXTOLUMEN_NO_REGION + 1], cut, uncut, bends, tiled, shared, high, wide,
+    at_boards;
 
 _Noreturn static void fault(const char *what, uint8_t command, uint16_t data) {
-    printf("storm: word %lu (command %u, data %u): %s\n", (unsigned long)thrown, command, data, what);
+    printf("storm: word %lu (command %u, data %u): %s\n", (unsigned long)(thrown + at_boards), command, data, what);
     fflush(stdout);
     exit(1);
 }
@@ -515,7 +516,7 @@ static int stream_alike(uint64_t *stopped) {
 
 static struct memory unit_i[UNITS], unit_z[UNITS], unit_i_was[UNITS], unit_z_was[UNITS];
 static struct dextolumen_board board;
-static uint64_t at_boards, board_told[UNITS + 1][DEXTOLUMEN_NO_REGION + 1], board_seen[UNITS + 1][DEXTOLUMEN_NO_REGION + 1], board_drew[UNITS + 1],
+static uint64_t board_told[UNITS + 1][DEXTOLUMEN_NO_REGION + 1], board_seen[UNITS + 1][DEXTOLUMEN_NO_REGION + 1], board_drew[UNITS + 1],
     board_high, no_board;
 
 static struct lent units_lent(void) {
@@ -708,6 +709,22 @@ static void tall_board(unsigned units) {
     for (unsigned u = 0; u < units; u++) board_high += lent(&unit_i[u])[last] == 1;
 }
 
+// Another number of units is refused with 9 by a reset, and by a run before all that could be wrong with it; both answer a board of one unit.
+static int others_refused(void) {
+    static const uint64_t others[] = {0, 3, 5, 6, 7, 8, 65537, 65540, UINT64_C(1) << 32 | 1, UINT64_C(1) << 63 | 4, ~UINT64_C(0)};
+    const struct dextolumen_board one = dextolumen_board_reset(1).board;
+    fill_units(UNITS, below(TOGETHER / UNITS));
+    keep_units();
+    for (unsigned k = 0; k < sizeof others / sizeof *others; k++) {
+        struct lent m = units_lent();
+        struct dextolumen_board_started s = dextolumen_board_reset(others[k]);
+        struct dextolumen_board_ended e = board_run(others[k], bytes, k, &m);
+        if (s.refusal != DEXTOLUMEN_BAD_VALUE || memcmp(&s.board, &one, sizeof one) != 0) return 0;
+        if (e.refusal != DEXTOLUMEN_BAD_VALUE || e.index != 0 || e.sum != 0 || memcmp(&e.board, &one, sizeof one) != 0) return 0;
+    }
+    return units_changed(0) == 0;
+}
+
 // A stream in one call on a board, and word by word over the same memories.
 static int board_stream_alike(unsigned units) {
     static uint8_t translated[sizeof bytes];
@@ -765,6 +782,10 @@ static int boards(void) {
             printf("storm: stream %u: on a board one call and word by word end unlike\n", k);
             return 1;
         }
+    if (!others_refused()) {
+        printf("storm: another number of units is taken, or refused otherwise\n");
+        return 1;
+    }
     printf("storm: %lu words at boards, each as at one chip, %lu at boards that there are not\n", (unsigned long)at_boards, (unsigned long)no_board);
     for (unsigned units = 1; units <= UNITS; units *= 2) {
         static const uint8_t several_words[] = {0, 1, 2, 3, 4, 5, 6, 7, 8, 9, 10, 11, 12}, several_reads[] = {2, 3, 5};

@@ -156,7 +156,8 @@ static void look(const struct outcome *o) {
     if (o->words != o->index[0] || o->packed != length || memcmp(o->out, bytes, length) != 0) fault("unpacked and packed it is another recording");
     if (o->listed == 0 || o->copied != o->listed || memcmp(o->view, o->run.i, sizeof o->view) != 0) fault("the viewer shows another picture");
     if (o->reads < WIDTH) fault("a row has fewer pixels");
-    if (o->board_refusal[0] + o->board_refusal[1] != DEXTOLUMEN_ACCEPTED || o->board_sum[0] != o->sum[0] || o->board_sum[1] != o->sum[0]) fault("boards tell otherwise");
+    if (o->board_refusal[0] != DEXTOLUMEN_ACCEPTED || o->board_sum[0] != o->sum[0]) fault("a board of four tells otherwise");
+    if (o->board_refusal[1] != DEXTOLUMEN_ACCEPTED || o->board_sum[1] != o->sum[0]) fault("a board of two tells otherwise");
     if (!read_together(o->four, 4, &o->run) || !read_together(o->two, 2, &o->run)) fault("boards draw unlike pictures");
     if (o->board_read != DEXTOLUMEN_UNMODELLED) fault("two units are read");
 }
