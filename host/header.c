@@ -24,6 +24,9 @@ uint64_t calls(struct dextolumen_registers *r, const uint8_t *bytes, uint8_t *ou
     *r = dextolumen_reset_tiled();
     sum += dextolumen_step(r, 15, 0, im, n, zm, n).refusal + dextolumen_read(r, im, n, zm, n).pixel + dextolumen_run(bytes, n, im, n, zm, n).index;
     sum += dextolumen_run_tiled(bytes, n, im, n, zm, n).index;
+    sum += dextolumen_board_run(dextolumen_board_reset(2).board.units, bytes, n, im, n, zm, n, im, n, zm, n, im, n, zm, n, im, n, zm, n).index;
+    sum += dextolumen_board_step(dextolumen_board_reset(4).board, 15, 0, im, n, zm, n, im, n, zm, n, im, n, zm, n, im, n, zm, n).passed;
+    sum += dextolumen_board_read(dextolumen_board_reset(1).board, im, n, zm, n, im, n, zm, n, im, n, zm, n, im, n, zm, n).pixel;
     s = dextolumen_feed(s, bytes, n, im, n, zm, n);
     s = dextolumen_finish(s, im, n, zm, n);
     sum += dextolumen_mend(bytes, n, out, n, indices, n, out, n, im, n, zm, n).size;

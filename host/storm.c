@@ -1,16 +1,19 @@
 // Throws bits at the card: random words on records and memories of every kind, with guard places around each memory and around the record.
 // Whatever comes, a refused word leaves record and memories as they were and counts nothing; an accepted word changes no place outside the rows
-// in use, which are whole bands over tiles, and, but for PTRN, no more places than it says, keeps the layout, and leaves a record that a further
+// in use, which are whole bands over tiles, and, but for PTRN, no more places than it says, keeps the layout, a unit's too, and leaves a record that a further
 // INIT accepts; a triangle that the section cuts passes no pixel; a segment advances the line by its steps and passes no more pixels than it
 // has, its first point with them if it has that; no guard ever changes. PTRN stores at the region's pixel alone and counts nothing; reads
 // between the words tell what stands there, and change nothing but the region. Streams of such words, some of them damaged, end alike in one
 // call and word by word, and so do their whole words in instalments, cut anywhere. An intake that breaks a bound is refused with 2, and nothing
 // changes. Some words go to the far end of the plotting area, over memories that are taller than the rows in use may be, and over the longest
-// lines. Stops at the first fault with status 1.
+// lines. At boards a word gets the answer that one chip gives whose memories are the units' read together, and leaves what it leaves; commands 0 and
+// 9 and reads on several units, INIT for another board, unlike memories and boards that there are not are refused, and change nothing.
+// Stops at the first fault with status 1.
 // usage: storm
 #include "chance.h"
 #include "feed.h"
 #include "tiles.h"
+#include "units.h"
 #include <stdio.h>
 #include <stdlib.h>
 #include <string.h>
@@ -19,6 +22,8 @@ enum {
     WORDS = 100000,
     SCENE = 50, // words thrown at one pair of memories
     STREAMS = 1000,
+    AT_BOARDS = 20000, // words
+    TOGETHER = 6000, // places, at most, of a board's I memories together
     USUAL = 20000, // places, at most, of most memories
     TALL = 256 * (DEXTOLUMEN_MOST_ROWS + 1), // those of the shortest line, one row more than may be in use
     WIDE = 8768 * 40, // those of the longest line
@@ -69,10 +74,11 @@ static uint64_t changed(const struct memory *a, const struct memory *b) {
 
 // ---- what is told
 
-static uint64_t thrown, told_by[DEXTOLUMEN_NO_REGION + 1], told_read[DEXTOLUMEN_NO_REGION + 1], cut, uncut, bends, tiled, high, wide;
+static uint64_t thrown, told_by[DEXTOLUMEN_NO_REGION + 1], told_read[DEXTOLUMEN_NO_REGION + 1], cut, uncut, bends, tiled, shared, high, wide,
+    at_boards;
 
 _Noreturn static void fault(const char *what, uint8_t command, uint16_t data) {
-    printf("storm: word %lu (command %u, data %u): %s\n", (unsigned long)thrown, command, data, what);
+    printf("storm: word %lu (command %u, data %u): %s\n", (unsigned long)(thrown + at_boards), command, data, what);
     fflush(stdout);
     exit(1);
 }
@@ -94,7 +100,8 @@ static void count_far(size_t line) {
 // The place of the region's pixel, or as many places as there are where it is outside the memory.
 static size_t region_place(const struct dextolumen_registers *r) {
     size_t rows = rows_in_use(&r->frame, im.length);
-    return r->region.x < r->frame.line && r->region.y < rows ? place(&r->frame, r->region.x, r->region.y) : im.length;
+    int inside = r->region.x < r->frame.line && r->region.y < rows && has_column(&r->frame, r->region.x);
+    return inside ? place(&r->frame, r->region.x, r->region.y) : im.length;
 }
 
 // PTRN's number where it is due in the memories as they were, so that they should be as they are now.
@@ -174,10 +181,11 @@ static void throw(uint8_t command, uint16_t data) {
     }
     if (im.length != zm.length) fault("memories of unlike length accepted", command, data);
     const struct dextolumen_frame *frame = &held_was.record.frame;
-    size_t inside = rows_in_use(frame, im.length) * frame->line;
+    size_t inside = rows_in_use(frame, im.length) * (frame->line / units_of(frame));
     if (!kept_outside(&im, &im_was, inside) || !kept_outside(&zm, &zm_was, inside)) fault("a place outside the rows in use changed", command, data);
-    if (frame->layout > 1 || held.record.frame.layout != frame->layout) fault("a word changed the layout, or took one that no reset chooses", command, data);
+    if (frame->layout > 7 || held.record.frame.layout != frame->layout) fault("a word changed the layout, or took one that there is not", command, data);
     tiled += frame->layout == 1 && told.passed != 0;
+    shared += frame->layout > 1 && told.passed != 0;
     if (frame->layout == 0) count_far(frame->line);
     if (command == 0) {
         store(&held_was.record, data);
@@ -304,6 +312,7 @@ static void far_scene(int tall) {
 static void scene(int wild) {
     struct dextolumen_registers start = wild ? held.record : below(3) ? dextolumen_reset() : dextolumen_reset_tiled();
     size_t length = any_length();
+    if (!wild && below(4) == 0) start.frame.layout = (uint16_t)(2 + below(6));
     for (unsigned k = 0; k < GUARD; k++) {
         held.under[k] = (uint16_t)chance();
         held.over[k] = (uint16_t)chance();
@@ -503,8 +512,257 @@ static int stream_alike(uint64_t *stopped) {
         && memcmp(&one.registers, &two.registers, sizeof one.registers) == 0 && changed(&im, &im_was) + changed(&zm, &zm_was) == 0;
 }
 
+// ---- boards
+
+static struct memory unit_i[UNITS], unit_z[UNITS], unit_i_was[UNITS], unit_z_was[UNITS];
+static struct dextolumen_board board;
+static uint64_t board_told[UNITS + 1][DEXTOLUMEN_NO_REGION + 1], board_seen[UNITS + 1][DEXTOLUMEN_NO_REGION + 1], board_drew[UNITS + 1],
+    board_high, no_board;
+
+static struct lent units_lent(void) {
+    struct lent m;
+    for (unsigned u = 0; u < UNITS; u++) {
+        m.i[u] = lent(&unit_i[u]), m.z[u] = lent(&unit_z[u]);
+        m.i_length[u] = unit_i[u].length, m.z_length[u] = unit_z[u].length;
+    }
+    return m;
+}
+
+static void keep_units(void) {
+    for (unsigned u = 0; u < UNITS; u++) {
+        copy(&unit_i_was[u], &unit_i[u]);
+        copy(&unit_z_was[u], &unit_z[u]);
+    }
+}
+
+// How many places of the units from one on changed, guards included.
+static uint64_t units_changed(unsigned from) {
+    uint64_t n = 0;
+    for (unsigned u = from; u < UNITS; u++) n += changed(&unit_i[u], &unit_i_was[u]) + changed(&unit_z[u], &unit_z_was[u]);
+    return n;
+}
+
+// Whether there is such a board, and the memories of its units are of one length.
+static int is_board(const struct dextolumen_board *b) { return (b->units == 1 || b->units == 2 || b->units == 4) && b->registers.frame.layout == 0; }
+
+static int of_one_length(unsigned units) {
+    for (unsigned u = 0; u < units; u++)
+        if (unit_i[u].length != unit_i[0].length || unit_z[u].length != unit_i[0].length) return 0;
+    return 1;
+}
+
+// The chip that a board stands for: its memories are the units' read together.
+static void stand_in(size_t units) {
+    im.length = zm.length = units * unit_i[0].length;
+    for (size_t at = 0; at < im.length; at++) {
+        lent(&im)[at] = lent(&unit_i[at % units])[at / units];
+        lent(&zm)[at] = lent(&unit_z[at % units])[at / units];
+    }
+}
+
+static int read_together(size_t units) {
+    for (size_t at = 0; at < im.length; at++) {
+        const size_t u = at % units, there = at / units;
+        if (lent(&im)[at] != lent(&unit_i[u])[there] || lent(&zm)[at] != lent(&unit_z[u])[there]) return 0;
+    }
+    return 1;
+}
+
+// What the chip is given for a word: INIT's chips code 0 for the board's own, and 3 for any other.
+static uint16_t for_chip(unsigned units, uint8_t command, uint16_t data) {
+    if (command != 15) return data;
+    return (uint16_t)((data & ~0xC0) | ((data >> 6 & 3) == chips_code(units) ? 0 : 0xC0));
+}
+
+// What is wrong with the answer to a word, or nothing: `was` is the board before it, and the chip stands in for it.
+static const char *reply_fault(const struct dextolumen_board *was, const struct dextolumen_board_reply *r, uint8_t command, uint16_t data) {
+    if (r->refusal != DEXTOLUMEN_ACCEPTED) {
+        if (r->passed != 0 || memcmp(&r->board, was, sizeof *was) != 0) return "a board refused with a count, or another board";
+        if (units_changed(0) != 0) return "a board refused, and a place changed";
+    }
+    if (command > 15) return r->refusal == DEXTOLUMEN_BAD_COMMAND ? 0 : "a board took a command above 15";
+    if (!is_board(was)) return r->refusal == DEXTOLUMEN_BAD_RECORD ? 0 : "a board that there is not was taken";
+    if (!of_one_length(was->units)) return r->refusal == DEXTOLUMEN_BAD_RECORD ? 0 : "a board took memories of unlike length";
+    if (units_changed(was->units) != 0) return "a board changed memories that are not its own";
+    struct dextolumen_registers next = was->registers;
+    struct dextolumen_told chip = dextolumen_step(&next, command, for_chip(was->units, command, data), lent(&im), im.length, lent(&zm), zm.length);
+    if (was->units > 1 && (command == 0 || command == 9)) {
+        uint64_t due = chip.refusal == 2 || chip.refusal == 3 ? chip.refusal : DEXTOLUMEN_UNMODELLED;
+        return r->refusal == due ? 0 : "a picture on several units";
+    }
+    if (r->refusal != chip.refusal || r->passed != chip.passed) return "a board answers otherwise than one chip";
+    if (r->board.units != was->units || memcmp(&r->board.registers, &next, sizeof next) != 0) return "a board goes on otherwise than one chip";
+    return read_together(was->units) ? 0 : "a board draws otherwise than one chip";
+}
+
+static void throw_at_board(uint8_t command, uint16_t data) {
+    struct dextolumen_board was = board;
+    struct lent m = units_lent();
+    keep_units();
+    if (is_board(&was) && of_one_length(was.units)) stand_in(was.units);
+    struct dextolumen_board_reply reply = board_step(was, command, data, &m);
+    at_boards++;
+    const char *what = reply.refusal > DEXTOLUMEN_NO_REGION ? "a number that no word gets" : reply_fault(&was, &reply, command, data);
+    for (unsigned u = 0; u < UNITS; u++)
+        if (!kept_outside(&unit_i[u], &unit_i_was[u], unit_i[u].length) || !kept_outside(&unit_z[u], &unit_z_was[u], unit_z[u].length))
+            what = "a guard of a unit changed";
+    if (what) fault(what, command, data);
+    if (is_board(&was)) {
+        board_told[was.units][reply.refusal]++;
+        board_drew[was.units] += reply.passed != 0;
+    } else {
+        no_board++;
+    }
+    board = reply.board;
+}
+
+// A read on a board is one chip's on one unit, and 2, 3 or 5 on more; it changes no place.
+static void strobe_board(void) {
+    struct dextolumen_board was = board;
+    struct lent m = units_lent();
+    keep_units();
+    struct dextolumen_board_seen seen = board_read(was, &m);
+    if (units_changed(0) != 0) fault("a read changed a place of a unit, just before it", 0, 0);
+    if (seen.refusal > DEXTOLUMEN_NO_REGION) fault("a number that no read gets, just before it", 0, 0);
+    struct dextolumen_seen chip = {DEXTOLUMEN_BAD_RECORD, 0};
+    struct dextolumen_registers next = was.registers;
+    if (is_board(&was) && of_one_length(was.units)) {
+        stand_in(was.units);
+        chip = dextolumen_read(&next, lent(&im), im.length, lent(&zm), zm.length);
+        if (was.units > 1) {
+            next = was.registers;
+            chip = (struct dextolumen_seen){chip.refusal == 2 || chip.refusal == 3 ? chip.refusal : DEXTOLUMEN_UNMODELLED, 0};
+        }
+    }
+    if (seen.refusal != chip.refusal || seen.pixel != chip.pixel) fault("a board reads otherwise than it should, just before it", 0, 0);
+    if (seen.board.units != was.units || memcmp(&seen.board.registers, &next, sizeof next) != 0)
+        fault("a read left another board, just before it", 0, 0);
+    if (is_board(&was)) board_seen[was.units][seen.refusal]++;
+    board = seen.board;
+}
+
+// A word as for one chip, but with INIT's chips code for the board, or with any code and unit now and then.
+static struct word board_word(void) {
+    struct word w = fair_word(&board.registers);
+    if (w.command == 15 && (w.data & 0xF0) == 0) w.data |= (uint16_t)(below(8) ? chips_code(board.units) << 6 : below(16) << 4);
+    return w;
+}
+
+// Memories for four units, of one length or one of them not; those of units that the board lacks are of any length.
+static void fill_units(unsigned units, size_t length) {
+    for (unsigned u = 0; u < UNITS; u++) {
+        fill(&unit_i[u], u < units ? length : below(100));
+        fill(&unit_z[u], u < units ? length : below(100));
+    }
+    if (below(8) == 0) fill(below(2) ? &unit_i[below(units)] : &unit_z[below(units)], below(TOGETHER / units + 1));
+}
+
+// A board of any bits, or the board as it is with some number of any bits.
+static void spoil_board(void) {
+    switch (below(4)) {
+    case 0: board.units = (uint16_t)(below(2) ? below(9) : chance()); break;
+    case 1: board.registers.frame.layout = (uint16_t)below(9); break;
+    default: spoil(&board.registers); break;
+    }
+}
+
+// Throws INIT, both enables, and some vertices of a strip or a line in the lowest rows.
+static void board_figures(void) {
+    const int strip = below(2) != 0;
+    const struct word words[] = {{15, (uint16_t)(chips_code(board.units) << 6)}, {14, 4}, {13, 6}, {strip ? 5 : 8, (uint16_t)below(256)}};
+    for (unsigned k = 0; k < sizeof words / sizeof *words; k++) throw_at_board(words[k].command, words[k].data);
+    for (unsigned k = below(6); k != 0; k--) {
+        throw_at_board(3, (uint16_t)below(24));
+        throw_at_board(1, (uint16_t)chance());
+        throw_at_board(strip ? 4 : 11, (uint16_t)below(256));
+    }
+}
+
+// Some words at one board: from reset and mostly fair, or each at a board of its own that may be anything.
+static void board_scene(int wild) {
+    struct dextolumen_board start = dextolumen_board_reset(1u << below(3)).board;
+    if (wild && is_board(&board)) start = board;
+    board = start;
+    fill_units(start.units, below(TOGETHER / start.units + 1));
+    board_figures();
+    for (unsigned k = 0; k < SCENE && at_boards < AT_BOARDS; k++) {
+        struct word w = wild && below(2) ? any_word() : board_word();
+        if (wild) {
+            board = start;
+            spoil_board();
+        }
+        throw_at_board(w.command, w.data);
+        if (below(8) == 0) strobe_board();
+    }
+}
+
+// A line in the highest row of units that are taller than the rows in use may be: it ends in the last place in use of each.
+static void tall_board(unsigned units) {
+    const size_t row = 256 / units, last = row * DEXTOLUMEN_MOST_ROWS - 1;
+    const struct word words[] = {{15, (uint16_t)(chips_code(units) << 6)}, {14, 4}, {13, 6}, {3, DEXTOLUMEN_LARGEST_COORDINATE}, {8, 9}, {11, 255}};
+    board = dextolumen_board_reset(units).board;
+    for (unsigned u = 0; u < UNITS; u++) {
+        fill(&unit_i[u], u < units ? row * (DEXTOLUMEN_MOST_ROWS + 1) : 0);
+        fill(&unit_z[u], unit_i[u].length);
+    }
+    for (unsigned k = 0; k < sizeof words / sizeof *words; k++) throw_at_board(words[k].command, words[k].data);
+    for (unsigned u = 0; u < units; u++) board_high += lent(&unit_i[u])[last] == 1;
+}
+
+// Another number of units is refused with 9 by a reset, and by a run before all that could be wrong with it; both answer a board of one unit.
+static int others_refused(void) {
+    static const uint64_t others[] = {0, 3, 5, 6, 7, 8, 65537, 65540, UINT64_C(1) << 32 | 1, UINT64_C(1) << 63 | 4, ~UINT64_C(0)};
+    const struct dextolumen_board one = dextolumen_board_reset(1).board;
+    fill_units(UNITS, below(TOGETHER / UNITS));
+    keep_units();
+    for (unsigned k = 0; k < sizeof others / sizeof *others; k++) {
+        struct lent m = units_lent();
+        struct dextolumen_board_started s = dextolumen_board_reset(others[k]);
+        struct dextolumen_board_ended e = board_run(others[k], bytes, k, &m);
+        if (s.refusal != DEXTOLUMEN_BAD_VALUE || memcmp(&s.board, &one, sizeof one) != 0) return 0;
+        if (e.refusal != DEXTOLUMEN_BAD_VALUE || e.index != 0 || e.sum != 0 || memcmp(&e.board, &one, sizeof one) != 0) return 0;
+    }
+    return units_changed(0) == 0;
+}
+
+// A stream in one call on a board, and word by word over the same memories.
+static int board_stream_alike(unsigned units) {
+    static uint8_t translated[sizeof bytes];
+    uint32_t words[PER_STREAM];
+    size_t length = stream();
+    uint64_t count = dextolumen_unpack(bytes, length, words, PER_STREAM);
+    for (size_t k = 0; !(count & DEXTOLUMEN_REFUSED) && k < count; k++)
+        if (words[k] >> 16 == 15) words[k] |= (uint32_t)chips_code(units) << 6;
+    if (!(count & DEXTOLUMEN_REFUSED)) length = dextolumen_pack(words, count, translated, sizeof translated);
+    fill_units(units, below(TOGETHER / units + 1));
+    keep_units();
+    struct lent m = units_lent(), was = m;
+    struct dextolumen_board_ended one = board_run(units, count & DEXTOLUMEN_REFUSED ? bytes : translated, length, &m), two = {0};
+    for (unsigned u = 0; u < UNITS; u++) was.i[u] = lent(&unit_i_was[u]), was.z[u] = lent(&unit_z_was[u]);
+    two.board = dextolumen_board_reset(units).board;
+    two.refusal = count & DEXTOLUMEN_REFUSED ? dextolumen_refusal(count) : of_one_length(units) ? 0 : DEXTOLUMEN_BAD_RECORD;
+    for (; two.refusal == DEXTOLUMEN_ACCEPTED && two.index < count; two.index++) {
+        struct dextolumen_board_reply r = board_step(two.board, (uint8_t)(words[two.index] >> 16), (uint16_t)words[two.index], &was);
+        two.refusal = r.refusal, two.sum += r.passed, two.board = r.board;
+        if (two.refusal != DEXTOLUMEN_ACCEPTED) break;
+    }
+    board_told[units][one.refusal <= DEXTOLUMEN_NO_REGION ? one.refusal : DEXTOLUMEN_PAST_LAST]++;
+    return one.refusal == two.refusal && one.index == two.index && one.sum == two.sum && memcmp(&one.board, &two.board, sizeof one.board) == 0
+        && units_changed(0) == 0;
+}
+
 // The numbers that a word gets, and a read.
 static const uint8_t word_numbers[] = {0, 1, 2, 3, 4, 5, 6, 7, 8, 9, 10, 14}, read_numbers[] = {0, 2, 3, 6, 14};
+
+// Whether each number came; one that did not is told.
+static int all_came(const char *what, const uint64_t *told, const uint8_t *numbers, size_t count) {
+    for (size_t k = 0; k < count; k++)
+        if (told[numbers[k]] == 0) {
+            printf("storm: %s never got %u, %s\n", what, numbers[k], dextolumen_told_text(numbers[k]));
+            return 0;
+        }
+    return 1;
+}
 
 // How often each number came; each must have come.
 static int all_told(const char *what, const uint64_t *told, const uint8_t *numbers, size_t count) {
@@ -515,14 +773,40 @@ static int all_told(const char *what, const uint64_t *told, const uint8_t *numbe
     return 1;
 }
 
+// Everything at boards; tells whether something is missing.
+static int boards(void) {
+    while (at_boards < AT_BOARDS) board_scene(below(4) == 0);
+    for (unsigned units = 1; units <= UNITS; units *= 2) tall_board(units);
+    for (unsigned k = 0; k < STREAMS; k++)
+        if (!board_stream_alike(1u << k % 3)) {
+            printf("storm: stream %u: on a board one call and word by word end unlike\n", k);
+            return 1;
+        }
+    if (!others_refused()) {
+        printf("storm: another number of units is taken, or refused otherwise\n");
+        return 1;
+    }
+    printf("storm: %lu words at boards, each as at one chip, %lu at boards that there are not\n", (unsigned long)at_boards, (unsigned long)no_board);
+    for (unsigned units = 1; units <= UNITS; units *= 2) {
+        static const uint8_t several_words[] = {0, 1, 2, 3, 4, 5, 6, 7, 8, 9, 10, 11, 12}, several_reads[] = {2, 3, 5};
+        int whole = units == 1 ? all_came("a word or a stream on 1 unit", board_told[1], word_numbers, sizeof word_numbers)
+                                     && all_came("a read on 1 unit", board_seen[1], read_numbers, sizeof read_numbers)
+                               : all_came("a word or a stream on units", board_told[units], several_words, sizeof several_words)
+                                     && all_came("a read on units", board_seen[units], several_reads, sizeof several_reads);
+        printf("storm: %u units: %lu words accepted, %lu drew\n", units, (unsigned long)board_told[units][0], (unsigned long)board_drew[units]);
+        if (!whole || board_drew[units] == 0) return 1;
+    }
+    return no_board == 0 || board_high != 1 + 2 + 4;
+}
+
 int main(void) {
     held.record = dextolumen_reset();
     while (thrown < WORDS) scene(below(4) == 0);
     printf("storm: %lu words, %lu accepted\n", (unsigned long)thrown, (unsigned long)told_by[0]);
     if (!all_told("word", told_by, word_numbers, sizeof word_numbers) || !all_told("read", told_read, read_numbers, sizeof read_numbers)) return 1;
-    printf("storm: %lu triangles cut, %lu drawn before the section; %lu segments whole but for the bend; %lu words drew over tiles\n", (unsigned long)cut,
-        (unsigned long)uncut, (unsigned long)bends, (unsigned long)tiled);
-    if (cut == 0 || uncut == 0 || bends == 0 || tiled == 0) return 1;
+    printf("storm: %lu triangles cut, %lu drawn before the section; %lu segments whole but for the bend; %lu words drew over tiles, %lu a unit's columns\n",
+        (unsigned long)cut, (unsigned long)uncut, (unsigned long)bends, (unsigned long)tiled, (unsigned long)shared);
+    if (cut == 0 || uncut == 0 || bends == 0 || tiled == 0 || shared == 0) return 1;
     for (unsigned k = 0; k < FAR_SCENES; k++) far_scene(k % 2 == 0);
     printf("storm: %lu places changed in rows from 8192 on, %lu in columns from 8192 on\n", (unsigned long)high, (unsigned long)wide);
     if (high == 0 || wide == 0) return 1;
@@ -552,5 +836,5 @@ int main(void) {
         return 1;
     }
     printf("storm: %u streams in instalments, %lu broken intakes\n", STREAMS, (unsigned long)broken_in_all(broken));
-    return fflush(stdout) != 0;
+    return boards() || fflush(stdout) != 0;
 }

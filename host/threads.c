@@ -3,6 +3,7 @@
 // says. Stops at the first fault with status 1.
 // usage: threads < RECORDING
 #include "feed.h"
+#include "units.h"
 #include <pthread.h>
 #include <stdio.h>
 #include <stdlib.h>
@@ -30,17 +31,19 @@ struct memories {
     uint16_t i[PLACES], z[PLACES];
 };
 
-// What the ways come to: in one call, word by word, in instalments, and mended; and over tiles, in one call and word by word.
+// What the ways come to: in one call, word by word, in instalments, and mended; over tiles, in one call and word by word; and on a board of four in
+// one call, on a board of two word by word.
 struct outcome {
-    struct memories run, stepped, trickled, mended, tiled, tiles;
+    struct memories run, stepped, trickled, mended, tiled, tiles, four[UNITS], two[UNITS];
     uint64_t refusal[5], index[5], sum[5];
     struct dextolumen_registers registers[5];
     struct dextolumen_mended mend;
-    uint64_t words, packed, listed, copied, reads;
-    uint32_t unpacked[WORDS], squares[ROOM];
+    struct dextolumen_board boards[2];
+    uint64_t words, packed, listed, copied, reads, board_refusal[2], board_sum[2], board_read;
+    uint32_t unpacked[WORDS], for_four[WORDS], squares[ROOM];
     uint64_t indices[WORDS];
     uint16_t view[PLACES];
-    uint8_t out[LIMIT], good[LIMIT], numbers[WORDS];
+    uint8_t out[LIMIT], good[LIMIT], numbers[WORDS], packed_for_four[LIMIT];
 };
 
 static struct worker {
@@ -76,6 +79,42 @@ static uint64_t read_row(struct dextolumen_registers r, struct memories *m) {
     }
 }
 
+// Fresh memories for so many units, together as large as the chip's.
+static struct lent fresh_units(struct memories *unit, unsigned units) {
+    struct lent m;
+    for (unsigned u = 0; u < UNITS; u++) {
+        fresh(&unit[u]);
+        m.i[u] = unit[u].i, m.z[u] = unit[u].z;
+        m.i_length[u] = m.z_length[u] = u < units ? PLACES / units : 0;
+    }
+    return m;
+}
+
+static uint32_t for_board(unsigned units, uint32_t word) { return word >> 16 == 15 ? word | (uint32_t)chips_code(units) << 6 : word; }
+
+// The unpacked recording on boards: of four in one call, of two word by word, and a read there.
+static void take_boards(struct outcome *o) {
+    struct lent m = fresh_units(o->four, 4);
+    for (uint64_t k = 0; k < o->words; k++) o->for_four[k] = for_board(4, o->unpacked[k]);
+    struct dextolumen_board_ended e = board_run(4, o->packed_for_four, dextolumen_pack(o->for_four, o->words, o->packed_for_four, LIMIT), &m);
+    o->boards[0] = e.board, o->board_refusal[0] = e.refusal, o->board_sum[0] = e.sum;
+    m = fresh_units(o->two, 2);
+    o->boards[1] = dextolumen_board_reset(2).board;
+    for (uint64_t k = 0; k < o->words && o->board_refusal[1] == DEXTOLUMEN_ACCEPTED; k++) {
+        uint32_t word = for_board(2, o->unpacked[k]);
+        struct dextolumen_board_reply r = board_step(o->boards[1], (uint8_t)(word >> 16), (uint16_t)word, &m);
+        o->boards[1] = r.board, o->board_refusal[1] = r.refusal, o->board_sum[1] += r.passed;
+    }
+    o->board_read = board_read(o->boards[1], &m).refusal;
+}
+
+// Whether so many units show what one chip shows.
+static int read_together(const struct memories *unit, unsigned units, const struct memories *chip) {
+    for (size_t at = 0; at < PLACES; at++)
+        if (unit[at % units].i[at / units] != chip->i[at] || unit[at % units].z[at / units] != chip->z[at]) return 0;
+    return 1;
+}
+
 // Keeps an answer field by field: what stands between fields is nobody's.
 static void keep(struct outcome *o, size_t way, struct dextolumen_ended e) {
     o->refusal[way] = e.refusal;
@@ -105,6 +144,7 @@ static void take(struct outcome *o) {
     o->listed = dextolumen_squares(before, PLACES, o->run.i, PLACES, WIDTH, ROWS, o->squares, ROOM);
     o->copied = dextolumen_copy_squares(o->squares, o->listed, o->run.i, PLACES, WIDTH, ROWS, o->view, PLACES);
     o->reads = read_row(o->registers[0], &o->run);
+    take_boards(o);
 }
 
 // What must be so of the calls by themselves.
@@ -116,6 +156,10 @@ static void look(const struct outcome *o) {
     if (o->words != o->index[0] || o->packed != length || memcmp(o->out, bytes, length) != 0) fault("unpacked and packed it is another recording");
     if (o->listed == 0 || o->copied != o->listed || memcmp(o->view, o->run.i, sizeof o->view) != 0) fault("the viewer shows another picture");
     if (o->reads < WIDTH) fault("a row has fewer pixels");
+    if (o->board_refusal[0] != DEXTOLUMEN_ACCEPTED || o->board_sum[0] != o->sum[0]) fault("a board of four tells otherwise");
+    if (o->board_refusal[1] != DEXTOLUMEN_ACCEPTED || o->board_sum[1] != o->sum[0]) fault("a board of two tells otherwise");
+    if (!read_together(o->four, 4, &o->run) || !read_together(o->two, 2, &o->run)) fault("boards draw unlike pictures");
+    if (o->board_read != DEXTOLUMEN_UNMODELLED) fault("two units are read");
 }
 
 // ---- the threads

@@ -53,10 +53,10 @@ extern "C" {
 enum {
     DEXTOLUMEN_ACCEPTED = 0,      /* not refused */
     DEXTOLUMEN_BAD_COMMAND = 1,   /* the command is above 15; a word to be packed has more than 20 bits */
-    DEXTOLUMEN_BAD_RECORD = 2,    /* the two memories or pictures differ in length, or the record breaks a bound */
+    DEXTOLUMEN_BAD_RECORD = 2,    /* two memories, or the pictures, differ in length, or the record breaks a bound */
     DEXTOLUMEN_NO_INIT = 3,       /* any word but INIT, or a read, before the first accepted INIT */
     DEXTOLUMEN_RESERVED = 4,      /* command 7 or C hex */
-    DEXTOLUMEN_UNMODELLED = 5,    /* command A hex; AUX 11 */
+    DEXTOLUMEN_UNMODELLED = 5,    /* command A hex; AUX 11; on a board of several units, command 0 or 9 and a read */
     DEXTOLUMEN_AWAITS_PARM = 6,   /* a parameter is awaited, and it is a read or a word that is neither PARM nor INIT */
     DEXTOLUMEN_NO_PARM = 7,       /* PARM with none awaited */
     DEXTOLUMEN_BAD_AUX = 8,       /* AUX above 12 */
@@ -114,7 +114,7 @@ struct dextolumen_vertex {
     uint16_t x, y, i, z;
 };
 
-/* The line length; and how pixels lie in both memories, 0 rows one after the other, 1 tiles of four by four. */
+/* The line length; and how pixels lie in both memories, 0 rows one after the other, 1 tiles of four by four, 2 to 7 what a unit of a board has. */
 struct dextolumen_frame {
     uint16_t line, layout;
 };
@@ -190,6 +190,39 @@ struct dextolumen_ended {
     struct dextolumen_registers registers;
 };
 
+/* A board of so many units, 1, 2 or 4, and its registers, which are those of one chip: `frame.layout` stays 0. It comes from dextolumen_board_reset and the
+   calls after it. Any 96 bytes are a board all the same: one of another number of units, of another layout or with a record that breaks a
+   bound is refused with BAD_RECORD. */
+struct dextolumen_board {
+    uint16_t units;
+    struct dextolumen_registers registers;
+};
+
+/* The answer to a reset: its number, and the board. */
+struct dextolumen_board_started {
+    uint64_t refusal;
+    struct dextolumen_board board;
+};
+
+/* The answer of a board to a word: its number, how many pixels passed in all units (0 where it is refused), and the next board. */
+struct dextolumen_board_reply {
+    uint64_t refusal, passed;
+    struct dextolumen_board board;
+};
+
+/* The answer of a board to a read: its number, the pixel (0 where it is refused), and the next board. */
+struct dextolumen_board_seen {
+    uint64_t refusal;
+    uint16_t pixel;
+    struct dextolumen_board board;
+};
+
+/* How a run over a board ended: as dextolumen_ended, with the last board. */
+struct dextolumen_board_ended {
+    uint64_t refusal, index, sum;
+    struct dextolumen_board board;
+};
+
 /* What became of a damaged recording: the number that refused it; the length of the new stream; how many words were dropped; how many bits were
    cut from the end; and whether a closing half byte that was not 0 was cleared, 1 or 0. Refused, it tells its number and else 0. */
 struct dextolumen_mended {
@@ -253,6 +286,40 @@ struct dextolumen_ended dextolumen_run(const uint8_t *bytes, size_t length, uint
 /* The same from dextolumen_reset_tiled, over memories in tiles. */
 struct dextolumen_ended dextolumen_run_tiled(const uint8_t *bytes, size_t length, uint16_t *i_memory, size_t i_length, uint16_t *z_memory,
                                              size_t z_length);
+
+/* ---- a board of one, two or four units */
+
+/* Bigger consoles interleave columns: of N units, unit u has the pixels (x, y) with x mod N = u, in two memories of its own, at place
+   y * (line / N) + x / N. Place p of one chip's memories is place p / N of unit p % N. Memories are lent for four units, in order, the I memory of each
+   before its Z memory; those of units that the board lacks are neither looked at nor touched (lend some array, and length 0). All memories of
+   the board's units have one length, else BAD_RECORD. */
+
+/* A board of 1, 2 or 4 units after reset. Another number is refused with BAD_VALUE, and the answer has a board of one unit. */
+struct dextolumen_board_started dextolumen_board_reset(uint64_t units);
+
+/* Takes a word, gives it to every unit, and answers with the next board. INIT comes with unit 0 and the chips code of the board, 0, 1 or 2 for 1, 2 or 4
+   units, else BAD_VALUE; commands 0 and 9 are UNMODELLED on more than one unit. Else a word gets the number that one chip gives it, and the count is
+   what all units passed together. A refused word changes neither board nor memories. */
+struct dextolumen_board_reply dextolumen_board_step(struct dextolumen_board board, uint8_t command, uint16_t data, uint16_t *i0, size_t i0_length,
+                                                    uint16_t *z0, size_t z0_length, uint16_t *i1, size_t i1_length, uint16_t *z1,
+                                                    size_t z1_length, uint16_t *i2, size_t i2_length, uint16_t *z2, size_t z2_length,
+                                                    uint16_t *i3, size_t i3_length, uint16_t *z3, size_t z3_length);
+
+/* Reads the region's pixel and moves the region on, on a board of one unit, as dextolumen_read does. On more it is refused: BAD_RECORD, NO_INIT,
+   UNMODELLED, in that order. A refused read gives pixel 0 and the board as it was. */
+struct dextolumen_board_seen dextolumen_board_read(struct dextolumen_board board, const uint16_t *i0, size_t i0_length, const uint16_t *z0,
+                                                   size_t z0_length, const uint16_t *i1, size_t i1_length, const uint16_t *z1,
+                                                   size_t z1_length, const uint16_t *i2, size_t i2_length, const uint16_t *z2,
+                                                   size_t z2_length, const uint16_t *i3, size_t i3_length, const uint16_t *z3,
+                                                   size_t z3_length);
+
+/* Runs a packed stream from the reset of a board of so many units until a word is refused; words before it keep their effect. What is refused before
+   the first word (BAD_VALUE for the number of units, then BAD_LENGTH, BAD_TAIL, BAD_RECORD) ends with index and sum 0, the board that
+   dextolumen_board_reset answers, and all memories untouched. */
+struct dextolumen_board_ended dextolumen_board_run(uint64_t units, const uint8_t *bytes, size_t length, uint16_t *i0, size_t i0_length,
+                                                   uint16_t *z0, size_t z0_length, uint16_t *i1, size_t i1_length, uint16_t *z1,
+                                                   size_t z1_length, uint16_t *i2, size_t i2_length, uint16_t *z2, size_t z2_length,
+                                                   uint16_t *i3, size_t i3_length, uint16_t *z3, size_t z3_length);
 
 /* ---- a packed stream in instalments */
 
@@ -379,6 +446,25 @@ DEXTOLUMEN_AT(dextolumen_intake, held, 24);
 DEXTOLUMEN_AT(dextolumen_intake, count, 28);
 DEXTOLUMEN_AT(dextolumen_intake, over, 32);
 DEXTOLUMEN_AT(dextolumen_intake, registers, 36);
+DEXTOLUMEN_SIZE(dextolumen_board, 96, 2);
+DEXTOLUMEN_AT(dextolumen_board, units, 0);
+DEXTOLUMEN_AT(dextolumen_board, registers, 2);
+DEXTOLUMEN_SIZE(dextolumen_board_started, 104, 8);
+DEXTOLUMEN_AT(dextolumen_board_started, refusal, 0);
+DEXTOLUMEN_AT(dextolumen_board_started, board, 8);
+DEXTOLUMEN_SIZE(dextolumen_board_reply, 112, 8);
+DEXTOLUMEN_AT(dextolumen_board_reply, refusal, 0);
+DEXTOLUMEN_AT(dextolumen_board_reply, passed, 8);
+DEXTOLUMEN_AT(dextolumen_board_reply, board, 16);
+DEXTOLUMEN_SIZE(dextolumen_board_seen, 112, 8);
+DEXTOLUMEN_AT(dextolumen_board_seen, refusal, 0);
+DEXTOLUMEN_AT(dextolumen_board_seen, pixel, 8);
+DEXTOLUMEN_AT(dextolumen_board_seen, board, 10);
+DEXTOLUMEN_SIZE(dextolumen_board_ended, 120, 8);
+DEXTOLUMEN_AT(dextolumen_board_ended, refusal, 0);
+DEXTOLUMEN_AT(dextolumen_board_ended, index, 8);
+DEXTOLUMEN_AT(dextolumen_board_ended, sum, 16);
+DEXTOLUMEN_AT(dextolumen_board_ended, board, 24);
 DEXTOLUMEN_SIZE(dextolumen_mended, 40, 8);
 DEXTOLUMEN_AT(dextolumen_mended, refusal, 0);
 DEXTOLUMEN_AT(dextolumen_mended, size, 8);

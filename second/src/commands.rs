@@ -3,7 +3,7 @@
 use crate::figures::{last_step, Figure};
 use crate::picture::Pixel;
 use crate::regions::Region;
-use crate::registers::{bit, init_line_length, Awaiting, Line, Made, Open, Registers, Vertex, Window};
+use crate::registers::{bit, Awaiting, InitData, Line, Made, Open, Registers, Vertex, Window};
 use crate::stream::Word;
 
 pub const PTRN: i64 = 0x0;
@@ -81,7 +81,7 @@ pub fn refusal(registers: &Registers, word: Word) -> i64 {
 
 /// Whether the row of the table with this number applies to a word,
 /// whatever the other rows say.
-fn applies(number: i64, registers: &Registers, word: Word) -> bool {
+pub fn applies(number: i64, registers: &Registers, word: Word) -> bool {
     let Word { command, data } = word;
     let awaited = registers.awaiting.is_some();
     match number {
@@ -111,7 +111,7 @@ pub fn transfer_refusal(registers: &Registers, from_memory: bool) -> i64 {
 /// Row 9: whether the word's value is allowed.
 fn value_allowed(registers: &Registers, word: Word) -> bool {
     match word.command {
-        INIT => init_line_length(word.data).is_some(),
+        INIT => InitData::of(word.data).is_allowed(0),
         Y | X | T1X | T2X | LX | PX => word.data <= LARGEST_COORDINATE,
         IMG => only_bits_of(word.data, IMAGE_BITS),
         PARM => match &registers.awaiting {
@@ -166,14 +166,15 @@ pub fn parameter_count(subcommand: i64) -> usize {
 }
 
 /// The effect of a word that is not refused.
-fn accept(mut registers: Registers, word: Word) -> Accepted {
+pub fn accept(mut registers: Registers, word: Word) -> Accepted {
     let data = word.data;
     let mut figure = None;
     let mut pixel = None;
     match word.command {
         INIT => {
-            let length = init_line_length(data).expect("judged before");
-            registers = Registers::initial(length, registers.layout);
+            let asked = InitData::of(data);
+            let length = asked.line_length().expect("judged before");
+            registers = Registers::initial(length, registers.layout.after_init(asked));
         }
         AUX => registers.awaiting = Some(Awaiting { subcommand: data, parked: Vec::new() }),
         IMG => {

@@ -46,19 +46,24 @@ fn mixed(mut program: Program) -> Vec<u8> {
 fn bad_word_late(mut program: Program) -> Vec<u8> {
     let words = program.random.from_to(100, 900) as usize;
     program.drawing(words);
-    match program.random.below(8) {
-        0 => reserved_command(&mut program),
-        1 => command_not_modelled(&mut program),
-        2 => word_for_a_parameter(&mut program),
-        3 => stray_parameter(&mut program),
-        4 => high_subcommand(&mut program),
-        5 => value_not_allowed(&mut program),
-        6 => transfer_without_region(&mut program),
-        _ => point_without_figure(&mut program),
-    }
+    bad_word(&mut program);
     let after = program.words.len() + program.random.below(60) as usize;
     program.draw_until(after);
     program.bytes()
+}
+
+/// A word that is refused, of any kind, behind those that it needs for it.
+pub fn bad_word(program: &mut Program) {
+    match program.random.below(8) {
+        0 => reserved_command(program),
+        1 => command_not_modelled(program),
+        2 => word_for_a_parameter(program),
+        3 => stray_parameter(program),
+        4 => high_subcommand(program),
+        5 => value_not_allowed(program),
+        6 => transfer_without_region(program),
+        _ => point_without_figure(program),
+    }
 }
 
 /// Leaves a parameter awaited now and then.
@@ -69,7 +74,7 @@ fn perhaps_await(program: &mut Program) {
 }
 
 /// A subcommand with not all of its parameters.
-fn await_parameter(program: &mut Program) {
+pub fn await_parameter(program: &mut Program) {
     if program.random.once_in(6) {
         let direction = program.random.below(2);
         program.push(IMG, direction);

@@ -2,6 +2,9 @@
 //! the rules alone and without an eye to speed: every pixel around a figure
 //! is asked whether the figure holds it.
 
+mod board;
+mod boardcalls;
+mod boards;
 mod commands;
 mod cuts;
 mod damages;
@@ -39,7 +42,7 @@ use std::io::{self, Read, Write};
 use std::process::ExitCode;
 
 const USAGE: &str = "usage: second draw | receive | pack | unpack | generate SEED | seeds FIRST COUNT DIR | cuts FIRST COUNT DIR | vectors DIR | \
-    shares FIRST COUNT | mend | damages FIRST COUNT DIR | squares FIRST COUNT DIR | answer | scripts FIRST COUNT DIR | \
+    shares FIRST COUNT | mend | damages FIRST COUNT DIR | squares FIRST COUNT DIR | answer | scripts FIRST COUNT DIR | boards FIRST COUNT DIR | \
     overdraw | directories FIRST COUNT DIR | surface | image PLACES";
 
 fn main() -> ExitCode {
@@ -65,6 +68,7 @@ fn dispatch(arguments: &[&str]) -> Result<(), String> {
         ["cuts", first, count, directory] => cuts::write(number(first)?, number(count)?, directory),
         ["answer"] => answer(),
         ["scripts", first, count, directory] => scripts::write(number(first)?, number(count)?, directory),
+        ["boards", first, count, directory] => boards::write(number(first)?, number(count)?, directory),
         ["vectors", directory] => vectors::write(directory),
         ["shares", first, count] => print_shares(number(first)?, number(count)?),
         ["mend"] => mend(),

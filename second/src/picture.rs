@@ -41,14 +41,16 @@ impl Picture {
         Picture { i: vec![0; places], z: vec![FARTHEST; places], ties: Ties::default() }
     }
 
-    /// The whole rows that fit, in tiles those of the whole bands of four, at
-    /// most 16,384.
+    /// The whole rows that fit, in tiles those of the whole bands of four, and
+    /// for a unit those of its columns; at most 16,384.
     pub fn rows(&self, registers: &Registers) -> i64 {
-        let rows = self.i.len() as i64 / registers.line_length;
-        match registers.layout {
-            Layout::Rows => rows.min(MOST_ROWS),
-            Layout::Tiles => (rows - rows % 4).min(MOST_ROWS),
-        }
+        let (places, line_length) = (self.i.len() as i64, registers.line_length);
+        let rows = match registers.layout {
+            Layout::Rows => places / line_length,
+            Layout::Tiles => places / line_length - places / line_length % 4,
+            Layout::Columns { of, .. } => places / (line_length / of),
+        };
+        rows.min(MOST_ROWS)
     }
 
     /// Draws a figure under the settings of the registers, and counts the
@@ -153,7 +155,7 @@ impl Picture {
 
 /// Where a pixel inside the memory stands. In tiles a band of four rows has
 /// four times the line length of places, and each tile along it sixteen, row
-/// by row.
+/// by row. A unit is asked for its own columns only.
 fn place(x: i64, y: i64, registers: &Registers) -> usize {
     let line_length = registers.line_length;
     let place = match registers.layout {
@@ -162,18 +164,29 @@ fn place(x: i64, y: i64, registers: &Registers) -> usize {
             let (band, tile) = (y.div_euclid(4), x.div_euclid(4));
             4 * line_length * band + 16 * tile + 4 * (y - 4 * band) + (x - 4 * tile)
         }
+        Layout::Columns { of, .. } => y * (line_length / of) + x / of,
     };
     place as usize
 }
 
-/// The numbers that a figure offers at a pixel of the memory, if the window,
-/// the transparency pattern and the section let it.
+/// The numbers that a figure offers at a pixel of the memory, if it is in a
+/// column of the unit and the window, the transparency pattern and the section
+/// let it.
 fn offered(figure: &Figure, registers: &Registers, x: i64, y: i64) -> Option<Numbers> {
     let shown = inside_window(&registers.window, x, y) && unmasked(figure, registers.transparency, x, y);
-    if shown {
+    if shown && has_column(registers.layout, x) {
         figure.at(registers, x, y).filter(|numbers| !is_cut(figure, *numbers, registers))
     } else {
         None
+    }
+}
+
+/// Unit u of a board of N has the columns x with x mod N = u (document 02,
+/// [8]); one chip has all.
+fn has_column(layout: Layout, x: i64) -> bool {
+    match layout {
+        Layout::Rows | Layout::Tiles => true,
+        Layout::Columns { unit, of } => x % of == unit,
     }
 }
 

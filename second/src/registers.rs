@@ -53,12 +53,25 @@ pub struct Awaiting {
     pub parked: Vec<i64>,
 }
 
-/// How pixels lie in both memories: rows one after the other, or tiles of
-/// four by four (document 02, [9]).
+/// How pixels lie in both memories: rows one after the other, tiles of four
+/// by four (document 02, [9]), or those columns that a unit of a board has
+/// (document 02, [8]).
 #[derive(Clone, Copy, Debug, PartialEq, Eq)]
 pub enum Layout {
     Rows,
     Tiles,
+    Columns { unit: i64, of: i64 },
+}
+
+impl Layout {
+    /// INIT tells a unit of a board its number; where it names one chip, the
+    /// layout stays.
+    pub fn after_init(self, asked: InitData) -> Layout {
+        match asked.chips {
+            0 => self,
+            chips => Layout::Columns { unit: asked.unit, of: 2_i64.pow(chips as u32) },
+        }
+    }
 }
 
 pub const GOURAUD: i64 = 0;
@@ -69,7 +82,7 @@ pub struct Registers {
     /// An INIT was accepted since reset.
     pub initialised: bool,
     pub line_length: i64,
-    /// Chosen at reset; it stays through INIT.
+    /// Chosen at reset; it stays through INIT, save on a board.
     pub layout: Layout,
     /// 0 Gouraud, 1 constant.
     pub shading: i64,
@@ -214,17 +227,29 @@ pub fn line_length_of(code: i64) -> Option<i64> {
     LINE_LENGTHS.iter().find(|row| row.0 == code).map(|row| row.1)
 }
 
-/// The line length that INIT data asks for, if all of it is allowed: bits
-/// 13 to 8 line code, 7 and 6 chips, 5 and 4 unit, 3 to 0 page code; bits
-/// 15 and 14 have no effect.
-pub fn init_line_length(data: i64) -> Option<i64> {
-    let code = data / 256 % 64;
-    let chips = data / 64 % 4;
-    let unit = data / 16 % 4;
-    let page = data % 16;
-    if chips == 0 && unit == 0 && page <= 7 {
-        line_length_of(code)
-    } else {
-        None
+/// What INIT data asks for.
+#[derive(Clone, Copy, Debug, PartialEq, Eq)]
+pub struct InitData {
+    pub code: i64,
+    pub chips: i64,
+    pub unit: i64,
+    pub page: i64,
+}
+
+impl InitData {
+    /// Bits 13 to 8 line code, 7 and 6 chips, 5 and 4 unit, 3 to 0 page code;
+    /// bits 15 and 14 have no effect.
+    pub fn of(data: i64) -> InitData {
+        InitData { code: data / 256 % 64, chips: data / 64 % 4, unit: data / 16 % 4, page: data % 16 }
+    }
+
+    /// Whether INIT with this data is allowed where so many chips, by their
+    /// code, are.
+    pub fn is_allowed(self, chips: i64) -> bool {
+        self.chips == chips && self.unit == 0 && self.page <= 7 && self.line_length().is_some()
+    }
+
+    pub fn line_length(self) -> Option<i64> {
+        line_length_of(self.code)
     }
 }

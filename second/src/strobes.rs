@@ -45,23 +45,28 @@ impl Machine {
     /// The read call: its refusal, and the pixel, which is 0 if refused.
     /// Number 2 cannot apply here.
     pub fn read(&mut self) -> (i64, i64) {
-        let refusal = match &self.registers {
-            registers if !registers.initialised => 3,
-            registers if registers.awaiting.is_some() => 6,
-            registers => transfer_refusal(registers, true),
-        };
-        match self.registers.region {
-            Some(region) if refusal == 0 => {
-                let (x, y) = region.pixel();
-                self.registers.region = Some(region.moved_on());
-                (0, self.picture.read(x, y, &self.registers))
-            }
-            _ => (refusal, 0),
-        }
+        read(&mut self.registers, &self.picture)
     }
 
     fn picture_text(&self) -> String {
         lit_places(self.registers.line_length, &self.picture)
+    }
+}
+
+/// The read call on registers and memories of one length.
+pub fn read(registers: &mut Registers, picture: &Picture) -> (i64, i64) {
+    let refusal = match &*registers {
+        registers if !registers.initialised => 3,
+        registers if registers.awaiting.is_some() => 6,
+        registers => transfer_refusal(registers, true),
+    };
+    match registers.region {
+        Some(region) if refusal == 0 => {
+            let (x, y) = region.pixel();
+            registers.region = Some(region.moved_on());
+            (0, picture.read(x, y, registers))
+        }
+        _ => (refusal, 0),
     }
 }
 

@@ -5,3 +5,4 @@ pub mod WorkedLine
 pub mod Stream
 pub mod Read
 pub mod Demands
+pub mod Units

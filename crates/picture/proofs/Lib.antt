@@ -9,5 +9,6 @@ pub mod Members
 pub mod Passed
 pub mod Settled
 pub mod Stores
+pub mod Strides
 pub mod Planes
 pub mod Pictures

@@ -175,7 +175,7 @@ unfolding inMemory
 inside-of frame rows x y h k m = rw (lt-ltb _ _ h, lt-ltb _ _ k, m)
 
 -- of tests neither of which holds
-or-none : (a b : Bool) → a || b ≡ false → (a ≡ false) × (b ≡ false)
+pub or-none : (a b : Bool) → a || b ≡ false → (a ≡ false) × (b ≡ false)
 or-none true b e = absurd (true≢false e)
 or-none false b e = (refl, e)
 

@@ -172,8 +172,3 @@ module _ (pen : Pen) (rows : ℕ) (kind : Kind) (lo y : ℕ) (i z : Carried) (j 
       e
       ∙ ap₂ (λ (a b : ℕ). drawn pen (shown pen (offer kind (lo + j) y a b)) p) ei ez
       ∙ ap (λ (os : List Offer). drawn pen os p) (sym (seen-inside pen rows (spanPixel kind lo y i z j) h))
-
-  -- of a run whose pixels may lie outside
-  pub apart-turn : (p : Picture) {q : Picture} {iw zw : ℕ} → iw ≡ carriedTo i j → zw ≡ carriedTo z j
-      → q ≡ drawn pen (seen pen rows (offer kind (lo + j) y iw zw)) p → q ≡ drawn pen (seen pen rows (spanPixel kind lo y i z j)) p
-  apart-turn p ei ez e = e ∙ ap₂ (λ (a b : ℕ). drawn pen (seen pen rows (offer kind (lo + j) y a b)) p) ei ez

@@ -1,5 +1,6 @@
 -- Offers laid end to end: where nothing is offered, and how a loop goes through them. Assumes nothing.
 use mathlib.Core.Path.{_≡_, refl, sym, ap, ap₂, _∙_}
+use mathlib.Core.Logic.{_⊎_, ⊎-elim}
 use mathlib.Core.List.{List, [], _++_, append-nil, append-assoc}
 use Prim.Native.Nat.{ℕ, zero, suc, _+_, _-_, _*_, _≤_, _<_, zero-le}
 use native.Mathlib.Nat.{add-zero, add-suc, add-sub-of-le, suc-mul}
@@ -55,6 +56,20 @@ spans-part f lo hi n l h a b =
     ∙ ap (spans f) (sym (add-sub-of-le l))
     ∙ spans-from f lo (hi - lo)
     ∙ ap (λ (os : List Offer). os ++ spans (λ j. f (lo + j)) (hi - lo)) (spans-none f lo a)
+
+-- where f has nothing but at some places, and these are counted, its offers are those that g has one after the other
+pub spans-some : (f g : ℕ → List Offer) (count : ℕ → ℕ) (n : ℕ) → count 0 ≡ 0
+    → ((k : ℕ) → k < n → ((f k ≡ []) × (count (k + 1) ≡ count k)) ⊎ ((f k ≡ g (count k)) × (count (k + 1) ≡ count k + 1)))
+    → spans f n ≡ spans g (count n)
+spans-some f g count zero start turn = rw (start) (spans-zero f ∙ sym (spans-zero g))
+spans-some f g count (suc n) start turn =
+    let rest = spans-some f g count n start (λ k l. turn k (omega (arith, l))) in
+    ⊎-elim
+    (λ t.
+    spans-suc f n ∙ ap₂ (λ (a b : List Offer). a ++ b) rest (t .0) ∙ append-nil (spans g (count n)) ∙ ap (spans g) (sym (t .1) ∙ ap count (add-one n)))
+    (λ t.
+    spans-suc f n ∙ ap₂ (λ (a b : List Offer). a ++ b) rest (t .0) ∙ sym (spans-suc g (count n)) ∙ ap (spans g) (sym (ap count (sym (add-one n)) ∙ t .1 ∙ add-one (count n))))
+    (turn n (omega arith))
 
 -- no more than m at each place
 pub spans-length : (f : ℕ → List Offer) (m n : ℕ) → ((k : ℕ) → length (f k) ≤ m) → length (spans f n) ≤ n * m

@@ -1,14 +1,19 @@
 -- What the code of a row leans on. No promise of a public call cites anything here.
-use Prim.Native.Nat.{ℕ, _+_, _*_, _/_}
+use Prim.Native.Nat.{ℕ, _+_, _-_, _*_, _/_, _%_, _^_, _≤_, _<_}
 use mathlib.Core.Path.{_≡_}
+use mathlib.Core.Logic.{_⊎_}
 use mathlib.Core.Bool.{Bool, true, false, cond, not, _||_}
+use mathlib.Core.List.{List}
 use lib.ListN.{getD, set}
+use Rattle.picture.specs.declared.Carried.{Carried}
+use Rattle.picture.specs.declared.Frame.{Frame}
 use Rattle.picture.specs.declared.Pen.{Pen}
 use Rattle.picture.specs.declared.Kind.{Kind}
 use Rattle.picture.specs.declared.Compared.{Compared}
 use Rattle.picture.specs.declared.Compared.the-variants.{Nearer, Equal, Farther}
-use Rattle.picture.specs.Place.{Layout, plain, tiled, share}
-use Rattle.picture.specs.Offer.{isMasked, shows}
+use Rattle.picture.specs.Place.{Layout, plain, tiled, share, layoutOf}
+use Rattle.picture.specs.Offer.{Offer, offer, isMasked, shows}
+use Rattle.picture.specs.Draw.{spans, shown, carriedTo}
 use Rattle.picture.specs.Picture.{isDeep, comparedOf, isEdge, Picture, picture}
 
 -- nothing but a nearer depth decides, and both numbers are stored whole
@@ -40,3 +45,28 @@ bandEnd (share ways unit) y = y + 1
 -- how far a row's pixel x lies from its first one in tiles: four side by side, and twelve of other rows between those and the next four
 abbrev pub alongTiles : ℕ → ℕ
 alongTiles x = x + 12 * (x / 4)
+
+-- ---- what a unit of a board has of a row
+
+-- the frame is that of a unit of so many, two or four
+pub record Shares (frame : Frame) (ways : ℕ) : Type 0 where
+  pub few : (ways ≡ 2) ⊎ (ways ≡ 4)
+  pub least : ways ≤ frame .layout
+  pub most : frame .layout < 2 * ways
+  pub is : layoutOf frame ≡ share ways (frame .layout - ways)
+
+-- how many columns from column lo on the first one that it has is
+unfoldable pub untilOwn : ℕ → ℕ → ℕ → ℕ
+untilOwn ways layout lo = (layout - lo % ways) % ways
+
+-- how many it has of so many columns, where that is the first
+unfoldable pub ownBelow : ℕ → ℕ → ℕ → ℕ
+ownBelow ways first n = (n + (ways - 1 - first)) / ways
+
+-- a carried number of each of so many pixels, from pixel `first` on
+abbrev pub stridden : Carried → ℕ → ℕ → Carried
+stridden c first ways = record { first = (c .first + (first * c .add) % 2 ^ 64) % 2 ^ 64; add = (ways * c .add) % 2 ^ 64 }
+
+-- the pixels that it has, so many of them from column x on, their numbers carried from one to the next
+unfoldable pub ownOffers : Pen → Kind → ℕ → ℕ → ℕ → ℕ → Carried → Carried → List Offer
+ownOffers pen kind ways x count y i z = spans (λ j. shown pen (offer kind (x + ways * j) y (carriedTo i j) (carriedTo z j))) count

@@ -1,11 +1,11 @@
 // What figures are drawn with: a pixel, and a run of pixels of one row.
 ghost use mathlib.Core.Path.{_≡_};
-ghost use mathlib.Core.Bool.{true};
-ghost use Prim.Native.Nat.{_+_, _/_, _^_, _≤_, _<_, min};
+ghost use mathlib.Core.Bool.{true, false};
+ghost use Prim.Native.Nat.{_+_, _*_, _/_, _%_, _^_, _≤_, _<_, min};
 ghost use lib.ListN.{length};
-ghost use Rattle.picture.specs.Draw.{placed, shown, seen, spanOffers};
-ghost use Rattle.picture.specs.Loops.{Plain};
-ghost use Rattle.picture.specs.Place.{liesPlain, liesTiled, placeOf, rowsOf};
+ghost use Rattle.picture.specs.Draw.{placed, shown, spanOffers};
+ghost use Rattle.picture.specs.Loops.{Plain, Shares, stridden, ownOffers};
+ghost use Rattle.picture.specs.Place.{liesPlain, liesTiled, layoutOf, placeOf, rowsOf, mine};
 ghost use Rattle.picture.specs.Offer.{keep, offer};
 ghost use Rattle.picture.specs.Picture.{picture, drawn};
 use crate::Carried;
@@ -19,10 +19,11 @@ use crate::pixel::put_at;
 use crate::pixel::put_nearer;
 use crate::place::along_tiles;
 use crate::place::has_row;
-use crate::place::is_inside;
 use crate::place::lies_plain;
 use crate::place::lies_tiled;
 use crate::place::place;
+use crate::place::until_own;
+use crate::place::ways_of;
 
 // A pixel of a figure, drawn where it is offered. Answers how many pixels passed.
 pub fn put(
@@ -185,58 +186,63 @@ fn fill_tiled(
     passed
 }
 
-// A pixel that may lie outside the memory; n is the count so far.
-fn draw_seen(
-    pen: Pen,
-    kind: Kind,
-    plain: bool,
-    x: u16,
-    y: u16,
-    i: u16,
-    z: u16,
-    im: &mut [u16],
-    zm: &mut [u16],
-    n: u64,
-) -> u64
-    requires { ⌜ (plain ≡ true → Plain pen kind) × (n ≤ 65535) ⌝ }
-    ensures { λ r. ⌜ (picture (now (im .exit)) (now (zm .exit)) r ≡ drawn pen (seen pen (rowsOf (pen .frame) (length (now (im .entry))) (length (now (zm .entry)))) (offer kind x y i z)) (picture (now (im .entry)) (now (zm .entry)) n)) × (r ≤ n + 1) ⌝ }
+// So many times a number, modulo 2^64.
+fn times(n: u64, k: u16) -> u64
+    ensures { λ r. ⌜ r ≡ (k * n) % 2 ^ 64 ⌝ }
 {
-    let frame = pen.frame;
-    if is_inside(frame, x, y, im.len(), zm.len()) {
-        let at = place(frame, x, y);
-        return draw_one(pen, kind, plain, x, y, at, i, z, im, zm, n);
+    let mut sum: u64 = 0;
+    let mut j: u16 = 0;
+    while j < k {
+        sum = std::num::wrapping_add_u64(sum, n);
+        j += 1;
     }
-    n
+    sum
 }
 
-// The pixels of a row from column lo up to and without hi, each where it lies, if it lies inside the memory.
-fn fill_apart(
+// A carried number of each of so many pixels, from pixel `first` on.
+fn strided(c: Carried, first: u16, ways: u16) -> Carried
+    ensures { λ r. ⌜ r ≡ stridden c first ways ⌝ }
+{
+    let skipped = times(c.add, first);
+    let start = std::num::wrapping_add_u64(c.first, skipped);
+    let add = times(c.add, ways);
+    Carried {
+        first: start,
+        add: add,
+    }
+}
+
+// So many pixels of a row in use that a unit has, from its column x on: each so many columns on, and side by side.
+fn fill_own(
     pen: Pen,
     kind: Kind,
-    lo: u16,
-    hi: u16,
+    ways: u16,
+    x: u16,
+    count: u16,
     y: u16,
     i: Carried,
     z: Carried,
     im: &mut [u16],
     zm: &mut [u16],
 ) -> u64
-    requires { ⌜ lo < hi ⌝ }
-    ensures { λ r. ⌜ picture (now (im .exit)) (now (zm .exit)) r ≡ drawn pen (spanOffers pen (rowsOf (pen .frame) (length (now (im .entry))) (length (now (zm .entry)))) kind lo hi y i z) (picture (now (im .entry)) (now (zm .entry)) 0) ⌝ }
+    requires { ⌜ (Shares (pen .frame) ways) × (mine (layoutOf (pen .frame)) x ≡ true) × (x + ways * count < pen .frame .line + ways) × (y < rowsOf (pen .frame) (length (now im)) (length (now zm))) ⌝ }
+    ensures { λ r. ⌜ picture (now (im .exit)) (now (zm .exit)) r ≡ drawn pen (ownOffers pen kind ways x count y i z) (picture (now (im .entry)) (now (zm .entry)) 0) ⌝ }
 {
     let plain = is_plain(pen, kind);
-    let count = hi - lo;
+    let frame = pen.frame;
+    let base = place(frame, x, y);
     let mut ki = i.first;
     let mut kz = z.first;
     let mut j: u16 = 0;
     let mut passed: u64 = 0;
     while j < count {
-        passed = draw_seen(
+        passed = draw_one(
             pen,
             kind,
             plain,
-            lo + j,
+            x + ways * j,
             y,
+            base + (j as usize),
             whole(ki),
             whole(kz),
             im,
@@ -248,6 +254,34 @@ fn fill_apart(
         j += 1;
     }
     passed
+}
+
+// The same where a unit of a board has each of so many columns.
+fn fill_shared(
+    pen: Pen,
+    kind: Kind,
+    lo: u16,
+    hi: u16,
+    y: u16,
+    i: Carried,
+    z: Carried,
+    im: &mut [u16],
+    zm: &mut [u16],
+) -> u64
+    requires { ⌜ (lo < hi) × (hi ≤ pen .frame .line) × (y < rowsOf (pen .frame) (length (now im)) (length (now zm))) × (liesPlain (pen .frame) ≡ false) × (liesTiled (pen .frame) ≡ false) ⌝ }
+    ensures { λ r. ⌜ picture (now (im .exit)) (now (zm .exit)) r ≡ drawn pen (spanOffers pen (rowsOf (pen .frame) (length (now (im .entry))) (length (now (zm .entry)))) kind lo hi y i z) (picture (now (im .entry)) (now (zm .entry)) 0) ⌝ }
+{
+    let frame = pen.frame;
+    let ways = ways_of(frame);
+    let first = until_own(frame, ways, lo);
+    let count = hi - lo;
+    if first < count {
+        let own = (count - first - 1) / ways + 1;
+        let si = strided(i, first, ways);
+        let sz = strided(z, first, ways);
+        return fill_own(pen, kind, ways, lo + first, own, y, si, sz, im, zm);
+    }
+    0
 }
 
 // The same in any layout.
@@ -272,7 +306,7 @@ fn fill_row(
     if lies_tiled(frame) {
         return fill_tiled(pen, kind, lo, hi, y, i, z, im, zm);
     }
-    fill_apart(pen, kind, lo, hi, y, i, z, im, zm)
+    fill_shared(pen, kind, lo, hi, y, i, z, im, zm)
 }
 
 // The smaller of two columns.

@@ -4,7 +4,7 @@ ghost use mathlib.Core.Bool.{true};
 ghost use Prim.Native.Nat.{_*_, _≤_, _<_, min, max};
 ghost use lib.Dec.{ltb};
 ghost use Rattle.picture.specs.Place.{tiled, liesPlain, liesTiled, waysOf, layoutOf, spotOf, placeOf, isWhole, widthOf, rowsIn, rowsOf, mine, inMemory};
-ghost use Rattle.picture.specs.Loops.{bandEnd, alongTiles};
+ghost use Rattle.picture.specs.Loops.{bandEnd, alongTiles, Shares, untilOwn};
 use crate::Frame;
 use crate::limits::MOST_ROWS;
 
@@ -40,7 +40,7 @@ pub(crate) fn lies_tiled(frame: Frame) -> bool
 }
 
 // The units of the board, where pixels lie neither in rows nor in tiles.
-fn ways_of(frame: Frame) -> u16
+pub(crate) fn ways_of(frame: Frame) -> u16
     ensures { λ r. ⌜ (r ≡ waysOf frame) × (2 ≤ r) × (r ≤ 4) ⌝ }
 {
     if frame.layout < 4 { 2 } else { 4 }
@@ -130,6 +130,14 @@ fn is_mine(frame: Frame, x: u16) -> bool
     }
     let ways = ways_of(frame);
     x % ways + ways == frame.layout
+}
+
+// How many columns from column lo on the first one that a unit has is.
+pub(crate) fn until_own(frame: Frame, ways: u16, lo: u16) -> u16
+    requires { ⌜ Shares frame ways ⌝ }
+    ensures { λ r. ⌜ (r ≡ untilOwn ways (frame .layout) lo) × (r < ways) ⌝ }
+{
+    (frame.layout - lo % ways) % ways
 }
 
 // Whether pixel (x, y) is inside the memory.

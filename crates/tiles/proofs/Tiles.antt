@@ -4,226 +4,66 @@ use mathlib.Core.Path.{_≡_, refl, sym, ap, ap₂, _∙_, subst}
 use mathlib.Core.Logic.{_⊎_, inl, inr, ⊎-elim}
 use mathlib.Core.Bool.{Bool, true, false, cond, not, _&&_, true≢false}
 use mathlib.Core.List.{List, [], _∷_, foldl, List·Memᴰ}
-use Prim.Native.Nat.{ℕ, _+_, _<_}
+use Prim.Native.Nat.{ℕ, _<_}
 use native.Mathlib.Omega.{arith}
-use lib.Dec.{eqb, ltb}
+use lib.Dec.{eqb}
 use lib.ListN.{length, getD}
 use borrow.Author.Tests.{eq-eqb}
 use Rattle.picture.specs.declared.Pen.{Pen}
-use Rattle.picture.specs.declared.Vertex.{Vertex}
 use Rattle.picture.specs.Place.{frameOf, layoutOf, placeOf, rowsOf, mine, inMemory}
-use Rattle.picture.specs.Offer.{Offer, inWindow, shows, offered, keep}
-use Rattle.picture.specs.Picture.{passes, newI, newZ, Picture, picture, drawn}
-use Rattle.picture.specs.Draw.{spans}
-use Rattle.picture.specs.Cell.{Cell, after as cellAfter}
-use Rattle.picture.specs.Store.{Store, storedI, storedZ, filled, within, readOf, afterStore}
+use Rattle.picture.specs.Offer.{Offer}
+use Rattle.picture.specs.Picture.{Picture, picture, drawn}
+use Rattle.picture.specs.Cell.{Cell}
+use Rattle.picture.specs.Store.{Store, filled, readOf}
 use Rattle.picture.proofs.Places.{inside-parts, inside-of, place-apart}
 use Rattle.picture.proofs.Fold.{drawn-nil, drawn-i, drawn-z}
 use Rattle.picture.proofs.Stores.{filled-nil, filled-i, filled-z, filled-passed}
-use Rattle.triangle.specs.Offers.{offersAt, triangleOffers}
-use Rattle.line.specs.declared.Mode.{Mode}
-use Rattle.line.specs.declared.Mode.the-variants.{Zero, One, Two}
-use Rattle.line.specs.Segment.{larger, from, dashOffers, shadeOffers, stepOffers, segmentOffers}
 use Rattle.registers.specs.declared.Registers.{Registers}
 use Rattle.registers.specs.declared.word.Word.{Word}
-use Rattle.registers.specs.declared.word.Word.the-variants.{Init, Aux, Parm, At, Img, Ptrn, Reserved, Unmodelled, Unknown}
-use Rattle.registers.specs.declared.word.Coordinate.{Coordinate}
-use Rattle.registers.specs.declared.word.Coordinate.the-variants.{I, Z, Y, X, T1x, T2x, Lx, Px}
-use Rattle.registers.specs.declared.subcommand.Subcommand.{Subcommand}
-use Rattle.registers.specs.declared.subcommand.Subcommand.the-variants.{Nothing as None, Pmode, Lmode, Zcontrol, Hcontrol, Tpattern, Window, Section, Color, Lpattern, Mask, Lstatus, Imode, Load, Save}
 use Rattle.registers.specs.declared.shape.Completed.{Completed}
-use Rattle.registers.specs.declared.shape.Completed.the-variants.{Nothing, Triangle, Segment}
-use Rattle.registers.specs.Record.{settings, nothingAwaited, withParked, resetAs, resetOf}
-use Rattle.registers.specs.Subcommand.{wants}
-use Rattle.registers.specs.Next.{awaited, joinedOf, counted, effectOf, parmOf, coordinateOf, coordinateCompletes, isDeepPicture, after, completedBy, penOf}
-use Rattle.registers.specs.Bounds.{frameFits, inBounds}
-use Rattle.registers.specs.Refusal.{isInit, isPtrn, isCold, table, lowest, isUnfit, refusalOf, readTable, readRefusalOf}
+use Rattle.registers.specs.declared.shape.Completed.the-variants.{Nothing}
+use Rattle.registers.specs.Record.{laid, settings, resetAs, resetOf}
+use Rattle.registers.specs.Next.{isDeepPicture, after, completedBy, penOf}
+use Rattle.registers.specs.Refusal.{isInit, isPtrn, isCold, refusalOf, readRefusalOf}
 use Rattle.registers.proofs.Refusals.{accepted-when, read-when}
+use Rattle.registers.proofs.Layouts.{after-laid, completed-laid, number-laid, number-even, read-laid, read-even}
 use Rattle.machine.specs.Run.{Ran, ran, runOf}
 use Rattle.machine.specs.Along.{Along}
-use Rattle.machine.specs.Machine.{Memories, memories, rowsIn, drawing, accepted, numberOf, stepOf}
+use Rattle.machine.specs.Machine.{Memories, memories, Even, rowsIn, drawing, accepted, numberOf, stepOf}
 use Rattle.machine.specs.Touched.{cellIn}
 use Rattle.machine.specs.Offers.{State, state}
 use Rattle.machine.specs.Alike.{SamePixels, AlikeOutcome, AlikeRun}
 use Rattle.machine.proofs.Runs.{zero-or-not}
 use Rattle.machine.proofs.Steps.{step-accepted, step-refused, step-either}
-use Rattle.machine.proofs.Pixels.{Twins, Sized, drawn-same, drawn-count, filled-same}
+use Rattle.machine.proofs.Pixels.{Sized, drawn-same, drawn-count, filled-same}
+use Rattle.machine.proofs.Shares.{held-all, stores-all}
 use Rattle.machine.proofs.Alike.{runs-alike}
-use Rattle.chip.specs.Chip.{modeOf, isConstant, styleOf, wholeOffers, isCut, figureOffers, wordStores, chip}
+use Rattle.chip.specs.Chip.{figureOffers, wordStores, chip}
 use Rattle.chip.specs.declared.transfer.Reading.{Reading}
 use Rattle.chip.specs.Read.{pixelOf, readNumber, reading, Call, word, strobe, called}
 use Rattle.chip.specs.Stream.{wordsOf, flawIn, flawOf, running}
 use Rattle.chip.specs.Demands.{Ended}
-use Rattle.tiles.specs.Tiles.{answer, answersOf, laid, Even, tiledRows, plainRows, SamePicture, Beside, Starts, Keeps, Keeping, CallsAlike, StreamsAlike, Request9}
-use Rattle.chip.proofs.Laws.{word-unstored, inside}
+use Rattle.tiles.specs.Tiles.{answer, answersOf, tiledRows, plainRows, SamePicture, Beside, Starts, Keeps, Keeping, CallsAlike, StreamsAlike, Request9}
+use Rattle.chip.proofs.Laws.{nothing-offered, word-unstored, init-quiet, inside}
+use Rattle.chip.proofs.Layouts.{pens-laid, offers-laid, stores-laid}
 use Rattle.chip.proofs.Reading.{read-accepted, read-refused}
 
--- ---- a word in another layout
+-- ---- a word in tiles
 
--- parameters do to the registers in a layout what they do to them
-effect-laid : (k : ℕ) (r : Registers) (s : Subcommand) (p : List ℕ) → effectOf (laid k r) s p ≡ laid k (effectOf r s p)
-unfolding effectOf
-effect-laid k r None p = refl
-effect-laid k r Pmode p = refl
-effect-laid k r Lmode p = refl
-effect-laid k r Zcontrol p = refl
-effect-laid k r Hcontrol p = refl
-effect-laid k r Tpattern p = refl
-effect-laid k r Window p = refl
-effect-laid k r Section p = refl
-effect-laid k r Color p = refl
-effect-laid k r Lpattern p = refl
-effect-laid k r Mask p = refl
-effect-laid k r Lstatus p = refl
-effect-laid k r Imode p = refl
-effect-laid k r Load p = refl
-effect-laid k r Save p = refl
-
-parm-laid : (k : ℕ) (r : Registers) (v : ℕ) → parmOf (laid k r) v ≡ laid k (parmOf r v)
-unfolding parmOf
-parm-laid k r v = go (ltb (r .parked .came + 1) (wants (awaited r)))
-  where
-    go : (b : Bool)
-        → cond b (withParked (laid k r) (counted (joinedOf (r .parked) v))) (withParked (effectOf (laid k r) (awaited r) (joinedOf (r .parked) v .values)) nothingAwaited)
-        ≡ laid k (cond b (withParked r (counted (joinedOf (r .parked) v))) (withParked (effectOf r (awaited r) (joinedOf (r .parked) v .values)) nothingAwaited))
-    go true = refl
-    go false = ap (λ (s : Registers). withParked s nothingAwaited) (effect-laid k r (awaited r) (joinedOf (r .parked) v .values))
-
-coordinate-laid : (k : ℕ) (r : Registers) (c : Coordinate) (n : ℕ) → coordinateOf (laid k r) c n ≡ laid k (coordinateOf r c n)
-unfolding coordinateOf
-coordinate-laid k r I n = refl
-coordinate-laid k r Z n = refl
-coordinate-laid k r Y n = refl
-coordinate-laid k r X n = refl
-coordinate-laid k r T1x n = refl
-coordinate-laid k r T2x n = refl
-coordinate-laid k r Lx n = refl
-coordinate-laid k r Px n = refl
-
--- the registers after a word
-after-laid : (k : ℕ) (r : Registers) (w : Word) → after (laid k r) w ≡ laid k (after r w)
-unfolding after settings
-after-laid k r (Init d) = refl
-after-laid k r (Aux n) = refl
-after-laid k r (Parm v) = parm-laid k r v
-after-laid k r (At c n) = coordinate-laid k r c n
-after-laid k r (Img d) = refl
-after-laid k r (Ptrn v) = refl
-after-laid k r Reserved = refl
-after-laid k r Unmodelled = refl
-after-laid k r Unknown = refl
-
-coordinate-completes : (k : ℕ) (r : Registers) (c : Coordinate) (n : ℕ) → coordinateCompletes (laid k r) c n ≡ coordinateCompletes r c n
-unfolding coordinateCompletes
-coordinate-completes k r I n = refl
-coordinate-completes k r Z n = refl
-coordinate-completes k r Y n = refl
-coordinate-completes k r X n = refl
-coordinate-completes k r T1x n = refl
-coordinate-completes k r T2x n = refl
-coordinate-completes k r Lx n = refl
-coordinate-completes k r Px n = refl
-
--- the figure that it completes
-completed-laid : (k : ℕ) (r : Registers) (w : Word) → completedBy (laid k r) w ≡ completedBy r w
-unfolding completedBy
-completed-laid k r (Init d) = refl
-completed-laid k r (Aux n) = refl
-completed-laid k r (Parm v) = refl
-completed-laid k r (At c n) = coordinate-completes k r c n
-completed-laid k r (Img d) = refl
-completed-laid k r (Ptrn v) = refl
-completed-laid k r Reserved = refl
-completed-laid k r Unmodelled = refl
-completed-laid k r Unknown = refl
-
--- the number that it gets: layouts are within the bounds alike, and of the lengths only their equality counts
-bounds-laid : (r : Registers) → inBounds (laid 1 r) ≡ inBounds (laid 0 r)
-unfolding inBounds frameFits
-bounds-laid r = refl
-
-unfit-laid : (n n′ : ℕ) (r : Registers) → isUnfit n n (laid 1 r) ≡ isUnfit n′ n′ (laid 0 r)
-unfit-laid n n′ r = rw (eq-eqb n n refl, eq-eqb n′ n′ refl, bounds-laid r)
-
-table-laid : (u : Bool) (r : Registers) (w : Word) → table u (laid 1 r) w ≡ table u (laid 0 r) w
-table-laid u r (Init d) = refl
-table-laid u r (Aux n) = refl
-table-laid u r (Parm v) = refl
-table-laid u r (At c n) = refl
-table-laid u r (Img d) = refl
-table-laid u r (Ptrn v) = refl
-table-laid u r Reserved = refl
-table-laid u r Unmodelled = refl
-table-laid u r Unknown = refl
-
-number-laid : (n n′ : ℕ) (r : Registers) (w : Word) → refusalOf n n (laid 1 r) w ≡ refusalOf n′ n′ (laid 0 r) w
-unfolding refusalOf
-number-laid n n′ r w =
-    ap (lowest 1) (table-laid (isUnfit n n (laid 1 r)) r w ∙ ap (λ (u : Bool). table u (laid 0 r) w) (unfit-laid n n′ r))
+-- tiles have every column
+tiles-mine : (line x : ℕ) → mine (layoutOf (frameOf line 1)) x ≡ true
+unfolding mine layoutOf
+tiles-mine line x = refl
 
 -- the pixels that it offers
-triangle-laid : (rows : ℕ) (r : Registers) (a b c : Vertex) → triangleOffers (penOf (laid 1 r)) rows (isConstant r) a b c ≡ triangleOffers (penOf (laid 0 r)) rows (isConstant r) a b c
-unfolding triangleOffers offersAt keep offered inWindow inMemory mine layoutOf shows
-triangle-laid rows r a b c = refl
-
-segment-laid : (rows : ℕ) (r : Registers) (a b : Vertex) → segmentOffers (penOf (laid 1 r)) rows (styleOf r) a b ≡ segmentOffers (penOf (laid 0 r)) rows (styleOf r) a b
-unfolding segmentOffers from dashOffers shadeOffers keep offered inWindow inMemory mine layoutOf shows
-segment-laid rows r a b = go (modeOf (r .modes .lmode))
-  where
-    go : (m : Mode) → spans (stepOffers (penOf (laid 1 r)) rows (styleOf r) m a b) (larger a b + 1) ≡ spans (stepOffers (penOf (laid 0 r)) rows (styleOf r) m a b) (larger a b + 1)
-    go Zero = refl
-    go One = refl
-    go Two = refl
-
-whole-laid : (rows : ℕ) (r : Registers) (f : Completed) → wholeOffers rows (laid 1 r) f ≡ wholeOffers rows (laid 0 r) f
-unfolding wholeOffers
-whole-laid rows r Nothing = refl
-whole-laid rows r (Triangle a b c) = triangle-laid rows r a b c
-whole-laid rows r (Segment a b) = segment-laid rows r a b
-
-cut-laid : (r : Registers) (f : Completed) → isCut (laid 1 r) f ≡ isCut (laid 0 r) f
-unfolding isCut
-cut-laid r Nothing = refl
-cut-laid r (Triangle a b c) = refl
-cut-laid r (Segment a b) = refl
-
-figure-laid : (rows : ℕ) (r : Registers) (f : Completed) → figureOffers rows (laid 1 r) f ≡ figureOffers rows (laid 0 r) f
-unfolding figureOffers
-figure-laid rows r f = ap₂ (λ (b : Bool) (os : List Offer). cond b [] os) (cut-laid r f) (whole-laid rows r f)
-
-offers-laid : (rows rows′ : ℕ) (r : Registers) (w : Word) → rows ≡ rows′
-    → figureOffers rows (laid 1 r) (completedBy (laid 1 r) w) ≡ figureOffers rows′ (laid 0 r) (completedBy (laid 0 r) w)
-offers-laid rows rows′ r w e =
-    ap₂ (λ (n : ℕ) (f : Completed). figureOffers n (laid 1 r) f) e (completed-laid 1 r w ∙ sym (completed-laid 0 r w))
-    ∙ figure-laid rows′ r (completedBy (laid 0 r) w)
+offers-tiled : (rows rows′ : ℕ) (r : Registers) (w : Word) → rows ≡ rows′ → chip .offers rows (laid 1 r) w ≡ chip .offers rows′ (laid 0 r) w
+offers-tiled rows rows′ r w e =
+    ap (λ (n : ℕ). chip .offers n (laid 1 r) w) e ∙ offers-laid 1 rows′ r w ∙ held-all (layoutOf (frameOf (r .frame .line) 1)) (tiles-mine (r .frame .line)) (chip .offers rows′ (laid 0 r) w)
 
 -- and what it stores besides
-stores-laid : (rows : ℕ) (r : Registers) (w : Word) → wordStores rows (laid 1 r) w ≡ wordStores rows (laid 0 r) w
-unfolding wordStores within inMemory mine layoutOf
-stores-laid rows r (Init d) = refl
-stores-laid rows r (Aux n) = refl
-stores-laid rows r (Parm v) = refl
-stores-laid rows r (At c n) = refl
-stores-laid rows r (Img d) = refl
-stores-laid rows r (Ptrn v) = refl
-stores-laid rows r Reserved = refl
-stores-laid rows r Unmodelled = refl
-stores-laid rows r Unknown = refl
-
--- what the pen does with an offer, and with a store
-pens-twin : (r : Registers) → Twins (penOf (laid 1 r)) (penOf (laid 0 r))
-unfolding passes newI newZ cellAfter afterStore storedI storedZ
-pens-twin r = record { pass = λ kind z old. refl; leave = λ c o. refl; store = λ c s. refl }
-
--- the number that the read call gets
-read-laid : (n n′ : ℕ) (r : Registers) → readRefusalOf n n (laid 1 r) ≡ readRefusalOf n′ n′ (laid 0 r)
-unfolding readRefusalOf
-read-laid n n′ r = ap (λ (u : Bool). lowest 2 (readTable u (laid 0 r))) (unfit-laid n n′ r)
-
--- nothing completed, nothing offered
-nothing-offered : (rows : ℕ) (r : Registers) → figureOffers rows r Nothing ≡ []
-unfolding figureOffers isCut wholeOffers
-nothing-offered rows r = refl
+stores-tiled : (rows rows′ : ℕ) (r : Registers) (w : Word) → rows ≡ rows′ → chip .stores rows (laid 1 r) w ≡ chip .stores rows′ (laid 0 r) w
+stores-tiled rows rows′ r w e =
+    ap (λ (n : ℕ). chip .stores n (laid 1 r) w) e ∙ stores-laid 1 rows′ r w ∙ stores-all (layoutOf (frameOf (r .frame .line) 1)) (tiles-mine (r .frame .line)) (chip .stores rows′ (laid 0 r) w)
 
 -- two reads tell the same, and what they leave belongs together
 record ReadAlike (line n n′ : ℕ) (o p : Reading) (a b : Memories) : Type 0 where
@@ -248,19 +88,6 @@ cold-first ni nz r w e cold = go (isInit w) (isCold r) (accepted-when ni nz r w 
     go true c f g = refl
     go false c f g = absurd (true≢false (sym g ∙ f))
 
--- and INIT neither completes a figure nor stores a pixel
-init-quiet : (r : Registers) (w : Word) → isInit w ≡ true → (completedBy r w ≡ Nothing) × (isPtrn w ≡ false)
-unfolding completedBy
-init-quiet r (Init d) e = (refl, refl)
-init-quiet r (Aux n) e = absurd (true≢false (sym e))
-init-quiet r (Parm v) e = absurd (true≢false (sym e))
-init-quiet r (At c n) e = absurd (true≢false (sym e))
-init-quiet r (Img d) e = absurd (true≢false (sym e))
-init-quiet r (Ptrn v) e = absurd (true≢false (sym e))
-init-quiet r Reserved e = absurd (true≢false (sym e))
-init-quiet r Unmodelled e = absurd (true≢false (sym e))
-init-quiet r Unknown e = absurd (true≢false (sym e))
-
 -- a read leaves them so
 warm-read : (line : ℕ) (r : Registers) (m : Memories) → Warm line r → Warm line (reading r m .registers)
 warm-read line r m warm =
@@ -277,10 +104,6 @@ rows-even k r n m e = ap₂ (rowsOf (frameOf (r .frame .line) k)) (e .0) (e .1)
 inside-laid : (line rows x y : ℕ) → inMemory (frameOf line 1) rows x y ≡ inMemory (frameOf line 0) rows x y
 unfolding inMemory mine layoutOf
 inside-laid line rows x y = refl
-
-tiles-mine : (line x : ℕ) → mine (layoutOf (frameOf line 1)) x ≡ true
-unfolding mine layoutOf
-tiles-mine line x = refl
 
 module _ (q : Registers) (n n′ : ℕ) (a b : Memories) (ea : Even n a) (eb : Even n′ b) where
   -- what a word draws and stores, of the plain chip's offers and stores, from a pen
@@ -369,19 +192,19 @@ module _ (q : Registers) (n n′ : ℕ) (a b : Memories) (ea : Even n a) (eb : E
       draws : drawing chip (laid 1 q) w a ≡ painted (penOf (laid 1 q)) os ss a
       draws =
           ap₂ (λ (us : List Offer) (ts : List Store). painted (penOf (laid 1 q)) us ts a)
-          (offers-laid (rowsIn chip (laid 1 q) a) (rowsIn chip (laid 0 q) b) q w (is ∙ sym is′))
-          (ap (λ (k : ℕ). wordStores k (laid 1 q) w) (is ∙ sym is′) ∙ stores-laid (rowsIn chip (laid 0 q) b) q w)
+          (offers-tiled (rowsIn chip (laid 1 q) a) (rowsIn chip (laid 0 q) b) q w (is ∙ sym is′))
+          (stores-tiled (rowsIn chip (laid 1 q) a) (rowsIn chip (laid 0 q) b) q w (is ∙ sym is′))
 
       same-drawn : SamePixels (frameOf (q .frame .line) 1) (frameOf (q .frame .line) 0) (plainRows (q .frame .line) n′)
           (drawn (penOf (laid 1 q)) os (picture (a .i) (a .z) 0)) (drawn (penOf (laid 0 q)) os (picture (b .i) (b .z) 0))
       same-drawn =
-          drawn-same (penOf (laid 1 q)) (penOf (laid 0 q)) (pens-twin q) (plainRows (q .frame .line) n′) (length (a .i)) (length (a .z)) (length (b .i)) (length (b .z)) is is′
+          drawn-same (penOf (laid 1 q)) (penOf (laid 0 q)) (pens-laid 1 q) (plainRows (q .frame .line) n′) (length (a .i)) (length (a .z)) (length (b .i)) (length (b .z)) is is′
           (λ x y h. sym (inside-laid (q .frame .line) (plainRows (q .frame .line) n′) x y) ∙ h) os (picture (a .i) (a .z) 0) (picture (b .i) (b .z) 0) (sized a) (sized b) held-offers pixels
 
       same-after : SamePixels (frameOf (q .frame .line) 1) (frameOf (q .frame .line) 0) (plainRows (q .frame .line) n′)
           (painted (penOf (laid 1 q)) os ss a) (painted (penOf (laid 0 q)) os ss b)
       same-after =
-          filled-same (penOf (laid 1 q)) (penOf (laid 0 q)) (pens-twin q) (plainRows (q .frame .line) n′) (length (a .i)) (length (a .z)) (length (b .i)) (length (b .z)) is is′
+          filled-same (penOf (laid 1 q)) (penOf (laid 0 q)) (pens-laid 1 q) (plainRows (q .frame .line) n′) (length (a .i)) (length (a .z)) (length (b .i)) (length (b .z)) is is′
           (λ x y h. sym (inside-laid (q .frame .line) (plainRows (q .frame .line) n′) x y) ∙ h) ss
           (drawn (penOf (laid 1 q)) os (picture (a .i) (a .z) 0)) (drawn (penOf (laid 0 q)) os (picture (b .i) (b .z) 0))
           (sized-drawn (penOf (laid 1 q)) os a) (sized-drawn (penOf (laid 0 q)) os b) held-stores same-drawn
@@ -389,7 +212,7 @@ module _ (q : Registers) (n n′ : ℕ) (a b : Memories) (ea : Even n a) (eb : E
       count-after : painted (penOf (laid 1 q)) os ss a .passed ≡ painted (penOf (laid 0 q)) os ss b .passed
       count-after =
           filled-passed (penOf (laid 1 q)) ss _
-          ∙ drawn-count (penOf (laid 1 q)) (penOf (laid 0 q)) (pens-twin q) (plainRows (q .frame .line) n′) (length (a .i)) (length (a .z)) (length (b .i)) (length (b .z)) is is′
+          ∙ drawn-count (penOf (laid 1 q)) (penOf (laid 0 q)) (pens-laid 1 q) (plainRows (q .frame .line) n′) (length (a .i)) (length (a .z)) (length (b .i)) (length (b .z)) is is′
           (λ x y h. sym (inside-laid (q .frame .line) (plainRows (q .frame .line) n′) x y) ∙ h) os (picture (a .i) (a .z) 0) (picture (b .i) (b .z) 0) (sized a) (sized b) held-offers pixels refl
           ∙ sym (filled-passed (penOf (laid 0 q)) ss _)
 
@@ -441,7 +264,7 @@ module _ (q : Registers) (n n′ : ℕ) (a b : Memories) (ea : Even n a) (eb : E
   word-number : (w : Word) → numberOf chip (laid 1 q) w a ≡ numberOf chip (laid 0 q) w b
   word-number w =
       ap₂ (λ (i z : ℕ). refusalOf i z (laid 1 q) w) (ea .0) (ea .1)
-      ∙ number-laid n n′ q w
+      ∙ (number-laid 1 n n q w (omega arith) ∙ number-even n n′ (laid 0 q) w)
       ∙ sym (ap₂ (λ (i z : ℕ). refusalOf i z (laid 0 q) w) (eb .0) (eb .1))
 
   word-alike : (w : Word) (line : ℕ) → tiledRows line n ≡ plainRows line n′ → SamePicture line (plainRows line n′) a b → Warm line q
@@ -465,7 +288,7 @@ module _ (q : Registers) (n n′ : ℕ) (a b : Memories) (ea : Even n a) (eb : E
   strobe-number : readNumber (laid 1 q) a ≡ readNumber (laid 0 q) b
   strobe-number =
       ap₂ (λ (i z : ℕ). readRefusalOf i z (laid 1 q)) (ea .0) (ea .1)
-      ∙ read-laid n n′ q
+      ∙ (read-laid 1 n n q (omega arith) ∙ read-even n n′ (laid 0 q))
       ∙ sym (ap₂ (λ (i z : ℕ). readRefusalOf i z (laid 0 q)) (eb .0) (eb .1))
 
   strobe-alike : (line : ℕ) → tiledRows line n ≡ plainRows line n′ → SamePicture line (plainRows line n′) a b

@@ -38,8 +38,10 @@ same-length-4 c = search needs
 returns-2 : tie.Need-returns-2
 returns-2 c = search needs
 
-fill-apart-requires : tie.Need-fill-apart-requires
-fill-apart-requires c κs = search needs
+fill-shared-requires : tie.Need-fill-shared-requires
+fill-shared-requires c κs =
+    let p = c .before .before .before .before .before .before .before .before .before .pre in
+    (p .0, p .1, p .2, sym (c .before .before .before .before .before .lies-plain .ensures) ∙ c .before .before .before .before .if1 .left, sym (c .before .before .before .lies-tiled .ensures) ∙ c .before .before .if2 .left)
 
 same-length-5 : tie.Need-same-length-5
 same-length-5 c = search needs
@@ -64,7 +66,7 @@ fill-row-spec =
     same-length-3
     same-length-4
     returns-2
-    fill-apart-requires
+    fill-shared-requires
     same-length-5
     same-length-6
     returns-3)

@@ -1,0 +1,9 @@
+pub mod Sent
+pub mod Parts
+pub mod Taken
+pub mod Turns
+pub mod Settled
+pub mod Recoded
+pub mod Rows
+pub mod Request8
+pub mod Refused

@@ -1,0 +1,6 @@
+pub mod Bank
+pub mod Door
+pub mod Board
+pub mod Calls
+pub mod Request
+pub mod Refusals
