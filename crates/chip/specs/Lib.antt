@@ -4,4 +4,5 @@ pub mod Dashes
 pub mod WorkedLine
 pub mod Stream
 pub mod Read
+pub mod Promises
 pub mod Demands
