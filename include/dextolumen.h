@@ -114,7 +114,7 @@ struct dextolumen_vertex {
     uint16_t x, y, i, z;
 };
 
-/* The line length; and how pixels lie in both memories, 0 rows one after the other, 1 tiles of four by four. */
+/* The line length; and how pixels lie in both memories, 0 rows one after the other, 1 tiles of four by four, 2 to 7 what a unit of a board has. */
 struct dextolumen_frame {
     uint16_t line, layout;
 };

@@ -61,8 +61,8 @@ use Rattle.chip.proofs.Figures.{offers-held}
 pub step-kept : (r : Registers) (w : Word) (m : Memories) → inBounds r ≡ true → inBounds (stepOf chip r w m .registers) ≡ true
 step-kept r w m h = step-either chip r w m (λ o. inBounds (o .registers) ≡ true) (λ e. after-kept (length (m .i)) (length (m .z)) r w e) (λ e. h)
 
--- so does a run; from reset in either layout, no record breaks a bound
-pub run-kept : (layout : ℕ) → layout ≤ 1 → (ws : List Word) (m : Memories) → inBounds (runOf (stepOf chip) (resetAs layout) ws m .registers) ≡ true
+-- so does a run; from reset in any layout, no record breaks a bound
+pub run-kept : (layout : ℕ) → layout ≤ 7 → (ws : List Word) (m : Memories) → inBounds (runOf (stepOf chip) (resetAs layout) ws m .registers) ≡ true
 run-kept layout low ws m =
     run-invariant chip ws _ (λ r. inBounds r ≡ true) (λ r w k e h. after-kept (length (k .i)) (length (k .z)) r w e) (reset-kept-as layout low)
 
@@ -234,7 +234,7 @@ larger-low a b h k = omega (arith, h .across, h .up, k .across, k .up)
 pub line-low : (r : Registers) → inBounds r ≡ true → r .frame .line ≤ 8768
 unfolding frameFits
 line-low r h =
-    let j = both (leb 256 (r .frame .line) && leb (r .frame .line) 8768 && eqb (r .frame .line % 64) 0) (leb (r .frame .layout) 1) (parts r h .frame) in
+    let j = both (leb 256 (r .frame .line) && leb (r .frame .line) 8768 && eqb (r .frame .line % 64) 0) (leb (r .frame .layout) 7) (parts r h .frame) in
     let k = both (leb 256 (r .frame .line) && leb (r .frame .line) 8768) (eqb (r .frame .line % 64) 0) (j .0) in
     leb-true _ _ (both (leb 256 (r .frame .line)) (leb (r .frame .line) 8768) (k .0) .1)
 

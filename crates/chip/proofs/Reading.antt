@@ -40,8 +40,8 @@ module _ (r : Registers) (m : Memories) where
       (λ e. subst (λ (a : Reading). inBounds (a .registers) ≡ true) (sym (read-accepted e)) (read-kept (length (m .i)) (length (m .z)) r e))
       (λ e. subst (λ (a : Reading). inBounds (a .registers) ≡ true) (sym (read-refused e)) h)
 
--- from reset, in either layout, no words and reads leave a record that breaks a bound
-pub calls-kept : (layout : ℕ) → layout ≤ 1 → (cs : List Call) (m : Memories) → inBounds (foldl called (state (resetAs layout) m) cs .registers) ≡ true
+-- from reset, in any layout, no words and reads leave a record that breaks a bound
+pub calls-kept : (layout : ℕ) → layout ≤ 7 → (cs : List Call) (m : Memories) → inBounds (foldl called (state (resetAs layout) m) cs .registers) ≡ true
 calls-kept layout low cs m = go cs (state (resetAs layout) m) (reset-kept-as layout low)
   where
     go : (cs : List Call) (a : State Registers Memories) → inBounds (a .registers) ≡ true → inBounds (foldl called a cs .registers) ≡ true

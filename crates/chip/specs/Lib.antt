@@ -6,3 +6,4 @@ pub mod Stream
 pub mod Read
 pub mod Promises
 pub mod Demands
+pub mod Units

@@ -5,3 +5,4 @@ pub mod Touched
 pub mod Promises
 pub mod Offers
 pub mod Alike
+pub mod Shares

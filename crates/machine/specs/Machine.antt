@@ -1,5 +1,6 @@
 -- A machine: what a word does follows from the registers and the word. What it draws is a list of offers, and what it stores besides a list of
 -- pixels; neither looks at a memory.
+use mathlib.Core.Path.{_≡_}
 use mathlib.Core.Bool.{cond}
 use mathlib.Core.List.{List}
 use Prim.Native.Nat.{ℕ}
@@ -32,6 +33,10 @@ pub record Memories : Type 0 where
 
 abbrev pub memories : List ℕ → List ℕ → Memories
 memories i z = record { i = i; z = z }
+
+-- both of one length
+abbrev pub Even : ℕ → Memories → Type 0
+Even n m = (length (m .i) ≡ n) × (length (m .z) ≡ n)
 
 -- the rows in use under the registers' line length
 abbrev pub rowsIn : (M : Machine) → M .Registers → Memories → ℕ

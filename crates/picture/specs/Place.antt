@@ -18,7 +18,7 @@ pub data Layout : Type 0 where
   share : ℕ → ℕ → Layout
 
 -- rows by the number 0 and by those from 8 on, tiles by 1; by 2 to 7 the units of boards of two and of four, each by the sum of both numbers. A record
--- may hold 0 and 1 alone (docs/REGISTERS.md)
+-- may hold those up to 7 (docs/REGISTERS.md)
 abbrev pub liesPlain : Frame → Bool
 liesPlain frame = eqb (frame .layout) 0 || ltb 7 (frame .layout)
 

@@ -436,10 +436,10 @@ init-sound r s d a =
     settings-sound 1 (frameOf (lineOf (codeIn d)) (r .frame .layout)) refl
     (frame-laid (lineOf (codeIn d)) (r .frame) (line-fits (codeIn d) (omega arith) (eqb-false _ _ (not-true _ (q .1 .1 .1 .0)))) (s .frame))
 
--- the record after reset breaks no bound, in either layout
-pub reset-kept-as : (layout : ℕ) → layout ≤ 1 → inBounds (resetAs layout) ≡ true
+-- the record after reset breaks no bound, in any layout
+pub reset-kept-as : (layout : ℕ) → layout ≤ 7 → inBounds (resetAs layout) ≡ true
 unfolding frameFits
-reset-kept-as layout h = whole (resetAs layout) (settings-sound 0 (frameOf 256 layout) refl (le-leb layout 1 h))
+reset-kept-as layout h = whole (resetAs layout) (settings-sound 0 (frameOf 256 layout) refl (le-leb layout 7 h))
 
 pub reset-kept : inBounds resetOf ≡ true
 reset-kept = reset-kept-as 0 (omega arith)

@@ -55,9 +55,9 @@ module _ (k : ℕ) (h : k < 64) where
   unfolding listed
   line-fits ne = ⊎-elim (λ e. absurd (ne (eqb-true _ _ e))) (λ e. e) (or-cases (eqb (lineOf k) 0) _ listed-line)
 
--- in every layout that reset chooses
+-- in every layout that the bounds allow
 pub frame-laid : (line : ℕ) (f : Frame) → frameFits (plainFrame line) ≡ true → frameFits f ≡ true → frameFits (frameOf line (f .layout)) ≡ true
 unfolding frameFits
 frame-laid line f h k =
     let q = both (leb 256 line && leb line 8768 && eqb (line % 64) 0) true h in
-    and-both (q .0) (both (leb 256 (f .line) && leb (f .line) 8768 && eqb (f .line % 64) 0) (leb (f .layout) 1) k .1)
+    and-both (q .0) (both (leb 256 (f .line) && leb (f .line) 8768 && eqb (f .line % 64) 0) (leb (f .layout) 7) k .1)

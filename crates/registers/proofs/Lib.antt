@@ -2,6 +2,7 @@ pub mod Commands
 pub mod Forms
 pub mod Keys
 pub mod Kept
+pub mod Layouts
 pub mod Lengths
 pub mod Parking
 pub mod Refusals

@@ -17,9 +17,9 @@ use Rattle.registers.specs.Subcommand.{subcommandOf, wants}
 use Rattle.registers.specs.Next.{value}
 use Rattle.registers.specs.Allowed.{isCoordinate, isBorder, onlyBits, zcontrolBits, hcontrolBits, lstatusBits}
 
--- the line length is a multiple of 64 from 256 to 8768, and the layout one that reset chooses
+-- the line length is a multiple of 64 from 256 to 8768, and the layout rows, tiles, or what a unit of a board of two or of four has
 unfoldable pub frameFits : Frame → Bool
-frameFits f = leb 256 (f .line) && leb (f .line) 8768 && eqb (f .line % 64) 0 && leb (f .layout) 1
+frameFits f = leb 256 (f .line) && leb (f .line) 8768 && eqb (f .line % 64) 0 && leb (f .layout) 7
 
 -- the words of the modes are such as AUX allows
 unfoldable pub modesFit : Modes → Bool

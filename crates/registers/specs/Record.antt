@@ -136,6 +136,21 @@ withParked r p = record { started = r .started; frame = r .frame; modes = r .mod
 abbrev pub withRegion : Registers → Region → Registers
 withRegion r g = record { started = r .started; frame = r .frame; modes = r .modes; window = r .window; dash = r .dash; latch = r .latch; figure = r .figure; parked = r .parked; region = g }
 
+-- the record in another layout
+abbrev pub laid : ℕ → Registers → Registers
+laid layout r =
+    record {
+      started = r .started;
+      frame = frameOf (r .frame .line) layout;
+      modes = r .modes;
+      window = r .window;
+      dash = r .dash;
+      latch = r .latch;
+      figure = r .figure;
+      parked = r .parked;
+      region = r .region;
+    }
+
 -- ---- INIT and reset
 
 -- INIT sets: Gouraud; line mode 1; depth test and sectioning off; hardware bits 0, so both write enables are off; INV 1, END 0;

@@ -23,7 +23,7 @@ use picture::limits::LARGEST_COORDINATE;
 fn frame_fits(f: Frame) -> bool
     ensures { λ r. ⌜ r ≡ frameFits f ⌝ }
 {
-    (256 <= f.line) & (f.line <= 8768) & (f.line % 64 == 0) & (f.layout <= 1)
+    (256 <= f.line) & (f.line <= 8768) & (f.line % 64 == 0) & (f.layout <= 7)
 }
 
 fn modes_fit(m: Modes) -> bool

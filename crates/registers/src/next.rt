@@ -1,7 +1,7 @@
 // The record after a word, one method for each family of commands, and the figure that a word completes. Whether a word is refused is
 // asked elsewhere (refuse.rt).
 ghost use mathlib.Core.Path.{_≡_};
-ghost use Rattle.registers.specs.Record.{awaiting, withParked, withFigure, withRegion, settings, resetAs, resetOf, initOf};
+ghost use Rattle.registers.specs.Record.{awaiting, withParked, withFigure, withRegion, laid, settings, resetAs, resetOf, initOf};
 ghost use Rattle.registers.specs.Figure.{vertexOf, figureAfter, vertexCompletes};
 ghost use Rattle.registers.specs.Next.{effectOf, joinedOf, parmOf, openOf, lineOpenOf, coordinateOf, coordinateCompletes, penOf, imgNumber, isDeepPicture};
 ghost use Rattle.registers.specs.Region.{nextPixel};
@@ -118,6 +118,18 @@ impl Registers {
             layout: TILED,
         };
         Registers::set(0, frame)
+    }
+
+    // The record in another layout.
+    pub fn in_layout(mut self, layout: u16) -> Self
+        ensures { λ r. ⌜ r ≡ laid layout self ⌝ }
+    {
+        let frame = Frame {
+            line: self.frame.line,
+            layout: layout,
+        };
+        self.frame = frame;
+        self
     }
 
     // INIT. The layout stays.

@@ -27,18 +27,13 @@ use Rattle.line.specs.Segment.{larger, from, dashOffers, shadeOffers, stepOffer
 use Rattle.registers.specs.declared.Registers.{Registers}
 use Rattle.registers.specs.declared.word.Word.{Word}
 use Rattle.registers.specs.declared.word.Word.the-variants.{Init, Aux, Parm, At, Img, Ptrn, Reserved, Unmodelled, Unknown}
-use Rattle.registers.specs.declared.word.Coordinate.{Coordinate}
-use Rattle.registers.specs.declared.word.Coordinate.the-variants.{I, Z, Y, X, T1x, T2x, Lx, Px}
-use Rattle.registers.specs.declared.subcommand.Subcommand.{Subcommand}
-use Rattle.registers.specs.declared.subcommand.Subcommand.the-variants.{Nothing as None, Pmode, Lmode, Zcontrol, Hcontrol, Tpattern, Window, Section, Color, Lpattern, Mask, Lstatus, Imode, Load, Save}
 use Rattle.registers.specs.declared.shape.Completed.{Completed}
 use Rattle.registers.specs.declared.shape.Completed.the-variants.{Nothing, Triangle, Segment}
-use Rattle.registers.specs.Record.{settings, nothingAwaited, withParked, resetAs, resetOf}
-use Rattle.registers.specs.Subcommand.{wants}
-use Rattle.registers.specs.Next.{awaited, joinedOf, counted, effectOf, parmOf, coordinateOf, coordinateCompletes, isDeepPicture, after, completedBy, penOf}
-use Rattle.registers.specs.Bounds.{frameFits, inBounds}
-use Rattle.registers.specs.Refusal.{isInit, isPtrn, isCold, table, lowest, isUnfit, refusalOf, readTable, readRefusalOf}
+use Rattle.registers.specs.Record.{laid, settings, resetAs, resetOf}
+use Rattle.registers.specs.Next.{isDeepPicture, after, completedBy, penOf}
+use Rattle.registers.specs.Refusal.{isInit, isPtrn, isCold, refusalOf, readRefusalOf}
 use Rattle.registers.proofs.Refusals.{accepted-when, read-when}
+use Rattle.registers.proofs.Layouts.{after-laid, completed-laid, number-laid, number-even, read-laid, read-even}
 use Rattle.machine.specs.Run.{Ran, ran, runOf}
 use Rattle.machine.specs.Along.{Along}
 use Rattle.machine.specs.Machine.{Memories, memories, rowsIn, drawing, accepted, numberOf, stepOf}
@@ -54,112 +49,11 @@ use Rattle.chip.specs.declared.transfer.Reading.{Reading}
 use Rattle.chip.specs.Read.{pixelOf, readNumber, reading, Call, word, strobe, called}
 use Rattle.chip.specs.Stream.{wordsOf, flawIn, flawOf, running}
 use Rattle.chip.specs.Demands.{Ended}
-use Rattle.tiles.specs.Tiles.{answer, answersOf, laid, Even, tiledRows, plainRows, SamePicture, Beside, Starts, Keeps, Keeping, CallsAlike, StreamsAlike, Request9}
+use Rattle.tiles.specs.Tiles.{answer, answersOf, Even, tiledRows, plainRows, SamePicture, Beside, Starts, Keeps, Keeping, CallsAlike, StreamsAlike, Request9}
 use Rattle.chip.proofs.Laws.{word-unstored, inside}
 use Rattle.chip.proofs.Reading.{read-accepted, read-refused}
 
--- ---- a word in another layout
-
--- parameters do to the registers in a layout what they do to them
-effect-laid : (k : ℕ) (r : Registers) (s : Subcommand) (p : List ℕ) → effectOf (laid k r) s p ≡ laid k (effectOf r s p)
-unfolding effectOf
-effect-laid k r None p = refl
-effect-laid k r Pmode p = refl
-effect-laid k r Lmode p = refl
-effect-laid k r Zcontrol p = refl
-effect-laid k r Hcontrol p = refl
-effect-laid k r Tpattern p = refl
-effect-laid k r Window p = refl
-effect-laid k r Section p = refl
-effect-laid k r Color p = refl
-effect-laid k r Lpattern p = refl
-effect-laid k r Mask p = refl
-effect-laid k r Lstatus p = refl
-effect-laid k r Imode p = refl
-effect-laid k r Load p = refl
-effect-laid k r Save p = refl
-
-parm-laid : (k : ℕ) (r : Registers) (v : ℕ) → parmOf (laid k r) v ≡ laid k (parmOf r v)
-unfolding parmOf
-parm-laid k r v = go (ltb (r .parked .came + 1) (wants (awaited r)))
-  where
-    go : (b : Bool)
-        → cond b (withParked (laid k r) (counted (joinedOf (r .parked) v))) (withParked (effectOf (laid k r) (awaited r) (joinedOf (r .parked) v .values)) nothingAwaited)
-        ≡ laid k (cond b (withParked r (counted (joinedOf (r .parked) v))) (withParked (effectOf r (awaited r) (joinedOf (r .parked) v .values)) nothingAwaited))
-    go true = refl
-    go false = ap (λ (s : Registers). withParked s nothingAwaited) (effect-laid k r (awaited r) (joinedOf (r .parked) v .values))
-
-coordinate-laid : (k : ℕ) (r : Registers) (c : Coordinate) (n : ℕ) → coordinateOf (laid k r) c n ≡ laid k (coordinateOf r c n)
-unfolding coordinateOf
-coordinate-laid k r I n = refl
-coordinate-laid k r Z n = refl
-coordinate-laid k r Y n = refl
-coordinate-laid k r X n = refl
-coordinate-laid k r T1x n = refl
-coordinate-laid k r T2x n = refl
-coordinate-laid k r Lx n = refl
-coordinate-laid k r Px n = refl
-
--- the registers after a word
-after-laid : (k : ℕ) (r : Registers) (w : Word) → after (laid k r) w ≡ laid k (after r w)
-unfolding after settings
-after-laid k r (Init d) = refl
-after-laid k r (Aux n) = refl
-after-laid k r (Parm v) = parm-laid k r v
-after-laid k r (At c n) = coordinate-laid k r c n
-after-laid k r (Img d) = refl
-after-laid k r (Ptrn v) = refl
-after-laid k r Reserved = refl
-after-laid k r Unmodelled = refl
-after-laid k r Unknown = refl
-
-coordinate-completes : (k : ℕ) (r : Registers) (c : Coordinate) (n : ℕ) → coordinateCompletes (laid k r) c n ≡ coordinateCompletes r c n
-unfolding coordinateCompletes
-coordinate-completes k r I n = refl
-coordinate-completes k r Z n = refl
-coordinate-completes k r Y n = refl
-coordinate-completes k r X n = refl
-coordinate-completes k r T1x n = refl
-coordinate-completes k r T2x n = refl
-coordinate-completes k r Lx n = refl
-coordinate-completes k r Px n = refl
-
--- the figure that it completes
-completed-laid : (k : ℕ) (r : Registers) (w : Word) → completedBy (laid k r) w ≡ completedBy r w
-unfolding completedBy
-completed-laid k r (Init d) = refl
-completed-laid k r (Aux n) = refl
-completed-laid k r (Parm v) = refl
-completed-laid k r (At c n) = coordinate-completes k r c n
-completed-laid k r (Img d) = refl
-completed-laid k r (Ptrn v) = refl
-completed-laid k r Reserved = refl
-completed-laid k r Unmodelled = refl
-completed-laid k r Unknown = refl
-
--- the number that it gets: layouts are within the bounds alike, and of the lengths only their equality counts
-bounds-laid : (r : Registers) → inBounds (laid 1 r) ≡ inBounds (laid 0 r)
-unfolding inBounds frameFits
-bounds-laid r = refl
-
-unfit-laid : (n n′ : ℕ) (r : Registers) → isUnfit n n (laid 1 r) ≡ isUnfit n′ n′ (laid 0 r)
-unfit-laid n n′ r = rw (eq-eqb n n refl, eq-eqb n′ n′ refl, bounds-laid r)
-
-table-laid : (u : Bool) (r : Registers) (w : Word) → table u (laid 1 r) w ≡ table u (laid 0 r) w
-table-laid u r (Init d) = refl
-table-laid u r (Aux n) = refl
-table-laid u r (Parm v) = refl
-table-laid u r (At c n) = refl
-table-laid u r (Img d) = refl
-table-laid u r (Ptrn v) = refl
-table-laid u r Reserved = refl
-table-laid u r Unmodelled = refl
-table-laid u r Unknown = refl
-
-number-laid : (n n′ : ℕ) (r : Registers) (w : Word) → refusalOf n n (laid 1 r) w ≡ refusalOf n′ n′ (laid 0 r) w
-unfolding refusalOf
-number-laid n n′ r w =
-    ap (lowest 1) (table-laid (isUnfit n n (laid 1 r)) r w ∙ ap (λ (u : Bool). table u (laid 0 r) w) (unfit-laid n n′ r))
+-- ---- a word in tiles
 
 -- the pixels that it offers
 triangle-laid : (rows : ℕ) (r : Registers) (a b c : Vertex) → triangleOffers (penOf (laid 1 r)) rows (isConstant r) a b c ≡ triangleOffers (penOf (laid 0 r)) rows (isConstant r) a b c
@@ -214,11 +108,6 @@ stores-laid rows r Unknown = refl
 pens-twin : (r : Registers) → Twins (penOf (laid 1 r)) (penOf (laid 0 r))
 unfolding passes newI newZ cellAfter afterStore storedI storedZ
 pens-twin r = record { pass = λ kind z old. refl; leave = λ c o. refl; store = λ c s. refl }
-
--- the number that the read call gets
-read-laid : (n n′ : ℕ) (r : Registers) → readRefusalOf n n (laid 1 r) ≡ readRefusalOf n′ n′ (laid 0 r)
-unfolding readRefusalOf
-read-laid n n′ r = ap (λ (u : Bool). lowest 2 (readTable u (laid 0 r))) (unfit-laid n n′ r)
 
 -- nothing completed, nothing offered
 nothing-offered : (rows : ℕ) (r : Registers) → figureOffers rows r Nothing ≡ []
@@ -441,7 +330,7 @@ module _ (q : Registers) (n n′ : ℕ) (a b : Memories) (ea : Even n a) (eb : E
   word-number : (w : Word) → numberOf chip (laid 1 q) w a ≡ numberOf chip (laid 0 q) w b
   word-number w =
       ap₂ (λ (i z : ℕ). refusalOf i z (laid 1 q) w) (ea .0) (ea .1)
-      ∙ number-laid n n′ q w
+      ∙ (number-laid 1 n n q w (omega arith) ∙ number-even n n′ (laid 0 q) w)
       ∙ sym (ap₂ (λ (i z : ℕ). refusalOf i z (laid 0 q) w) (eb .0) (eb .1))
 
   word-alike : (w : Word) (line : ℕ) → tiledRows line n ≡ plainRows line n′ → SamePicture line (plainRows line n′) a b → Warm line q
@@ -465,7 +354,7 @@ module _ (q : Registers) (n n′ : ℕ) (a b : Memories) (ea : Even n a) (eb : E
   strobe-number : readNumber (laid 1 q) a ≡ readNumber (laid 0 q) b
   strobe-number =
       ap₂ (λ (i z : ℕ). readRefusalOf i z (laid 1 q)) (ea .0) (ea .1)
-      ∙ read-laid n n′ q
+      ∙ (read-laid 1 n n q (omega arith) ∙ read-even n n′ (laid 0 q))
       ∙ sym (ap₂ (λ (i z : ℕ). readRefusalOf i z (laid 0 q)) (eb .0) (eb .1))
 
   strobe-alike : (line : ℕ) → tiledRows line n ≡ plainRows line n′ → SamePicture line (plainRows line n′) a b

@@ -9,7 +9,7 @@ use Rattle.picture.specs.declared.Frame.{Frame}
 use Rattle.picture.specs.Place.{frameOf, plainFrame, placeOf, rowsOf, inMemory}
 use Rattle.registers.specs.declared.Registers.{Registers}
 use Rattle.registers.specs.declared.word.Word.{Word}
-use Rattle.registers.specs.Record.{resetAs, resetOf}
+use Rattle.registers.specs.Record.{laid, resetAs, resetOf}
 use Rattle.registers.specs.Next.{after}
 use Rattle.machine.specs.Run.{ran}
 use Rattle.machine.specs.Along.{Along}
@@ -41,21 +41,6 @@ answersOf a [] = []
 answersOf a (c ∷ cs) = answerOf a c ∷ answersOf (called a c) cs
 
 -- ---- two chips
-
--- the registers in another layout
-abbrev pub laid : ℕ → Registers → Registers
-laid layout r =
-    record {
-      started = r .started;
-      frame = frameOf (r .frame .line) layout;
-      modes = r .modes;
-      window = r .window;
-      dash = r .dash;
-      latch = r .latch;
-      figure = r .figure;
-      parked = r .parked;
-      region = r .region;
-    }
 
 -- memories of one length
 abbrev pub Even : ℕ → Memories → Type 0

@@ -24,8 +24,8 @@ fn frame() {
     d.frame.line = 257;
     broken(b"bounds, line length 257", d);
     let mut e = ready();
-    e.frame.layout = 2;
-    broken(b"bounds, layout 2", e);
+    e.frame.layout = 8;
+    broken(b"bounds, layout 8", e);
 }
 
 // The words of the modes.
