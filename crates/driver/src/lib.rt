@@ -4,6 +4,7 @@
 ghost use Rattle.registers.specs.Word.{decode};
 ghost use Rattle.machine.specs.Machine.{memories};
 ghost use Rattle.chip.specs.Promises.{Takes};
+ghost use Rattle.machine.specs.Lent.{found, left};
 use chip::step::step;
 use registers::Registers;
 
@@ -23,7 +24,7 @@ pub extern "C" fn dextolumen_step(
     im: &mut [u16],
     zm: &mut [u16],
 ) -> Told
-    ensures { λ a. ⌜ Takes (now (registers .entry)) (decode command «data») (memories (now (im .entry)) (now (zm .entry))) (a .refusal) (a .passed) (now (registers .exit)) (memories (now (im .exit)) (now (zm .exit))) ⌝ }
+    ensures { λ a. ⌜ Takes (now (registers .entry)) (decode command «data») (found im zm) (a .refusal) (a .passed) (now (registers .exit)) (left im zm) ⌝ }
 {
     let a = step(*registers, command, data, im, zm);
     let next = a.registers;
