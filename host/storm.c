@@ -1,6 +1,6 @@
 // Throws bits at the card: random words on records and memories of every kind, with guard places around each memory and around the record.
 // Whatever comes, a refused word leaves record and memories as they were and counts nothing; an accepted word changes no place outside the rows
-// in use, which are whole bands over tiles, and, but for PTRN, no more places than it says, keeps the layout, and leaves a record that a further
+// in use, which are whole bands over tiles, and, but for PTRN, no more places than it says, keeps the layout, a unit's too, and leaves a record that a further
 // INIT accepts; a triangle that the section cuts passes no pixel; a segment advances the line by its steps and passes no more pixels than it
 // has, its first point with them if it has that; no guard ever changes. PTRN stores at the region's pixel alone and counts nothing; reads
 // between the words tell what stands there, and change nothing but the region. Streams of such words, some of them damaged, end alike in one
@@ -69,7 +69,7 @@ static uint64_t changed(const struct memory *a, const struct memory *b) {
 
 // ---- what is told
 
-static uint64_t thrown, told_by[DEXTOLUMEN_NO_REGION + 1], told_read[DEXTOLUMEN_NO_REGION + 1], cut, uncut, bends, tiled, high, wide;
+static uint64_t thrown, told_by[DEXTOLUMEN_NO_REGION + 1], told_read[DEXTOLUMEN_NO_REGION + 1], cut, uncut, bends, tiled, shared, high, wide;
 
 _Noreturn static void fault(const char *what, uint8_t command, uint16_t data) {
     printf("storm: word %lu (command %u, data %u): %s\n", (unsigned long)thrown, command, data, what);
@@ -94,7 +94,8 @@ static void count_far(size_t line) {
 // The place of the region's pixel, or as many places as there are where it is outside the memory.
 static size_t region_place(const struct dextolumen_registers *r) {
     size_t rows = rows_in_use(&r->frame, im.length);
-    return r->region.x < r->frame.line && r->region.y < rows ? place(&r->frame, r->region.x, r->region.y) : im.length;
+    int inside = r->region.x < r->frame.line && r->region.y < rows && has_column(&r->frame, r->region.x);
+    return inside ? place(&r->frame, r->region.x, r->region.y) : im.length;
 }
 
 // PTRN's number where it is due in the memories as they were, so that they should be as they are now.
@@ -174,10 +175,11 @@ static void throw(uint8_t command, uint16_t data) {
     }
     if (im.length != zm.length) fault("memories of unlike length accepted", command, data);
     const struct dextolumen_frame *frame = &held_was.record.frame;
-    size_t inside = rows_in_use(frame, im.length) * frame->line;
+    size_t inside = rows_in_use(frame, im.length) * (frame->line / units_of(frame));
     if (!kept_outside(&im, &im_was, inside) || !kept_outside(&zm, &zm_was, inside)) fault("a place outside the rows in use changed", command, data);
-    if (frame->layout > 1 || held.record.frame.layout != frame->layout) fault("a word changed the layout, or took one that no reset chooses", command, data);
+    if (frame->layout > 7 || held.record.frame.layout != frame->layout) fault("a word changed the layout, or took one that there is not", command, data);
     tiled += frame->layout == 1 && told.passed != 0;
+    shared += frame->layout > 1 && told.passed != 0;
     if (frame->layout == 0) count_far(frame->line);
     if (command == 0) {
         store(&held_was.record, data);
@@ -304,6 +306,7 @@ static void far_scene(int tall) {
 static void scene(int wild) {
     struct dextolumen_registers start = wild ? held.record : below(3) ? dextolumen_reset() : dextolumen_reset_tiled();
     size_t length = any_length();
+    if (!wild && below(4) == 0) start.frame.layout = (uint16_t)(2 + below(6));
     for (unsigned k = 0; k < GUARD; k++) {
         held.under[k] = (uint16_t)chance();
         held.over[k] = (uint16_t)chance();
@@ -520,9 +523,9 @@ int main(void) {
     while (thrown < WORDS) scene(below(4) == 0);
     printf("storm: %lu words, %lu accepted\n", (unsigned long)thrown, (unsigned long)told_by[0]);
     if (!all_told("word", told_by, word_numbers, sizeof word_numbers) || !all_told("read", told_read, read_numbers, sizeof read_numbers)) return 1;
-    printf("storm: %lu triangles cut, %lu drawn before the section; %lu segments whole but for the bend; %lu words drew over tiles\n", (unsigned long)cut,
-        (unsigned long)uncut, (unsigned long)bends, (unsigned long)tiled);
-    if (cut == 0 || uncut == 0 || bends == 0 || tiled == 0) return 1;
+    printf("storm: %lu triangles cut, %lu drawn before the section; %lu segments whole but for the bend; %lu words drew over tiles, %lu a unit's columns\n",
+        (unsigned long)cut, (unsigned long)uncut, (unsigned long)bends, (unsigned long)tiled, (unsigned long)shared);
+    if (cut == 0 || uncut == 0 || bends == 0 || tiled == 0 || shared == 0) return 1;
     for (unsigned k = 0; k < FAR_SCENES; k++) far_scene(k % 2 == 0);
     printf("storm: %lu places changed in rows from 8192 on, %lu in columns from 8192 on\n", (unsigned long)high, (unsigned long)wide);
     if (high == 0 || wide == 0) return 1;

@@ -8,7 +8,7 @@ use native.Mathlib.Nat.{mul-le-mul}
 use native.Mathlib.Omega.{arith}
 use lib.Dec.{leb, eqb}
 use lib.ListN.{length}
-use borrow.Author.Tests.{leb-true}
+use borrow.Author.Tests.{leb-true, eqb-true}
 use Rattle.picture.specs.declared.Vertex.{Vertex}
 use Rattle.picture.specs.Limits.{largestCoordinate, mostRows}
 use Rattle.picture.specs.Place.{layoutOf, widthOf, inMemory}
@@ -92,6 +92,11 @@ whole-offered rows r (Segment a b) o u = segment-offer rows r a b o u .is-offere
 pub figure-offered : (rows : ℕ) (r : Registers) (f : Completed) (o : Offer) → List·Memᴰ o (figureOffers rows r f) → offered (penOf r) rows o ≡ true
 figure-offered rows r f o u = whole-offered rows r f o (offers-held rows r f o u)
 
+-- nothing completed, nothing offered
+pub nothing-offered : (rows : ℕ) (r : Registers) → figureOffers rows r Nothing ≡ []
+unfolding figureOffers isCut wholeOffers
+nothing-offered rows r = refl
+
 -- only PTRN stores besides
 pub word-unstored : (rows : ℕ) (r : Registers) (w : Word) → isPtrn w ≡ false → wordStores rows r w ≡ []
 unfolding wordStores
@@ -105,7 +110,20 @@ word-unstored rows r Reserved e = refl
 word-unstored rows r Unmodelled e = refl
 word-unstored rows r Unknown e = refl
 
--- and that inside the memory
+-- INIT neither completes a figure nor stores a pixel
+pub init-quiet : (r : Registers) (w : Word) → isInit w ≡ true → (completedBy r w ≡ Nothing) × (isPtrn w ≡ false)
+unfolding completedBy
+init-quiet r (Init d) e = (refl, refl)
+init-quiet r (Aux n) e = absurd (true≢false (sym e))
+init-quiet r (Parm v) e = absurd (true≢false (sym e))
+init-quiet r (At c n) e = absurd (true≢false (sym e))
+init-quiet r (Img d) e = absurd (true≢false (sym e))
+init-quiet r (Ptrn v) e = absurd (true≢false (sym e))
+init-quiet r Reserved e = absurd (true≢false (sym e))
+init-quiet r Unmodelled e = absurd (true≢false (sym e))
+init-quiet r Unknown e = absurd (true≢false (sym e))
+
+-- what PTRN stores lies inside the memory
 word-inside : (rows : ℕ) (r : Registers) (w : Word) (s : Store) → List·Memᴰ s (wordStores rows r w) → inMemory (r .frame) rows (s .x) (s .y) ≡ true
 unfolding wordStores
 word-inside rows r (Init d) s u = absurd (List·Memᴰ·not-nil u)
@@ -231,12 +249,19 @@ larger-low : (a b : Vertex) → Near a → Near b → larger a b ≤ largestCoor
 unfolding larger
 larger-low a b h k = omega (arith, h .across, h .up, k .across, k .up)
 
-pub line-low : (r : Registers) → inBounds r ≡ true → r .frame .line ≤ 8768
-unfolding frameFits
-line-low r h =
-    let j = both (leb 256 (r .frame .line) && leb (r .frame .line) 8768 && eqb (r .frame .line % 64) 0) (leb (r .frame .layout) 7) (parts r h .frame) in
-    let k = both (leb 256 (r .frame .line) && leb (r .frame .line) 8768) (eqb (r .frame .line % 64) 0) (j .0) in
-    leb-true _ _ (both (leb 256 (r .frame .line)) (leb (r .frame .line) 8768) (k .0) .1)
+-- the line length, within the bounds
+module _ (r : Registers) (h : inBounds r ≡ true) where
+  line-parts : (leb 256 (r .frame .line) && leb (r .frame .line) 8768 ≡ true) × (eqb (r .frame .line % 64) 0 ≡ true)
+  unfolding frameFits
+  line-parts =
+      both (leb 256 (r .frame .line) && leb (r .frame .line) 8768) (eqb (r .frame .line % 64) 0)
+      (both (leb 256 (r .frame .line) && leb (r .frame .line) 8768 && eqb (r .frame .line % 64) 0) (leb (r .frame .layout) 7) (parts r h .frame) .0)
+
+  pub line-low : r .frame .line ≤ 8768
+  line-low = leb-true _ _ (both (leb 256 (r .frame .line)) (leb (r .frame .line) 8768) (line-parts .0) .1)
+
+  pub line-whole : r .frame .line % 64 ≡ 0
+  line-whole = eqb-true _ _ (line-parts .1)
 
 -- no more than the rows in use have
 whole-counts : (rows : ℕ) (r : Registers) (f : Completed) (p : Picture) → AllVertices Near f → rows ≤ mostRows → r .frame .line ≤ 8768

@@ -9,3 +9,5 @@ pub mod Dashes
 pub mod WorkedLine
 pub mod Settled
 pub mod Reading
+pub mod Layouts
+pub mod Units

@@ -4,4 +4,5 @@ pub mod Kept
 pub mod Touched
 pub mod Offers
 pub mod Pixels
+pub mod Shares
 pub mod Alike

@@ -78,7 +78,8 @@ pub record Twins (pen pen′ : Pen) : Type 0 where
   pub leave : (c : Cell) (o : Offer) → after pen c o ≡ after pen′ c o
   pub store : (c : Cell) (s : Store) → afterStore pen c s ≡ afterStore pen′ c s
 
-fold-same : {A : Type 0} (f g : Cell → A → Cell) → ((c : Cell) (o : A) → f c o ≡ g c o) → (os : List A) (c : Cell) → foldl f c os ≡ foldl g c os
+-- two folds that do the same at each element are the same
+pub fold-same : {A : Type 0} (f g : Cell → A → Cell) → ((c : Cell) (o : A) → f c o ≡ g c o) → (os : List A) (c : Cell) → foldl f c os ≡ foldl g c os
 fold-same f g h [] c = refl
 fold-same f g h (o ∷ os) c = ap (λ (d : Cell). foldl f d os) (h c o) ∙ fold-same f g h os (g c o)
 
@@ -87,7 +88,7 @@ one-held : (frame : Frame) (rows : ℕ) (o : Offer) → inMemory frame rows (o .
 one-held frame rows o h q m = subst (λ (k : Offer). inMemory frame rows (k .x) (k .y) ≡ true) (sym (List·Memᴰ·eq-of-singleton m)) h
 
 -- how many have passed after one offer
-step-passed : (pen : Pen) (p : Picture) (o : Offer)
+pub step-passed : (pen : Pen) (p : Picture) (o : Offer)
     → step pen p o .passed ≡ cond (passes pen (o .kind) (o .z) (cellAt p (placeOf (pen .frame) (o .x) (o .y)) .z)) (p .passed + 1) (p .passed)
 unfolding step stepAt
 step-passed pen p o = go (passes pen (o .kind) (o .z) (getD (p .z) (placeOf (pen .frame) (o .x) (o .y)) 0)) (newI pen (o .i) (getD (p .i) (placeOf (pen .frame) (o .x) (o .y)) 0)) (newZ pen (o .kind) (o .z) (getD (p .z) (placeOf (pen .frame) (o .x) (o .y)) 0))
@@ -101,7 +102,8 @@ pub record Sized (ni nz : ℕ) (p : Picture) : Type 0 where
   pub i : length (p .i) ≡ ni
   pub z : length (p .z) ≡ nz
 
-step-sized : (pen : Pen) (ni nz : ℕ) (p : Picture) (o : Offer) → Sized ni nz p → Sized ni nz (step pen p o)
+-- an offer leaves the lengths
+pub step-sized : (pen : Pen) (ni nz : ℕ) (p : Picture) (o : Offer) → Sized ni nz p → Sized ni nz (step pen p o)
 step-sized pen ni nz p o s = record { i = step-i pen p o ∙ s .i; z = step-z pen p o ∙ s .z }
 
 module _ (pen pen′ : Pen) (twins : Twins pen pen′) (rows ni nz ni′ nz′ : ℕ) (is : rowsOf (pen .frame) ni nz ≡ rows) (is′ : rowsOf (pen′ .frame) ni′ nz′ ≡ rows)

@@ -4,31 +4,24 @@ use mathlib.Core.Path.{_≡_, refl, sym, ap, ap₂, _∙_, subst}
 use mathlib.Core.Logic.{_⊎_, inl, inr, ⊎-elim}
 use mathlib.Core.Bool.{Bool, true, false, cond, not, _&&_, true≢false}
 use mathlib.Core.List.{List, [], _∷_, foldl, List·Memᴰ}
-use Prim.Native.Nat.{ℕ, _+_, _<_}
+use Prim.Native.Nat.{ℕ, _<_}
 use native.Mathlib.Omega.{arith}
-use lib.Dec.{eqb, ltb}
+use lib.Dec.{eqb}
 use lib.ListN.{length, getD}
 use borrow.Author.Tests.{eq-eqb}
 use Rattle.picture.specs.declared.Pen.{Pen}
-use Rattle.picture.specs.declared.Vertex.{Vertex}
 use Rattle.picture.specs.Place.{frameOf, layoutOf, placeOf, rowsOf, mine, inMemory}
-use Rattle.picture.specs.Offer.{Offer, inWindow, shows, offered, keep}
-use Rattle.picture.specs.Picture.{passes, newI, newZ, Picture, picture, drawn}
-use Rattle.picture.specs.Draw.{spans}
-use Rattle.picture.specs.Cell.{Cell, after as cellAfter}
-use Rattle.picture.specs.Store.{Store, storedI, storedZ, filled, within, readOf, afterStore}
+use Rattle.picture.specs.Offer.{Offer}
+use Rattle.picture.specs.Picture.{Picture, picture, drawn}
+use Rattle.picture.specs.Cell.{Cell}
+use Rattle.picture.specs.Store.{Store, filled, readOf}
 use Rattle.picture.proofs.Places.{inside-parts, inside-of, place-apart}
 use Rattle.picture.proofs.Fold.{drawn-nil, drawn-i, drawn-z}
 use Rattle.picture.proofs.Stores.{filled-nil, filled-i, filled-z, filled-passed}
-use Rattle.triangle.specs.Offers.{offersAt, triangleOffers}
-use Rattle.line.specs.declared.Mode.{Mode}
-use Rattle.line.specs.declared.Mode.the-variants.{Zero, One, Two}
-use Rattle.line.specs.Segment.{larger, from, dashOffers, shadeOffers, stepOffers, segmentOffers}
 use Rattle.registers.specs.declared.Registers.{Registers}
 use Rattle.registers.specs.declared.word.Word.{Word}
-use Rattle.registers.specs.declared.word.Word.the-variants.{Init, Aux, Parm, At, Img, Ptrn, Reserved, Unmodelled, Unknown}
 use Rattle.registers.specs.declared.shape.Completed.{Completed}
-use Rattle.registers.specs.declared.shape.Completed.the-variants.{Nothing, Triangle, Segment}
+use Rattle.registers.specs.declared.shape.Completed.the-variants.{Nothing}
 use Rattle.registers.specs.Record.{laid, settings, resetAs, resetOf}
 use Rattle.registers.specs.Next.{isDeepPicture, after, completedBy, penOf}
 use Rattle.registers.specs.Refusal.{isInit, isPtrn, isCold, refusalOf, readRefusalOf}
@@ -36,83 +29,41 @@ use Rattle.registers.proofs.Refusals.{accepted-when, read-when}
 use Rattle.registers.proofs.Layouts.{after-laid, completed-laid, number-laid, number-even, read-laid, read-even}
 use Rattle.machine.specs.Run.{Ran, ran, runOf}
 use Rattle.machine.specs.Along.{Along}
-use Rattle.machine.specs.Machine.{Memories, memories, rowsIn, drawing, accepted, numberOf, stepOf}
+use Rattle.machine.specs.Machine.{Memories, memories, Even, rowsIn, drawing, accepted, numberOf, stepOf}
 use Rattle.machine.specs.Touched.{cellIn}
 use Rattle.machine.specs.Offers.{State, state}
 use Rattle.machine.specs.Alike.{SamePixels, AlikeOutcome, AlikeRun}
 use Rattle.machine.proofs.Runs.{zero-or-not}
 use Rattle.machine.proofs.Steps.{step-accepted, step-refused, step-either}
-use Rattle.machine.proofs.Pixels.{Twins, Sized, drawn-same, drawn-count, filled-same}
+use Rattle.machine.proofs.Pixels.{Sized, drawn-same, drawn-count, filled-same}
+use Rattle.machine.proofs.Shares.{held-all, stores-all}
 use Rattle.machine.proofs.Alike.{runs-alike}
-use Rattle.chip.specs.Chip.{modeOf, isConstant, styleOf, wholeOffers, isCut, figureOffers, wordStores, chip}
+use Rattle.chip.specs.Chip.{figureOffers, wordStores, chip}
 use Rattle.chip.specs.declared.transfer.Reading.{Reading}
 use Rattle.chip.specs.Read.{pixelOf, readNumber, reading, Call, word, strobe, called}
 use Rattle.chip.specs.Stream.{wordsOf, flawIn, flawOf, running}
 use Rattle.chip.specs.Demands.{Ended}
-use Rattle.tiles.specs.Tiles.{answer, answersOf, Even, tiledRows, plainRows, SamePicture, Beside, Starts, Keeps, Keeping, CallsAlike, StreamsAlike, Request9}
-use Rattle.chip.proofs.Laws.{word-unstored, inside}
+use Rattle.tiles.specs.Tiles.{answer, answersOf, tiledRows, plainRows, SamePicture, Beside, Starts, Keeps, Keeping, CallsAlike, StreamsAlike, Request9}
+use Rattle.chip.proofs.Laws.{nothing-offered, word-unstored, init-quiet, inside}
+use Rattle.chip.proofs.Layouts.{pens-laid, offers-laid, stores-laid}
 use Rattle.chip.proofs.Reading.{read-accepted, read-refused}
 
 -- ---- a word in tiles
 
+-- tiles have every column
+tiles-mine : (line x : ℕ) → mine (layoutOf (frameOf line 1)) x ≡ true
+unfolding mine layoutOf
+tiles-mine line x = refl
+
 -- the pixels that it offers
-triangle-laid : (rows : ℕ) (r : Registers) (a b c : Vertex) → triangleOffers (penOf (laid 1 r)) rows (isConstant r) a b c ≡ triangleOffers (penOf (laid 0 r)) rows (isConstant r) a b c
-unfolding triangleOffers offersAt keep offered inWindow inMemory mine layoutOf shows
-triangle-laid rows r a b c = refl
-
-segment-laid : (rows : ℕ) (r : Registers) (a b : Vertex) → segmentOffers (penOf (laid 1 r)) rows (styleOf r) a b ≡ segmentOffers (penOf (laid 0 r)) rows (styleOf r) a b
-unfolding segmentOffers from dashOffers shadeOffers keep offered inWindow inMemory mine layoutOf shows
-segment-laid rows r a b = go (modeOf (r .modes .lmode))
-  where
-    go : (m : Mode) → spans (stepOffers (penOf (laid 1 r)) rows (styleOf r) m a b) (larger a b + 1) ≡ spans (stepOffers (penOf (laid 0 r)) rows (styleOf r) m a b) (larger a b + 1)
-    go Zero = refl
-    go One = refl
-    go Two = refl
-
-whole-laid : (rows : ℕ) (r : Registers) (f : Completed) → wholeOffers rows (laid 1 r) f ≡ wholeOffers rows (laid 0 r) f
-unfolding wholeOffers
-whole-laid rows r Nothing = refl
-whole-laid rows r (Triangle a b c) = triangle-laid rows r a b c
-whole-laid rows r (Segment a b) = segment-laid rows r a b
-
-cut-laid : (r : Registers) (f : Completed) → isCut (laid 1 r) f ≡ isCut (laid 0 r) f
-unfolding isCut
-cut-laid r Nothing = refl
-cut-laid r (Triangle a b c) = refl
-cut-laid r (Segment a b) = refl
-
-figure-laid : (rows : ℕ) (r : Registers) (f : Completed) → figureOffers rows (laid 1 r) f ≡ figureOffers rows (laid 0 r) f
-unfolding figureOffers
-figure-laid rows r f = ap₂ (λ (b : Bool) (os : List Offer). cond b [] os) (cut-laid r f) (whole-laid rows r f)
-
-offers-laid : (rows rows′ : ℕ) (r : Registers) (w : Word) → rows ≡ rows′
-    → figureOffers rows (laid 1 r) (completedBy (laid 1 r) w) ≡ figureOffers rows′ (laid 0 r) (completedBy (laid 0 r) w)
-offers-laid rows rows′ r w e =
-    ap₂ (λ (n : ℕ) (f : Completed). figureOffers n (laid 1 r) f) e (completed-laid 1 r w ∙ sym (completed-laid 0 r w))
-    ∙ figure-laid rows′ r (completedBy (laid 0 r) w)
+offers-tiled : (rows rows′ : ℕ) (r : Registers) (w : Word) → rows ≡ rows′ → chip .offers rows (laid 1 r) w ≡ chip .offers rows′ (laid 0 r) w
+offers-tiled rows rows′ r w e =
+    ap (λ (n : ℕ). chip .offers n (laid 1 r) w) e ∙ offers-laid 1 rows′ r w ∙ held-all (layoutOf (frameOf (r .frame .line) 1)) (tiles-mine (r .frame .line)) (chip .offers rows′ (laid 0 r) w)
 
 -- and what it stores besides
-stores-laid : (rows : ℕ) (r : Registers) (w : Word) → wordStores rows (laid 1 r) w ≡ wordStores rows (laid 0 r) w
-unfolding wordStores within inMemory mine layoutOf
-stores-laid rows r (Init d) = refl
-stores-laid rows r (Aux n) = refl
-stores-laid rows r (Parm v) = refl
-stores-laid rows r (At c n) = refl
-stores-laid rows r (Img d) = refl
-stores-laid rows r (Ptrn v) = refl
-stores-laid rows r Reserved = refl
-stores-laid rows r Unmodelled = refl
-stores-laid rows r Unknown = refl
-
--- what the pen does with an offer, and with a store
-pens-twin : (r : Registers) → Twins (penOf (laid 1 r)) (penOf (laid 0 r))
-unfolding passes newI newZ cellAfter afterStore storedI storedZ
-pens-twin r = record { pass = λ kind z old. refl; leave = λ c o. refl; store = λ c s. refl }
-
--- nothing completed, nothing offered
-nothing-offered : (rows : ℕ) (r : Registers) → figureOffers rows r Nothing ≡ []
-unfolding figureOffers isCut wholeOffers
-nothing-offered rows r = refl
+stores-tiled : (rows rows′ : ℕ) (r : Registers) (w : Word) → rows ≡ rows′ → chip .stores rows (laid 1 r) w ≡ chip .stores rows′ (laid 0 r) w
+stores-tiled rows rows′ r w e =
+    ap (λ (n : ℕ). chip .stores n (laid 1 r) w) e ∙ stores-laid 1 rows′ r w ∙ stores-all (layoutOf (frameOf (r .frame .line) 1)) (tiles-mine (r .frame .line)) (chip .stores rows′ (laid 0 r) w)
 
 -- two reads tell the same, and what they leave belongs together
 record ReadAlike (line n n′ : ℕ) (o p : Reading) (a b : Memories) : Type 0 where
@@ -137,19 +88,6 @@ cold-first ni nz r w e cold = go (isInit w) (isCold r) (accepted-when ni nz r w 
     go true c f g = refl
     go false c f g = absurd (true≢false (sym g ∙ f))
 
--- and INIT neither completes a figure nor stores a pixel
-init-quiet : (r : Registers) (w : Word) → isInit w ≡ true → (completedBy r w ≡ Nothing) × (isPtrn w ≡ false)
-unfolding completedBy
-init-quiet r (Init d) e = (refl, refl)
-init-quiet r (Aux n) e = absurd (true≢false (sym e))
-init-quiet r (Parm v) e = absurd (true≢false (sym e))
-init-quiet r (At c n) e = absurd (true≢false (sym e))
-init-quiet r (Img d) e = absurd (true≢false (sym e))
-init-quiet r (Ptrn v) e = absurd (true≢false (sym e))
-init-quiet r Reserved e = absurd (true≢false (sym e))
-init-quiet r Unmodelled e = absurd (true≢false (sym e))
-init-quiet r Unknown e = absurd (true≢false (sym e))
-
 -- a read leaves them so
 warm-read : (line : ℕ) (r : Registers) (m : Memories) → Warm line r → Warm line (reading r m .registers)
 warm-read line r m warm =
@@ -166,10 +104,6 @@ rows-even k r n m e = ap₂ (rowsOf (frameOf (r .frame .line) k)) (e .0) (e .1)
 inside-laid : (line rows x y : ℕ) → inMemory (frameOf line 1) rows x y ≡ inMemory (frameOf line 0) rows x y
 unfolding inMemory mine layoutOf
 inside-laid line rows x y = refl
-
-tiles-mine : (line x : ℕ) → mine (layoutOf (frameOf line 1)) x ≡ true
-unfolding mine layoutOf
-tiles-mine line x = refl
 
 module _ (q : Registers) (n n′ : ℕ) (a b : Memories) (ea : Even n a) (eb : Even n′ b) where
   -- what a word draws and stores, of the plain chip's offers and stores, from a pen
@@ -258,19 +192,19 @@ module _ (q : Registers) (n n′ : ℕ) (a b : Memories) (ea : Even n a) (eb : E
       draws : drawing chip (laid 1 q) w a ≡ painted (penOf (laid 1 q)) os ss a
       draws =
           ap₂ (λ (us : List Offer) (ts : List Store). painted (penOf (laid 1 q)) us ts a)
-          (offers-laid (rowsIn chip (laid 1 q) a) (rowsIn chip (laid 0 q) b) q w (is ∙ sym is′))
-          (ap (λ (k : ℕ). wordStores k (laid 1 q) w) (is ∙ sym is′) ∙ stores-laid (rowsIn chip (laid 0 q) b) q w)
+          (offers-tiled (rowsIn chip (laid 1 q) a) (rowsIn chip (laid 0 q) b) q w (is ∙ sym is′))
+          (stores-tiled (rowsIn chip (laid 1 q) a) (rowsIn chip (laid 0 q) b) q w (is ∙ sym is′))
 
       same-drawn : SamePixels (frameOf (q .frame .line) 1) (frameOf (q .frame .line) 0) (plainRows (q .frame .line) n′)
           (drawn (penOf (laid 1 q)) os (picture (a .i) (a .z) 0)) (drawn (penOf (laid 0 q)) os (picture (b .i) (b .z) 0))
       same-drawn =
-          drawn-same (penOf (laid 1 q)) (penOf (laid 0 q)) (pens-twin q) (plainRows (q .frame .line) n′) (length (a .i)) (length (a .z)) (length (b .i)) (length (b .z)) is is′
+          drawn-same (penOf (laid 1 q)) (penOf (laid 0 q)) (pens-laid 1 q) (plainRows (q .frame .line) n′) (length (a .i)) (length (a .z)) (length (b .i)) (length (b .z)) is is′
           (λ x y h. sym (inside-laid (q .frame .line) (plainRows (q .frame .line) n′) x y) ∙ h) os (picture (a .i) (a .z) 0) (picture (b .i) (b .z) 0) (sized a) (sized b) held-offers pixels
 
       same-after : SamePixels (frameOf (q .frame .line) 1) (frameOf (q .frame .line) 0) (plainRows (q .frame .line) n′)
           (painted (penOf (laid 1 q)) os ss a) (painted (penOf (laid 0 q)) os ss b)
       same-after =
-          filled-same (penOf (laid 1 q)) (penOf (laid 0 q)) (pens-twin q) (plainRows (q .frame .line) n′) (length (a .i)) (length (a .z)) (length (b .i)) (length (b .z)) is is′
+          filled-same (penOf (laid 1 q)) (penOf (laid 0 q)) (pens-laid 1 q) (plainRows (q .frame .line) n′) (length (a .i)) (length (a .z)) (length (b .i)) (length (b .z)) is is′
           (λ x y h. sym (inside-laid (q .frame .line) (plainRows (q .frame .line) n′) x y) ∙ h) ss
           (drawn (penOf (laid 1 q)) os (picture (a .i) (a .z) 0)) (drawn (penOf (laid 0 q)) os (picture (b .i) (b .z) 0))
           (sized-drawn (penOf (laid 1 q)) os a) (sized-drawn (penOf (laid 0 q)) os b) held-stores same-drawn
@@ -278,7 +212,7 @@ module _ (q : Registers) (n n′ : ℕ) (a b : Memories) (ea : Even n a) (eb : E
       count-after : painted (penOf (laid 1 q)) os ss a .passed ≡ painted (penOf (laid 0 q)) os ss b .passed
       count-after =
           filled-passed (penOf (laid 1 q)) ss _
-          ∙ drawn-count (penOf (laid 1 q)) (penOf (laid 0 q)) (pens-twin q) (plainRows (q .frame .line) n′) (length (a .i)) (length (a .z)) (length (b .i)) (length (b .z)) is is′
+          ∙ drawn-count (penOf (laid 1 q)) (penOf (laid 0 q)) (pens-laid 1 q) (plainRows (q .frame .line) n′) (length (a .i)) (length (a .z)) (length (b .i)) (length (b .z)) is is′
           (λ x y h. sym (inside-laid (q .frame .line) (plainRows (q .frame .line) n′) x y) ∙ h) os (picture (a .i) (a .z) 0) (picture (b .i) (b .z) 0) (sized a) (sized b) held-offers pixels refl
           ∙ sym (filled-passed (penOf (laid 0 q)) ss _)
 

@@ -4,7 +4,6 @@ use mathlib.Core.Path.{_≡_}
 use mathlib.Core.Bool.{true}
 use mathlib.Core.List.{List, [], _∷_, foldl}
 use Prim.Native.Nat.{ℕ, _<_}
-use lib.ListN.{length}
 use Rattle.picture.specs.declared.Frame.{Frame}
 use Rattle.picture.specs.Place.{frameOf, plainFrame, placeOf, rowsOf, inMemory}
 use Rattle.registers.specs.declared.Registers.{Registers}
@@ -13,7 +12,7 @@ use Rattle.registers.specs.Record.{laid, resetAs, resetOf}
 use Rattle.registers.specs.Next.{after}
 use Rattle.machine.specs.Run.{ran}
 use Rattle.machine.specs.Along.{Along}
-use Rattle.machine.specs.Machine.{Memories, memories, numberOf, stepOf}
+use Rattle.machine.specs.Machine.{Memories, memories, Even, numberOf, stepOf}
 use Rattle.machine.specs.Touched.{cellIn}
 use Rattle.machine.specs.Offers.{State, state}
 use Rattle.chip.specs.Chip.{chip}
@@ -41,10 +40,6 @@ answersOf a [] = []
 answersOf a (c ∷ cs) = answerOf a c ∷ answersOf (called a c) cs
 
 -- ---- two chips
-
--- memories of one length
-abbrev pub Even : ℕ → Memories → Type 0
-Even n m = (length (m .i) ≡ n) × (length (m .z) ≡ n)
 
 -- the rows in use of tiled and of plain memories of one length
 abbrev pub tiledRows : ℕ → ℕ → ℕ
