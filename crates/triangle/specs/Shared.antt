@@ -1,11 +1,7 @@
--- An edge that two triangles share, and the offers of one pixel: what the laws about covered pixels speak of.
+-- An edge that two triangles share: what the laws about pixels on it speak of.
 use Prim.Native.Nat.{ℕ, _≤_, min, max}
 use mathlib.Core.Path.{_≡_}
-use mathlib.Core.Bool.{cond, _&&_}
-use mathlib.Core.List.{List, [], _∷_}
-use lib.Dec.{eqb}
 use Rattle.picture.specs.declared.Vertex.{Vertex}
-use Rattle.picture.specs.Offer.{Offer}
 use Rattle.triangle.specs.declared.Corners.{Corners}
 use Rattle.triangle.specs.Edge.{edgeAt}
 
@@ -31,8 +27,3 @@ pub record Amid (a b : Vertex) (x y : ℕ) : Type 0 where
   pub high : y ≤ max (a .y) (b .y)
   pub off-a : (a .x ≡ x) × (a .y ≡ y) → ⊥
   pub off-b : (b .x ≡ x) × (b .y ≡ y) → ⊥
-
--- the offers that are made of pixel (x, y)
-unfoldable pub atPixel : ℕ → ℕ → List Offer → List Offer
-atPixel x y [] = []
-atPixel x y (o ∷ os) = cond (eqb (o .x) x && eqb (o .y) y) (o ∷ atPixel x y os) (atPixel x y os)
