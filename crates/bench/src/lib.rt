@@ -2,11 +2,11 @@
 ghost use mathlib.Core.Path.{_≡_};
 ghost use lib.ListN.{length};
 ghost use Rattle.line.specs.Segment.{segmentOffers};
-ghost use Rattle.picture.specs.Picture.{picture, drawn};
-ghost use Rattle.picture.specs.Place.{rowsOf};
+ghost use Rattle.picture.specs.Picture.{picture};
 ghost use Rattle.stream.specs.Calls.{sizeOf, packing, unpacking};
 ghost use Rattle.triangle.specs.Offers.{triangleOffers};
 ghost use Rattle.bench.specs.Bench.{penOf, modeOf, styleOf, vertexOf, Wrote};
+ghost use Rattle.picture.specs.Lent.{Draws};
 use line::Mode;
 use line::Style;
 use picture::Frame;
@@ -55,7 +55,7 @@ pub extern "C" fn dextolumen_bench_triangle(
     im: &mut [u16],
     zm: &mut [u16],
 ) -> u64
-    ensures { λ r. ⌜ picture (now (im .exit)) (now (zm .exit)) r ≡ drawn (penOf line layout) (triangleOffers (penOf line layout) (rowsOf (penOf line layout .frame) (length (now (im .entry))) (length (now (zm .entry)))) constant (vertexOf ax ay ai az) (vertexOf bx by bi bz) (vertexOf cx cy ci cz)) (picture (now (im .entry)) (now (zm .entry)) 0) ⌝ }
+    ensures { λ r. ⌜ Draws (penOf line layout) (λ rows. triangleOffers (penOf line layout) rows constant (vertexOf ax ay ai az) (vertexOf bx by bi bz) (vertexOf cx cy ci cz)) im zm 0 r ⌝ }
 {
     let a = Vertex {
         x: ax,
@@ -111,7 +111,7 @@ pub extern "C" fn dextolumen_bench_segment(
     im: &mut [u16],
     zm: &mut [u16],
 ) -> u64
-    ensures { λ r. ⌜ picture (now (im .exit)) (now (zm .exit)) r ≡ drawn (penOf line layout) (segmentOffers (penOf line layout) (rowsOf (penOf line layout .frame) (length (now (im .entry))) (length (now (zm .entry)))) (styleOf mode pattern foreground background) (vertexOf ax ay ai az) (vertexOf bx by bi bz)) (picture (now (im .entry)) (now (zm .entry)) 0) ⌝ }
+    ensures { λ r. ⌜ Draws (penOf line layout) (λ rows. segmentOffers (penOf line layout) rows (styleOf mode pattern foreground background) (vertexOf ax ay ai az) (vertexOf bx by bi bz)) im zm 0 r ⌝ }
 {
     let a = Vertex {
         x: ax,

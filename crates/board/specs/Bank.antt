@@ -4,6 +4,9 @@ use mathlib.Core.List.{List, [], _∷_}
 use Prim.Native.Nat.{ℕ}
 use lib.Dec.{eqb, leb}
 use lib.ListN.{length, getD}
+use denote.Ref.{now}
+use denote.Triple.Both.{Both}
+use Rattle.picture.specs.Lent.{Memory, Lent}
 use Rattle.machine.specs.Machine.{Memories, memories}
 
 -- those of four units, in order; those of units that a board lacks are neither looked at nor touched
@@ -19,6 +22,15 @@ bank first second third fourth = record { first = first; second = second; third 
 -- by the lists that are lent, I before Z
 abbrev pub lent : List ℕ → List ℕ → List ℕ → List ℕ → List ℕ → List ℕ → List ℕ → List ℕ → Bank
 lent i0 z0 i1 z1 i2 z2 i3 z3 = bank (memories i0 z0) (memories i1 z1) (memories i2 z2) (memories i3 z3)
+
+-- as a call finds them, also those that it may only read, and as it leaves them
+abbrev pub foundIn : {A B C D E F G H : Type 0} → Both Memory A → Both Memory B → Both Memory C → Both Memory D → Both Memory E → Both Memory F → Both Memory G → Both Memory H → Bank
+foundIn i0 z0 i1 z1 i2 z2 i3 z3 =
+    lent (now (i0 .entry)) (now (z0 .entry)) (now (i1 .entry)) (now (z1 .entry)) (now (i2 .entry)) (now (z2 .entry)) (now (i3 .entry)) (now (z3 .entry))
+
+abbrev pub leftIn : Lent → Lent → Lent → Lent → Lent → Lent → Lent → Lent → Bank
+leftIn i0 z0 i1 z1 i2 z2 i3 z3 =
+    lent (now (i0 .exit)) (now (z0 .exit)) (now (i1 .exit)) (now (z1 .exit)) (now (i2 .exit)) (now (z2 .exit)) (now (i3 .exit)) (now (z3 .exit))
 
 -- those of unit u, counted from 0
 abbrev pub memoriesOf : Bank → ℕ → Memories

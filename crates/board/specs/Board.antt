@@ -58,3 +58,7 @@ isWhole b m = isWholeBy b (isEven (b .units) m)
 -- a word, through the door: 2 for a board or memories that are not such, after 1 for a command above 15
 unfoldable pub boardStep : Step Word Board Bank
 boardStep b w m = cond (isWhole b m) (unitsStep b (unitWord (b .units) w) m) (refused (cond (isUnknown w) 1 2) b m)
+
+-- a word was taken: the number and the count that were told, and the board and memories that were left, are those of the board's step
+abbrev pub TakesOn : Board → Word → Bank → ℕ → ℕ → Board → Bank → Type 0
+TakesOn b w m refusal passed next left = outcome refusal passed next left ≡ boardStep b w m

@@ -1,4 +1,5 @@
 -- Reset, the read call and packed streams on a board (document 02, [8]).
+use mathlib.Core.Path.{_≡_}
 use mathlib.Core.Bool.{Bool, false, cond, not, _||_}
 use mathlib.Core.List.{List, [], _∷_}
 use Prim.Native.Nat.{ℕ}
@@ -65,3 +66,8 @@ runningFrom b bytes m = cond (eqb (boardFlaw (b .units) bytes m) 0) (runOf board
 unfoldable pub boardRunning : ℕ → List ℕ → Bank → Ran Board Bank
 boardRunning units bytes m =
     cond (eqb (resetting units .refusal) 0) (runningFrom (resetting units .board) bytes m) (ran (resetting units .refusal) 0 0 (resetting units .board) m)
+
+-- a packed stream was run on a board of so many units: the number, index and sum that were told, and the board and memories that were left, are
+-- those of its run
+abbrev pub RunsOn : ℕ → List ℕ → Bank → ℕ → ℕ → ℕ → Board → Bank → Type 0
+RunsOn units bytes m refusal index sum last left = ran refusal index sum last left ≡ boardRunning units bytes m

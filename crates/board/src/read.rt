@@ -1,7 +1,7 @@
 // The read call.
 ghost use mathlib.Core.Path.{_≡_};
-ghost use Rattle.board.specs.Bank.{lent};
 ghost use Rattle.board.specs.Calls.{readNumberBy, boardReading};
+ghost use Rattle.board.specs.Bank.{foundIn};
 use crate::Board;
 use crate::step::is_whole;
 use crate::unit::is_even;
@@ -45,7 +45,7 @@ pub extern "C" fn dextolumen_board_read(
     i3: &[u16],
     z3: &[u16],
 ) -> Seen
-    ensures { λ a. ⌜ a ≡ boardReading board (lent (now (i0 .entry)) (now (z0 .entry)) (now (i1 .entry)) (now (z1 .entry)) (now (i2 .entry)) (now (z2 .entry)) (now (i3 .entry)) (now (z3 .entry))) ⌝ }
+    ensures { λ a. ⌜ a ≡ boardReading board (foundIn i0 z0 i1 z1 i2 z2 i3 z3) ⌝ }
 {
     let units = board.units;
     let even = is_even(

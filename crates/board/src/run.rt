@@ -2,11 +2,11 @@
 ghost use mathlib.Core.Path.{_≡_};
 ghost use Rattle.stream.specs.Format.{wordAt};
 ghost use Rattle.registers.specs.Word.{wordOf};
-ghost use Rattle.machine.specs.Run.{outcome, ran, runOf};
+ghost use Rattle.machine.specs.Run.{ran, runOf};
 ghost use Rattle.chip.specs.Stream.{wordsOf};
-ghost use Rattle.board.specs.Bank.{lent};
-ghost use Rattle.board.specs.Board.{boardStep};
-ghost use Rattle.board.specs.Calls.{runningFrom, boardRunning};
+ghost use Rattle.board.specs.Board.{boardStep, TakesOn};
+ghost use Rattle.board.specs.Calls.{runningFrom, RunsOn};
+ghost use Rattle.board.specs.Bank.{foundIn, leftIn};
 use crate::Board;
 use crate::dextolumen_board_reset;
 use crate::step::Reply;
@@ -40,7 +40,7 @@ fn step_at(
     i3: &mut [u16],
     z3: &mut [u16],
 ) -> Reply
-    ensures { λ a. ⌜ outcome (a .refusal) (a .passed) (a .board) (lent (now (i0 .exit)) (now (z0 .exit)) (now (i1 .exit)) (now (z1 .exit)) (now (i2 .exit)) (now (z2 .exit)) (now (i3 .exit)) (now (z3 .exit))) ≡ boardStep board (wordOf (wordAt (now (bytes .entry)) k)) (lent (now (i0 .entry)) (now (z0 .entry)) (now (i1 .entry)) (now (z1 .entry)) (now (i2 .entry)) (now (z2 .entry)) (now (i3 .entry)) (now (z3 .entry))) ⌝ }
+    ensures { λ a. ⌜ TakesOn board (wordOf (wordAt (now (bytes .entry)) k)) (foundIn i0 z0 i1 z1 i2 z2 i3 z3) (a .refusal) (a .passed) (a .board) (leftIn i0 z0 i1 z1 i2 z2 i3 z3) ⌝ }
 {
     let w = word(bytes, k);
     dextolumen_board_step(
@@ -71,7 +71,7 @@ fn run_words(
     i3: &mut [u16],
     z3: &mut [u16],
 ) -> Ended
-    ensures { λ a. ⌜ ran (a .refusal) (a .index) (a .sum) (a .board) (lent (now (i0 .exit)) (now (z0 .exit)) (now (i1 .exit)) (now (z1 .exit)) (now (i2 .exit)) (now (z2 .exit)) (now (i3 .exit)) (now (z3 .exit))) ≡ runOf boardStep start (wordsOf (now (bytes .entry))) (lent (now (i0 .entry)) (now (z0 .entry)) (now (i1 .entry)) (now (z1 .entry)) (now (i2 .entry)) (now (z2 .entry)) (now (i3 .entry)) (now (z3 .entry))) ⌝ }
+    ensures { λ a. ⌜ ran (a .refusal) (a .index) (a .sum) (a .board) (leftIn i0 z0 i1 z1 i2 z2 i3 z3) ≡ runOf boardStep start (wordsOf (now (bytes .entry))) (foundIn i0 z0 i1 z1 i2 z2 i3 z3) ⌝ }
 {
     let count = held(bytes);
     let mut b = start;
@@ -125,7 +125,7 @@ fn run_from(
     i3: &mut [u16],
     z3: &mut [u16],
 ) -> Ended
-    ensures { λ a. ⌜ ran (a .refusal) (a .index) (a .sum) (a .board) (lent (now (i0 .exit)) (now (z0 .exit)) (now (i1 .exit)) (now (z1 .exit)) (now (i2 .exit)) (now (z2 .exit)) (now (i3 .exit)) (now (z3 .exit))) ≡ runningFrom start (now (bytes .entry)) (lent (now (i0 .entry)) (now (z0 .entry)) (now (i1 .entry)) (now (z1 .entry)) (now (i2 .entry)) (now (z2 .entry)) (now (i3 .entry)) (now (z3 .entry))) ⌝ }
+    ensures { λ a. ⌜ ran (a .refusal) (a .index) (a .sum) (a .board) (leftIn i0 z0 i1 z1 i2 z2 i3 z3) ≡ runningFrom start (now (bytes .entry)) (foundIn i0 z0 i1 z1 i2 z2 i3 z3) ⌝ }
 {
     let number = flaw(bytes);
     if number != 0 {
@@ -162,7 +162,7 @@ pub extern "C" fn dextolumen_board_run(
     i3: &mut [u16],
     z3: &mut [u16],
 ) -> Ended
-    ensures { λ a. ⌜ ran (a .refusal) (a .index) (a .sum) (a .board) (lent (now (i0 .exit)) (now (z0 .exit)) (now (i1 .exit)) (now (z1 .exit)) (now (i2 .exit)) (now (z2 .exit)) (now (i3 .exit)) (now (z3 .exit))) ≡ boardRunning units (now (bytes .entry)) (lent (now (i0 .entry)) (now (z0 .entry)) (now (i1 .entry)) (now (z1 .entry)) (now (i2 .entry)) (now (z2 .entry)) (now (i3 .entry)) (now (z3 .entry))) ⌝ }
+    ensures { λ a. ⌜ RunsOn units (now (bytes .entry)) (foundIn i0 z0 i1 z1 i2 z2 i3 z3) (a .refusal) (a .index) (a .sum) (a .board) (leftIn i0 z0 i1 z1 i2 z2 i3 z3) ⌝ }
 {
     let started = dextolumen_board_reset(units);
     let board = started.board;

@@ -5,8 +5,8 @@ ghost use lib.Dec.{ltb};
 ghost use mathlib.Core.Bool.{cond};
 ghost use Rattle.registers.specs.Word.{decode};
 ghost use Rattle.machine.specs.Run.{outcome};
-ghost use Rattle.board.specs.Bank.{lent};
-ghost use Rattle.board.specs.Board.{isWholeBy, unitsStep, boardStep};
+ghost use Rattle.board.specs.Board.{isWholeBy, unitsStep, TakesOn};
+ghost use Rattle.board.specs.Bank.{foundIn, leftIn};
 use crate::Board;
 use crate::door::command_of;
 use crate::door::data_of;
@@ -63,7 +63,7 @@ fn units_step(
     z3: &mut [u16],
 ) -> Reply
     requires { ⌜ board .units < 5 ⌝ }
-    ensures { λ a. ⌜ outcome (a .refusal) (a .passed) (a .board) (lent (now (i0 .exit)) (now (z0 .exit)) (now (i1 .exit)) (now (z1 .exit)) (now (i2 .exit)) (now (z2 .exit)) (now (i3 .exit)) (now (z3 .exit))) ≡ unitsStep board (decode command «data») (lent (now (i0 .entry)) (now (z0 .entry)) (now (i1 .entry)) (now (z1 .entry)) (now (i2 .entry)) (now (z2 .entry)) (now (i3 .entry)) (now (z3 .entry))) ⌝ }
+    ensures { λ a. ⌜ outcome (a .refusal) (a .passed) (a .board) (leftIn i0 z0 i1 z1 i2 z2 i3 z3) ≡ unitsStep board (decode command «data») (foundIn i0 z0 i1 z1 i2 z2 i3 z3) ⌝ }
 {
     let units = board.units;
     let r = board.registers;
@@ -101,7 +101,7 @@ pub extern "C" fn dextolumen_board_step(
     i3: &mut [u16],
     z3: &mut [u16],
 ) -> Reply
-    ensures { λ a. ⌜ outcome (a .refusal) (a .passed) (a .board) (lent (now (i0 .exit)) (now (z0 .exit)) (now (i1 .exit)) (now (z1 .exit)) (now (i2 .exit)) (now (z2 .exit)) (now (i3 .exit)) (now (z3 .exit))) ≡ boardStep board (decode command «data») (lent (now (i0 .entry)) (now (z0 .entry)) (now (i1 .entry)) (now (z1 .entry)) (now (i2 .entry)) (now (z2 .entry)) (now (i3 .entry)) (now (z3 .entry))) ⌝ }
+    ensures { λ a. ⌜ TakesOn board (decode command «data») (foundIn i0 z0 i1 z1 i2 z2 i3 z3) (a .refusal) (a .passed) (a .board) (leftIn i0 z0 i1 z1 i2 z2 i3 z3) ⌝ }
 {
     let units = board.units;
     let even = is_even(

@@ -3,10 +3,10 @@ ghost use mathlib.Core.Path.{_≡_};
 ghost use Prim.Native.Nat.{_<_};
 ghost use Rattle.registers.specs.Word.{decode};
 ghost use Rattle.machine.specs.Run.{outcome};
-ghost use Rattle.machine.specs.Machine.{memories};
 ghost use Rattle.board.specs.Bank.{unitEven, evenLengths};
 ghost use Rattle.chip.specs.Units.{unitLayout};
 ghost use Rattle.board.specs.Board.{partOf, Part};
+ghost use Rattle.machine.specs.Lent.{found, left};
 use chip::step::Answer;
 use chip::step::step;
 use registers::Registers;
@@ -59,7 +59,7 @@ pub(crate) fn part_of(
 ) -> Answer
     requires { ⌜ units < 5 ⌝ }
     requires { ⌜ u < 4 ⌝ }
-    ensures { λ a. ⌜ Part (outcome (a .refusal) (a .passed) (a .registers) (memories (now (im .exit)) (now (zm .exit)))) (partOf units r (decode command «data») u (memories (now (im .entry)) (now (zm .entry)))) ⌝ }
+    ensures { λ a. ⌜ Part (outcome (a .refusal) (a .passed) (a .registers) (left im zm)) (partOf units r (decode command «data») u (found im zm)) ⌝ }
 {
     if units <= u {
         return Answer {

@@ -17,12 +17,13 @@ use Rattle.registers.specs.declared.Registers.{Registers}
 use Rattle.registers.specs.Word.{decode, wordOf}
 use Rattle.registers.specs.Next.{after, completedBy, penOf}
 use Rattle.registers.specs.Refusal.{refusalOf}
-use Rattle.machine.specs.Run.{outcome, ran, runOf}
+use Rattle.machine.specs.Run.{ran, runOf}
 use Rattle.machine.specs.Along.{Stopped}
 use Rattle.machine.specs.Machine.{memories, stepOf}
 use Rattle.machine.specs.Touched.{passedBy, touchedBy, passedOf, touchedOf}
 use Rattle.chip.specs.Chip.{figureOffers, wordStores, chip}
-use Rattle.chip.specs.Stream.{wordsOf, flawOf, running}
+use Rattle.chip.specs.Stream.{wordsOf, flawOf}
+use Rattle.chip.specs.Promises.{Takes, RunsFrom}
 
 -- ---- outcomes
 
@@ -33,7 +34,7 @@ pub record Stepped (r : Registers) (command d : ℕ) (i z : List ℕ) : Type 0 w
   pub registers : Registers
   pub i-left : List ℕ
   pub z-left : List ℕ
-  pub promise : outcome refusal passed registers (memories i-left z-left) ≡ stepOf chip r (decode command d) (memories i z)
+  pub promise : Takes r (decode command d) (memories i z) refusal passed registers (memories i-left z-left)
 
 -- an outcome of a recording from a record, which is reset's, that the promise of `run` allows
 pub record Ended (start : Registers) (bytes i z : List ℕ) : Type 0 where
@@ -43,7 +44,7 @@ pub record Ended (start : Registers) (bytes i z : List ℕ) : Type 0 where
   pub registers : Registers
   pub i-left : List ℕ
   pub z-left : List ℕ
-  pub promise : ran refusal index sum registers (memories i-left z-left) ≡ running start bytes (memories i z)
+  pub promise : RunsFrom start bytes (memories i z) refusal index sum registers (memories i-left z-left)
 
 -- both memories are as they were
 abbrev pub Same : List ℕ → List ℕ → List ℕ → List ℕ → Type 0

@@ -4,5 +4,6 @@ pub mod Dashes
 pub mod WorkedLine
 pub mod Stream
 pub mod Read
+pub mod Promises
 pub mod Demands
 pub mod Units

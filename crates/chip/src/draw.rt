@@ -1,11 +1,10 @@
 // The figure that a word completed, drawn.
 ghost use mathlib.Core.Path.{_≡_};
 ghost use Prim.Native.Nat.{_+_, _*_};
-ghost use lib.ListN.{length};
-ghost use Rattle.picture.specs.Place.{rowsOf};
-ghost use Rattle.picture.specs.Picture.{picture, drawn};
+ghost use Rattle.picture.specs.Picture.{drawn};
 ghost use Rattle.registers.specs.Next.{penOf};
 ghost use Rattle.chip.specs.Chip.{modeOf, styleOf, wholeOffers, isCut, figureOffers};
+ghost use Rattle.picture.specs.Lent.{Draws};
 use line::Mode;
 use line::Style;
 use line::segment;
@@ -51,7 +50,7 @@ fn style_of(r: Registers) -> Style
 
 // Draws what a word completed, cut or not. Answers how many pixels passed.
 fn draw_whole(r: Registers, figure: Completed, im: &mut [u16], zm: &mut [u16]) -> u64
-    ensures { λ n. ⌜ picture (now (im .exit)) (now (zm .exit)) n ≡ drawn (penOf r) (wholeOffers (rowsOf (r .frame) (length (now (im .entry))) (length (now (zm .entry)))) r figure) (picture (now (im .entry)) (now (zm .entry)) 0) ⌝ }
+    ensures { λ n. ⌜ Draws (penOf r) (λ rows. wholeOffers rows r figure) im zm 0 n ⌝ }
 {
     let pen = r.pen();
     let constant = r.modes.pmode == 1;
@@ -78,7 +77,7 @@ fn is_cut(r: Registers, figure: Completed) -> bool
 
 // Draws what a word completed, unless it is cut. Answers how many pixels passed.
 pub fn draw(r: Registers, figure: Completed, im: &mut [u16], zm: &mut [u16]) -> u64
-    ensures { λ n. ⌜ picture (now (im .exit)) (now (zm .exit)) n ≡ drawn (penOf r) (figureOffers (rowsOf (r .frame) (length (now (im .entry))) (length (now (zm .entry)))) r figure) (picture (now (im .entry)) (now (zm .entry)) 0) ⌝ }
+    ensures { λ n. ⌜ Draws (penOf r) (λ rows. figureOffers rows r figure) im zm 0 n ⌝ }
 {
     if is_cut(r, figure) {
         return 0;

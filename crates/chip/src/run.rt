@@ -3,10 +3,12 @@ ghost use mathlib.Core.Path.{_≡_};
 ghost use Rattle.stream.specs.Format.{wordAt};
 ghost use Rattle.registers.specs.Word.{wordOf};
 ghost use Rattle.registers.specs.Record.{resetAs, resetOf};
-ghost use Rattle.machine.specs.Run.{outcome, ran, runOf};
+ghost use Rattle.machine.specs.Run.{ran, runOf};
 ghost use Rattle.machine.specs.Machine.{memories, stepOf};
 ghost use Rattle.chip.specs.Chip.{chip};
-ghost use Rattle.chip.specs.Stream.{wordsOf, running};
+ghost use Rattle.chip.specs.Stream.{wordsOf};
+ghost use Rattle.chip.specs.Promises.{Takes, RunsFrom};
+ghost use Rattle.machine.specs.Lent.{found, left};
 use crate::step::Answer;
 use crate::step::step;
 use registers::Registers;
@@ -25,7 +27,7 @@ pub struct Ran {
 
 // The word at place k of a stream, taken.
 fn step_at(r: Registers, bytes: &[u8], k: usize, im: &mut [u16], zm: &mut [u16]) -> Answer
-    ensures { λ a. ⌜ outcome (a .refusal) (a .passed) (a .registers) (memories (now (im .exit)) (now (zm .exit))) ≡ stepOf chip r (wordOf (wordAt (now (bytes .entry)) k)) (memories (now (im .entry)) (now (zm .entry))) ⌝ }
+    ensures { λ a. ⌜ Takes r (wordOf (wordAt (now (bytes .entry)) k)) (found im zm) (a .refusal) (a .passed) (a .registers) (left im zm) ⌝ }
 {
     let w = word(bytes, k);
     step(r, (w / 65536) as u8, (w % 65536) as u16, im, zm)
@@ -33,7 +35,7 @@ fn step_at(r: Registers, bytes: &[u8], k: usize, im: &mut [u16], zm: &mut [u16])
 
 // The words of a stream, one after the other, until one is refused.
 fn run_words(start: Registers, bytes: &[u8], im: &mut [u16], zm: &mut [u16]) -> Ran
-    ensures { λ a. ⌜ ran (a .refusal) (a .index) (a .sum) (a .registers) (memories (now (im .exit)) (now (zm .exit))) ≡ runOf (stepOf chip) start (wordsOf (now (bytes .entry))) (memories (now (im .entry)) (now (zm .entry))) ⌝ }
+    ensures { λ a. ⌜ ran (a .refusal) (a .index) (a .sum) (a .registers) (left im zm) ≡ runOf (stepOf chip) start (wordsOf (now (bytes .entry))) (found im zm) ⌝ }
 {
     let count = held(bytes);
     let mut r = start;
@@ -76,7 +78,7 @@ fn refused(start: Registers, number: u64) -> Ran
 
 // Runs a packed stream from a record: checks it and the memories, then takes word after word until one is refused.
 fn run_from(start: Registers, bytes: &[u8], im: &mut [u16], zm: &mut [u16]) -> Ran
-    ensures { λ a. ⌜ ran (a .refusal) (a .index) (a .sum) (a .registers) (memories (now (im .exit)) (now (zm .exit))) ≡ running start (now (bytes .entry)) (memories (now (im .entry)) (now (zm .entry))) ⌝ }
+    ensures { λ a. ⌜ RunsFrom start (now (bytes .entry)) (found im zm) (a .refusal) (a .index) (a .sum) (a .registers) (left im zm) ⌝ }
 {
     let number = flaw(bytes);
     if number != 0 {
@@ -90,7 +92,7 @@ fn run_from(start: Registers, bytes: &[u8], im: &mut [u16], zm: &mut [u16]) -> R
 
 // Runs a packed stream from reset, over memories of rows one after the other.
 pub fn run(bytes: &[u8], im: &mut [u16], zm: &mut [u16]) -> Ran
-    ensures { λ a. ⌜ ran (a .refusal) (a .index) (a .sum) (a .registers) (memories (now (im .exit)) (now (zm .exit))) ≡ running resetOf (now (bytes .entry)) (memories (now (im .entry)) (now (zm .entry))) ⌝ }
+    ensures { λ a. ⌜ RunsFrom resetOf (now (bytes .entry)) (found im zm) (a .refusal) (a .index) (a .sum) (a .registers) (left im zm) ⌝ }
 {
     let start = Registers::reset();
     run_from(start, bytes, im, zm)
@@ -98,7 +100,7 @@ pub fn run(bytes: &[u8], im: &mut [u16], zm: &mut [u16]) -> Ran
 
 // Runs a packed stream from reset, over memories of tiles.
 pub fn run_tiled(bytes: &[u8], im: &mut [u16], zm: &mut [u16]) -> Ran
-    ensures { λ a. ⌜ ran (a .refusal) (a .index) (a .sum) (a .registers) (memories (now (im .exit)) (now (zm .exit))) ≡ running (resetAs 1) (now (bytes .entry)) (memories (now (im .entry)) (now (zm .entry))) ⌝ }
+    ensures { λ a. ⌜ RunsFrom (resetAs 1) (now (bytes .entry)) (found im zm) (a .refusal) (a .index) (a .sum) (a .registers) (left im zm) ⌝ }
 {
     let start = Registers::reset_tiled();
     run_from(start, bytes, im, zm)

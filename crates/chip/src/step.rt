@@ -1,9 +1,9 @@
 // One word.
 ghost use mathlib.Core.Path.{_≡_};
-ghost use Rattle.machine.specs.Run.{outcome};
-ghost use Rattle.machine.specs.Machine.{memories, stepOf};
+ghost use Rattle.machine.specs.Machine.{memories};
 ghost use Rattle.registers.specs.Word.{decode};
-ghost use Rattle.chip.specs.Chip.{chip};
+ghost use Rattle.chip.specs.Promises.{Takes};
+ghost use Rattle.machine.specs.Lent.{found, left};
 use crate::draw::draw;
 use crate::transfer::load;
 use registers::Registers;
@@ -30,7 +30,7 @@ fn quiet(refusal: u64, registers: Registers) -> Answer
 
 // Takes a word, or refuses it and leaves registers and memories as they were.
 pub fn step(r: Registers, command: u8, data: u16, im: &mut [u16], zm: &mut [u16]) -> Answer
-    ensures { λ a. ⌜ outcome (a .refusal) (a .passed) (a .registers) (memories (now (im .exit)) (now (zm .exit))) ≡ stepOf chip r (decode command «data») (memories (now (im .entry)) (now (zm .entry))) ⌝ }
+    ensures { λ a. ⌜ Takes r (decode command «data») (found im zm) (a .refusal) (a .passed) (a .registers) (left im zm) ⌝ }
 {
     let word = decoded(command, data);
     let number = r.refusal(word, im.len(), zm.len());

@@ -1,20 +1,18 @@
 // Pictures back and forth: a pixel to the region's place, and one from it.
 ghost use mathlib.Core.Path.{_≡_};
-ghost use lib.ListN.{length};
-ghost use Rattle.picture.specs.Place.{rowsOf};
 ghost use Rattle.picture.specs.Picture.{picture};
-ghost use Rattle.picture.specs.Store.{filled};
 ghost use Rattle.registers.specs.Next.{penOf};
-ghost use Rattle.machine.specs.Machine.{memories};
 ghost use Rattle.chip.specs.Chip.{pictureStores};
 ghost use Rattle.chip.specs.Read.{pixelOf, reading};
+ghost use Rattle.picture.specs.Lent.{Fills};
+ghost use Rattle.machine.specs.Lent.{found};
 use picture::transfer::fetch;
 use picture::transfer::store;
 use registers::Registers;
 
 // Stores PTRN's number at the region's pixel.
 pub(crate) fn load(r: Registers, value: u16, im: &mut [u16], zm: &mut [u16])
-    ensures { λ _. ⌜ picture (now (im .exit)) (now (zm .exit)) 0 ≡ filled (penOf r) (pictureStores (rowsOf (r .frame) (length (now (im .entry))) (length (now (zm .entry)))) r value) (picture (now (im .entry)) (now (zm .entry)) 0) ⌝ }
+    ensures { λ _. ⌜ Fills (penOf r) (λ rows. pictureStores rows r value) im zm ⌝ }
 {
     let pen = r.pen();
     let deep = r.is_deep_picture();
@@ -23,7 +21,7 @@ pub(crate) fn load(r: Registers, value: u16, im: &mut [u16], zm: &mut [u16])
 
 // The number at the region's pixel.
 fn pixel(r: Registers, im: &[u16], zm: &[u16]) -> u16
-    ensures { λ n. ⌜ n ≡ pixelOf r (memories (now (im .entry)) (now (zm .entry))) ⌝ }
+    ensures { λ n. ⌜ n ≡ pixelOf r (found im zm) ⌝ }
 {
     let frame = r.frame;
     let deep = r.is_deep_picture();
@@ -39,7 +37,7 @@ pub struct Reading {
 
 // Reads the region's pixel and moves the region on, or refuses and leaves the registers as they were.
 pub fn read(r: Registers, im: &[u16], zm: &[u16]) -> Reading
-    ensures { λ a. ⌜ a ≡ reading r (memories (now (im .entry)) (now (zm .entry))) ⌝ }
+    ensures { λ a. ⌜ a ≡ reading r (found im zm) ⌝ }
 {
     let number = r.read_refusal(im.len(), zm.len());
     if number != 0 {

@@ -1,11 +1,9 @@
 // The entry for the host program in C that takes a word, on the record where it stands. Its result is that of the chip's own `step`, by the
 // same definitions. include/dextolumen.h has the C side. Other entries are in crates of their own: `reader` and `recording`, and in those of
 // the calls that they are: `stream`, `board`, `instalments`, `mending`, `squares`.
-ghost use mathlib.Core.Path.{_≡_};
 ghost use Rattle.registers.specs.Word.{decode};
-ghost use Rattle.machine.specs.Run.{outcome};
-ghost use Rattle.machine.specs.Machine.{memories, stepOf};
-ghost use Rattle.chip.specs.Chip.{chip};
+ghost use Rattle.machine.specs.Lent.{found, left};
+ghost use Rattle.chip.specs.Promises.{Takes};
 use chip::step::step;
 use registers::Registers;
 
@@ -25,7 +23,7 @@ pub extern "C" fn dextolumen_step(
     im: &mut [u16],
     zm: &mut [u16],
 ) -> Told
-    ensures { λ a. ⌜ outcome (a .refusal) (a .passed) (now (registers .exit)) (memories (now (im .exit)) (now (zm .exit))) ≡ stepOf chip (now (registers .entry)) (decode command «data») (memories (now (im .entry)) (now (zm .entry))) ⌝ }
+    ensures { λ a. ⌜ Takes (now (registers .entry)) (decode command «data») (found im zm) (a .refusal) (a .passed) (now (registers .exit)) (left im zm) ⌝ }
 {
     let a = step(*registers, command, data, im, zm);
     let next = a.registers;

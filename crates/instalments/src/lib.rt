@@ -5,6 +5,7 @@ ghost use mathlib.Core.Bool.{true, false};
 ghost use Prim.Native.Nat.{_^_, _<_};
 ghost use Rattle.machine.specs.Machine.{memories};
 ghost use Rattle.instalments.specs.Instalments.{soFar, taking, fresh, isClosed, isWordNumber, isEndNumber, numberFits, bitsFit, isSound, wordIn, bytesIn, feeding, endNumber, ending};
+ghost use Rattle.machine.specs.Lent.{found, left};
 use chip::step::step;
 use registers::Registers;
 
@@ -112,7 +113,7 @@ fn answer(s: Intake, refusal: u64, held: u32, count: u32, over: u32) -> Intake
 fn run_word(s: Intake, w: u32, im: &mut [u16], zm: &mut [u16]) -> Intake
     requires { ⌜ s .refusal ≡ 0 ⌝ }
     requires { ⌜ w < 2 ^ 20 ⌝ }
-    ensures { λ a. ⌜ soFar a (memories (now (im .exit)) (now (zm .exit))) ≡ wordIn (soFar s (memories (now (im .entry)) (now (zm .entry)))) w ⌝ }
+    ensures { λ a. ⌜ soFar a (left im zm) ≡ wordIn (soFar s (found im zm)) w ⌝ }
 {
     let registers = s.registers;
     let a = step(registers, (w / 65536) as u8, (w % 65536) as u16, im, zm);
@@ -135,7 +136,7 @@ fn run_word(s: Intake, w: u32, im: &mut [u16], zm: &mut [u16]) -> Intake
 fn take_all(s: Intake, bytes: &[u8], im: &mut [u16], zm: &mut [u16]) -> Intake
     requires { ⌜ isSound s ≡ true ⌝ }
     requires { ⌜ isClosed (s .refusal) (s .over) ≡ false ⌝ }
-    ensures { λ a. ⌜ taking a (memories (now (im .exit)) (now (zm .exit))) ≡ bytesIn (taking s (memories (now (im .entry)) (now (zm .entry)))) (now (bytes .entry)) ⌝ }
+    ensures { λ a. ⌜ taking a (left im zm) ≡ bytesIn (taking s (found im zm)) (now (bytes .entry)) ⌝ }
 {
     let mut next = s;
     let mut held = s.held;
@@ -165,7 +166,7 @@ fn take_all(s: Intake, bytes: &[u8], im: &mut [u16], zm: &mut [u16]) -> Intake
 // changes nothing and answers as before. A record that breaks a bound is refused with 2.
 #[no_mangle]
 pub extern "C" fn dextolumen_feed(s: Intake, bytes: &[u8], im: &mut [u16], zm: &mut [u16]) -> Intake
-    ensures { λ a. ⌜ taking a (memories (now (im .exit)) (now (zm .exit))) ≡ feeding (taking s (memories (now (im .entry)) (now (zm .entry)))) (now (bytes .entry)) ⌝ }
+    ensures { λ a. ⌜ taking a (left im zm) ≡ feeding (taking s (found im zm)) (now (bytes .entry)) ⌝ }
 {
     if is_sound(s) {
         if is_closed(s.refusal, s.over) {
@@ -196,7 +197,7 @@ fn end_number(held: u32, count: u32, ni: usize, nz: usize) -> u64
 // bound is refused with 2.
 #[no_mangle]
 pub extern "C" fn dextolumen_finish(s: Intake, im: &[u16], zm: &[u16]) -> Intake
-    ensures { λ a. ⌜ taking a (memories (now (im .entry)) (now (zm .entry))) ≡ ending (taking s (memories (now (im .entry)) (now (zm .entry)))) ⌝ }
+    ensures { λ a. ⌜ taking a (found im zm) ≡ ending (taking s (found im zm)) ⌝ }
 {
     if is_sound(s) {
         if is_closed(s.refusal, s.over) {

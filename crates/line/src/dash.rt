@@ -2,13 +2,12 @@
 ghost use mathlib.Core.Path.{_≡_};
 ghost use mathlib.Core.Bool.{cond};
 ghost use Prim.Native.Nat.{_+_, _≤_};
-ghost use lib.ListN.{length};
-ghost use Rattle.picture.specs.Place.{rowsOf};
 ghost use Rattle.picture.specs.Draw.{spans};
 ghost use Rattle.picture.specs.Picture.{picture, drawn};
 ghost use Rattle.line.specs.Segment.{larger, isSet, firstOf, from, dashOffers};
 ghost use Rattle.line.specs.Ramp.{RampAt};
 ghost use Rattle.line.specs.Step.{Dashed};
+ghost use Rattle.picture.specs.Lent.{Draws};
 use crate::Style;
 use crate::inside;
 use crate::inside::has_ends;
@@ -77,7 +76,7 @@ fn put_dash(
     zm: &mut [u16],
 ) -> u64
     requires { ⌜ Dashed a b s k side × (set ≡ isSet style k) ⌝ }
-    ensures { λ r. ⌜ (picture (now (im .exit)) (now (zm .exit)) r ≡ drawn pen (dashOffers pen (rowsOf (pen .frame) (length (now (im .entry))) (length (now (zm .entry)))) kind ground style a b k) (picture (now (im .entry)) (now (zm .entry)) 0)) × (r ≤ 1) ⌝ }
+    ensures { λ r. ⌜ (Draws pen (λ rows. dashOffers pen rows kind ground style a b k) im zm 0 r) × (r ≤ 1) ⌝ }
 {
     if set | ground {
         let p = pixel_of(a, b, s, k, number(side));
@@ -98,7 +97,7 @@ fn dashed_anywhere(
     im: &mut [u16],
     zm: &mut [u16],
 ) -> u64
-    ensures { λ r. ⌜ picture (now (im .exit)) (now (zm .exit)) r ≡ drawn pen (spans (from (firstOf (style .joined)) (dashOffers pen (rowsOf (pen .frame) (length (now (im .entry))) (length (now (zm .entry)))) kind ground style a b)) (larger a b + 1)) (picture (now (im .entry)) (now (zm .entry)) 0) ⌝ }
+    ensures { λ r. ⌜ Draws pen (λ rows. spans (from (firstOf (style .joined)) (dashOffers pen rows kind ground style a b)) (larger a b + 1)) im zm 0 r ⌝ }
 {
     let s = slope_of(a, b);
     let n = s.n as u64;
@@ -125,7 +124,7 @@ pub(crate) fn dashed(
     im: &mut [u16],
     zm: &mut [u16],
 ) -> u64
-    ensures { λ r. ⌜ picture (now (im .exit)) (now (zm .exit)) r ≡ drawn pen (spans (from (firstOf (style .joined)) (dashOffers pen (rowsOf (pen .frame) (length (now (im .entry))) (length (now (zm .entry)))) kind ground style a b)) (larger a b + 1)) (picture (now (im .entry)) (now (zm .entry)) 0) ⌝ }
+    ensures { λ r. ⌜ Draws pen (λ rows. spans (from (firstOf (style .joined)) (dashOffers pen rows kind ground style a b)) (larger a b + 1)) im zm 0 r ⌝ }
 {
     let whole = has_ends(pen, a, b, im.len(), zm.len()) & (pen.transparency == 65535);
     if whole {

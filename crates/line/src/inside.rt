@@ -2,15 +2,15 @@
 // from those that ask, so that what a step does is little enough to be compiled into its loop.
 ghost use mathlib.Core.Path.{_≡_};
 ghost use Prim.Native.Nat.{_+_, _≤_};
-ghost use lib.ListN.{length};
 ghost use Rattle.picture.specs.declared.Kind.the-variants.{Line2};
 ghost use Rattle.picture.specs.Place.{rowsOf};
 ghost use Rattle.picture.specs.Offer.{offer, keep};
 ghost use Rattle.picture.specs.Draw.{spans};
-ghost use Rattle.picture.specs.Picture.{picture, drawn};
+ghost use Rattle.picture.specs.Picture.{picture};
 ghost use Rattle.line.specs.Segment.{larger, xAt, yAt, isSet, firstOf, from, dashOffers, shadeOffers};
 ghost use Rattle.line.specs.Step.{within, endsWithin, Inside, Dashed, Shaded};
 ghost use Rattle.line.specs.Course.{OnCourse};
+ghost use Rattle.picture.specs.Lent.{Draws, rowsOver};
 use crate::Style;
 use crate::course::Course;
 use crate::course::course_of;
@@ -66,8 +66,8 @@ fn put_inside(
     im: &mut [u16],
     zm: &mut [u16],
 ) -> u64
-    requires { ⌜ Dashed a b s k side × OnCourse pen a b s c × Inside pen (rowsOf (pen .frame) (length (now im)) (length (now zm))) kind a b ⌝ }
-    ensures { λ r. ⌜ picture (now (im .exit)) (now (zm .exit)) r ≡ drawn pen (keep pen (rowsOf (pen .frame) (length (now (im .entry))) (length (now (zm .entry)))) (offer kind (xAt a b k) (yAt a b k) i z)) (picture (now (im .entry)) (now (zm .entry)) 0) ⌝ }
+    requires { ⌜ Dashed a b s k side × OnCourse pen a b s c × Inside pen (rowsOver (pen .frame) im zm) kind a b ⌝ }
+    ensures { λ r. ⌜ Draws pen (λ rows. keep pen rows (offer kind (xAt a b k) (yAt a b k) i z)) im zm 0 r ⌝ }
 {
     let at = place_at(pen, c, a, b, s, k, number(side));
     put_placed(pen, kind, at, i, z, im, zm)
@@ -89,8 +89,8 @@ fn put_dash(
     im: &mut [u16],
     zm: &mut [u16],
 ) -> u64
-    requires { ⌜ Dashed a b s k side × OnCourse pen a b s c × (set ≡ isSet style k) × Inside pen (rowsOf (pen .frame) (length (now im)) (length (now zm))) kind a b ⌝ }
-    ensures { λ r. ⌜ (picture (now (im .exit)) (now (zm .exit)) r ≡ drawn pen (dashOffers pen (rowsOf (pen .frame) (length (now (im .entry))) (length (now (zm .entry)))) kind ground style a b k) (picture (now (im .entry)) (now (zm .entry)) 0)) × (r ≤ 1) ⌝ }
+    requires { ⌜ Dashed a b s k side × OnCourse pen a b s c × (set ≡ isSet style k) × Inside pen (rowsOver (pen .frame) im zm) kind a b ⌝ }
+    ensures { λ r. ⌜ (Draws pen (λ rows. dashOffers pen rows kind ground style a b k) im zm 0 r) × (r ≤ 1) ⌝ }
 {
     if set | ground {
         let ink = ink_of(style, set);
@@ -113,8 +113,8 @@ fn put_shade(
     im: &mut [u16],
     zm: &mut [u16],
 ) -> u64
-    requires { ⌜ Shaded a b s k side i z × OnCourse pen a b s c × Inside pen (rowsOf (pen .frame) (length (now im)) (length (now zm))) Line2 a b ⌝ }
-    ensures { λ r. ⌜ (picture (now (im .exit)) (now (zm .exit)) r ≡ drawn pen (shadeOffers pen (rowsOf (pen .frame) (length (now (im .entry))) (length (now (zm .entry)))) a b k) (picture (now (im .entry)) (now (zm .entry)) 0)) × (r ≤ 1) ⌝ }
+    requires { ⌜ Shaded a b s k side i z × OnCourse pen a b s c × Inside pen (rowsOver (pen .frame) im zm) Line2 a b ⌝ }
+    ensures { λ r. ⌜ (Draws pen (λ rows. shadeOffers pen rows a b k) im zm 0 r) × (r ≤ 1) ⌝ }
 {
     put_inside(
         pen,
@@ -143,8 +143,8 @@ pub(crate) fn dashed(
     im: &mut [u16],
     zm: &mut [u16],
 ) -> u64
-    requires { ⌜ Inside pen (rowsOf (pen .frame) (length (now im)) (length (now zm))) kind a b ⌝ }
-    ensures { λ r. ⌜ picture (now (im .exit)) (now (zm .exit)) r ≡ drawn pen (spans (from (firstOf (style .joined)) (dashOffers pen (rowsOf (pen .frame) (length (now (im .entry))) (length (now (zm .entry)))) kind ground style a b)) (larger a b + 1)) (picture (now (im .entry)) (now (zm .entry)) 0) ⌝ }
+    requires { ⌜ Inside pen (rowsOver (pen .frame) im zm) kind a b ⌝ }
+    ensures { λ r. ⌜ Draws pen (λ rows. spans (from (firstOf (style .joined)) (dashOffers pen rows kind ground style a b)) (larger a b + 1)) im zm 0 r ⌝ }
 {
     let s = slope_of(a, b);
     let n = s.n as u64;
@@ -163,8 +163,8 @@ pub(crate) fn dashed(
 
 // `shade::shaded` for a segment of which every pixel is offered.
 pub(crate) fn shaded(pen: Pen, a: Vertex, b: Vertex, im: &mut [u16], zm: &mut [u16]) -> u64
-    requires { ⌜ Inside pen (rowsOf (pen .frame) (length (now im)) (length (now zm))) Line2 a b ⌝ }
-    ensures { λ r. ⌜ picture (now (im .exit)) (now (zm .exit)) r ≡ drawn pen (spans (shadeOffers pen (rowsOf (pen .frame) (length (now (im .entry))) (length (now (zm .entry)))) a b) (larger a b + 1)) (picture (now (im .entry)) (now (zm .entry)) 0) ⌝ }
+    requires { ⌜ Inside pen (rowsOver (pen .frame) im zm) Line2 a b ⌝ }
+    ensures { λ r. ⌜ Draws pen (λ rows. spans (shadeOffers pen rows a b) (larger a b + 1)) im zm 0 r ⌝ }
 {
     let s = slope_of(a, b);
     let n = s.n as u64;

@@ -1,9 +1,8 @@
 // Line segments. specs/Segment.antt says which pixels a segment has and what is offered of them.
 ghost use mathlib.Core.Path.{_≡_};
-ghost use lib.ListN.{length};
-ghost use Rattle.picture.specs.Place.{rowsOf};
-ghost use Rattle.picture.specs.Picture.{picture, drawn};
+ghost use Rattle.picture.specs.Picture.{picture};
 ghost use Rattle.line.specs.Segment.{larger, segmentOffers};
+ghost use Rattle.picture.specs.Lent.{Draws};
 use crate::slope::slope_of;
 use picture::Kind;
 use picture::Pen;
@@ -44,7 +43,7 @@ pub fn step_count(a: Vertex, b: Vertex) -> u16
 
 // Draws the segment from the earlier point a to the new endpoint b. Answers how many pixels passed.
 pub fn segment(pen: Pen, style: Style, a: Vertex, b: Vertex, im: &mut [u16], zm: &mut [u16]) -> u64
-    ensures { λ r. ⌜ picture (now (im .exit)) (now (zm .exit)) r ≡ drawn pen (segmentOffers pen (rowsOf (pen .frame) (length (now (im .entry))) (length (now (zm .entry)))) style a b) (picture (now (im .entry)) (now (zm .entry)) 0) ⌝ }
+    ensures { λ r. ⌜ Draws pen (λ rows. segmentOffers pen rows style a b) im zm 0 r ⌝ }
 {
     let mode = style.mode;
     match mode {

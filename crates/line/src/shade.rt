@@ -1,12 +1,10 @@
 // Lines with numbers: mode 2.
-ghost use mathlib.Core.Path.{_≡_};
 ghost use Prim.Native.Nat.{_+_, _≤_};
-ghost use lib.ListN.{length};
-ghost use Rattle.picture.specs.Place.{rowsOf};
 ghost use Rattle.picture.specs.Draw.{spans};
-ghost use Rattle.picture.specs.Picture.{picture, drawn};
+ghost use Rattle.picture.specs.Picture.{picture};
 ghost use Rattle.line.specs.Segment.{larger, shadeOffers};
 ghost use Rattle.line.specs.Step.{Shaded};
+ghost use Rattle.picture.specs.Lent.{Draws};
 use crate::inside;
 use crate::inside::has_ends;
 use crate::ramp::Ramp;
@@ -35,7 +33,7 @@ fn put_shade(
     zm: &mut [u16],
 ) -> u64
     requires { ⌜ Shaded a b s k side i z ⌝ }
-    ensures { λ r. ⌜ (picture (now (im .exit)) (now (zm .exit)) r ≡ drawn pen (shadeOffers pen (rowsOf (pen .frame) (length (now (im .entry))) (length (now (zm .entry)))) a b k) (picture (now (im .entry)) (now (zm .entry)) 0)) × (r ≤ 1) ⌝ }
+    ensures { λ r. ⌜ (Draws pen (λ rows. shadeOffers pen rows a b k) im zm 0 r) × (r ≤ 1) ⌝ }
 {
     let p = pixel_of(a, b, s, k, number(side));
     put(pen, Kind::Line2, p.x, p.y, number(i), number(z), im, zm)
@@ -43,7 +41,7 @@ fn put_shade(
 
 // Draws a segment, wherever it is, whose two numbers go evenly from those of a to those of b.
 fn shaded_anywhere(pen: Pen, a: Vertex, b: Vertex, im: &mut [u16], zm: &mut [u16]) -> u64
-    ensures { λ r. ⌜ picture (now (im .exit)) (now (zm .exit)) r ≡ drawn pen (spans (shadeOffers pen (rowsOf (pen .frame) (length (now (im .entry))) (length (now (zm .entry)))) a b) (larger a b + 1)) (picture (now (im .entry)) (now (zm .entry)) 0) ⌝ }
+    ensures { λ r. ⌜ Draws pen (λ rows. spans (shadeOffers pen rows a b) (larger a b + 1)) im zm 0 r ⌝ }
 {
     let s = slope_of(a, b);
     let n = s.n as u64;
@@ -64,7 +62,7 @@ fn shaded_anywhere(pen: Pen, a: Vertex, b: Vertex, im: &mut [u16], zm: &mut [u16
 
 // Draws a segment whose two numbers go evenly from those of a to those of b.
 pub(crate) fn shaded(pen: Pen, a: Vertex, b: Vertex, im: &mut [u16], zm: &mut [u16]) -> u64
-    ensures { λ r. ⌜ picture (now (im .exit)) (now (zm .exit)) r ≡ drawn pen (spans (shadeOffers pen (rowsOf (pen .frame) (length (now (im .entry))) (length (now (zm .entry)))) a b) (larger a b + 1)) (picture (now (im .entry)) (now (zm .entry)) 0) ⌝ }
+    ensures { λ r. ⌜ Draws pen (λ rows. spans (shadeOffers pen rows a b) (larger a b + 1)) im zm 0 r ⌝ }
 {
     if has_ends(pen, a, b, im.len(), zm.len()) {
         return inside::shaded(pen, a, b, im, zm);

@@ -11,7 +11,7 @@ use Rattle.picture.specs.declared.Frame.{Frame}
 use Rattle.picture.specs.declared.Pen.{Pen}
 use Rattle.picture.specs.declared.Kind.{Kind}
 use Rattle.picture.specs.Place.{placeOf, rowsOf, inMemory}
-use Rattle.picture.specs.Offer.{Offer}
+use Rattle.picture.specs.Offer.{Offer, onPixel}
 use Rattle.picture.specs.Picture.{passes, newI, newZ, Picture, picture, stepAt, step, drawn}
 use Rattle.picture.specs.Cell.{Cell, cellAt, after, there}
 use Rattle.picture.specs.Store.{Store, filled, afterStore, storesAt}
@@ -19,7 +19,7 @@ use Rattle.picture.proofs.Places.{both, same-test, place-below, place-apart}
 use Rattle.picture.proofs.Fold.{step-i, step-z, drawn-one}
 use Rattle.picture.proofs.Cells.{drawn-cell}
 use Rattle.picture.proofs.Stores.{filled-cell}
-use Rattle.machine.specs.Alike.{onPixel, storesOn, SamePixels}
+use Rattle.machine.specs.Alike.{storesOn, SamePixels}
 
 -- ---- the offers of a pixel are those at its place
 

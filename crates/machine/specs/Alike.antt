@@ -6,7 +6,6 @@ use Prim.Native.Nat.{ℕ}
 use lib.Dec.{eqb}
 use Rattle.picture.specs.declared.Frame.{Frame}
 use Rattle.picture.specs.Place.{placeOf, inMemory}
-use Rattle.picture.specs.Offer.{Offer}
 use Rattle.picture.specs.Picture.{Picture}
 use Rattle.picture.specs.Cell.{cellAt}
 use Rattle.picture.specs.Store.{Store}
@@ -28,11 +27,6 @@ pub record AlikeRun {R M R′ M′ : Type 0} (Rel : R → M → R′ → M′ �
   pub state : Rel (a .registers) (a .memories) (b .registers) (b .memories)
 
 -- ---- pictures
-
--- the offers of a pixel
-unfoldable pub onPixel : ℕ → ℕ → List Offer → List Offer
-onPixel x y [] = []
-onPixel x y (o ∷ os) = cond (eqb (o .x) x && eqb (o .y) y) (o ∷ onPixel x y os) (onPixel x y os)
 
 -- the stores of a pixel
 unfoldable pub storesOn : ℕ → ℕ → List Store → List Store

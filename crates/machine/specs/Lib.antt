@@ -6,3 +6,4 @@ pub mod Promises
 pub mod Offers
 pub mod Alike
 pub mod Shares
+pub mod Lent

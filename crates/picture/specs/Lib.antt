@@ -7,3 +7,4 @@ pub mod Passed
 pub mod Draw
 pub mod Loops
 pub mod Store
+pub mod Lent

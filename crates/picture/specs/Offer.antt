@@ -51,3 +51,8 @@ offered pen rows o =
 -- a pixel of a figure, as the list of what is offered of it: itself or nothing
 unfoldable pub keep : Pen → ℕ → Offer → List Offer
 keep pen rows o = cond (offered pen rows o) (o ∷ []) []
+
+-- of some offers, those of pixel (x, y)
+unfoldable pub onPixel : ℕ → ℕ → List Offer → List Offer
+onPixel x y [] = []
+onPixel x y (o ∷ os) = cond (eqb (o .x) x && eqb (o .y) y) (o ∷ onPixel x y os) (onPixel x y os)

@@ -7,7 +7,8 @@ ghost use Rattle.picture.specs.Draw.{placed, shown, spanOffers};
 ghost use Rattle.picture.specs.Loops.{Plain, Shares, stridden, ownOffers};
 ghost use Rattle.picture.specs.Place.{liesPlain, liesTiled, layoutOf, placeOf, rowsOf, mine};
 ghost use Rattle.picture.specs.Offer.{keep, offer};
-ghost use Rattle.picture.specs.Picture.{picture, drawn};
+ghost use Rattle.picture.specs.Picture.{picture};
+ghost use Rattle.picture.specs.Lent.{Draws};
 use crate::Carried;
 use crate::Kind;
 use crate::Pen;
@@ -36,7 +37,7 @@ pub fn put(
     im: &mut [u16],
     zm: &mut [u16],
 ) -> u64
-    ensures { λ r. ⌜ picture (now (im .exit)) (now (zm .exit)) r ≡ drawn pen (keep pen (rowsOf (pen .frame) (length (now (im .entry))) (length (now (zm .entry)))) (offer kind x y i z)) (picture (now (im .entry)) (now (zm .entry)) 0) ⌝ }
+    ensures { λ r. ⌜ Draws pen (λ rows. keep pen rows (offer kind x y i z)) im zm 0 r ⌝ }
 {
     if is_offered(pen, kind, x, y, im.len(), zm.len()) {
         let frame = pen.frame;
@@ -87,7 +88,7 @@ fn draw_one(
 ) -> u64
     requires { ⌜ (plain ≡ true → Plain pen kind) ⌝ }
     requires { ⌜ (at ≡ placeOf (pen .frame) x y) × (at < length (now im)) × (at < length (now zm)) × (n ≤ 65535) ⌝ }
-    ensures { λ r. ⌜ (picture (now (im .exit)) (now (zm .exit)) r ≡ drawn pen (shown pen (offer kind x y i z)) (picture (now (im .entry)) (now (zm .entry)) n)) × (r ≤ n + 1) ⌝ }
+    ensures { λ r. ⌜ (Draws pen (λ _. shown pen (offer kind x y i z)) im zm n r) × (r ≤ n + 1) ⌝ }
 {
     if plain {
         return put_nearer(at, i, z, im, zm, n);
@@ -111,7 +112,7 @@ fn fill(
     zm: &mut [u16],
 ) -> u64
     requires { ⌜ (lo < hi) × (hi ≤ pen .frame .line) × (y < rowsOf (pen .frame) (length (now im)) (length (now zm))) × (liesPlain (pen .frame) ≡ true) ⌝ }
-    ensures { λ r. ⌜ picture (now (im .exit)) (now (zm .exit)) r ≡ drawn pen (spanOffers pen (rowsOf (pen .frame) (length (now (im .entry))) (length (now (zm .entry)))) kind lo hi y i z) (picture (now (im .entry)) (now (zm .entry)) 0) ⌝ }
+    ensures { λ r. ⌜ Draws pen (λ rows. spanOffers pen rows kind lo hi y i z) im zm 0 r ⌝ }
 {
     let plain = is_plain(pen, kind);
     let frame = pen.frame;
@@ -155,7 +156,7 @@ fn fill_tiled(
     zm: &mut [u16],
 ) -> u64
     requires { ⌜ (lo < hi) × (hi ≤ pen .frame .line) × (y < rowsOf (pen .frame) (length (now im)) (length (now zm))) × (liesTiled (pen .frame) ≡ true) ⌝ }
-    ensures { λ r. ⌜ picture (now (im .exit)) (now (zm .exit)) r ≡ drawn pen (spanOffers pen (rowsOf (pen .frame) (length (now (im .entry))) (length (now (zm .entry)))) kind lo hi y i z) (picture (now (im .entry)) (now (zm .entry)) 0) ⌝ }
+    ensures { λ r. ⌜ Draws pen (λ rows. spanOffers pen rows kind lo hi y i z) im zm 0 r ⌝ }
 {
     let plain = is_plain(pen, kind);
     let frame = pen.frame;
@@ -226,7 +227,7 @@ fn fill_own(
     zm: &mut [u16],
 ) -> u64
     requires { ⌜ (Shares (pen .frame) ways) × (mine (layoutOf (pen .frame)) x ≡ true) × (x + ways * count < pen .frame .line + ways) × (y < rowsOf (pen .frame) (length (now im)) (length (now zm))) ⌝ }
-    ensures { λ r. ⌜ picture (now (im .exit)) (now (zm .exit)) r ≡ drawn pen (ownOffers pen kind ways x count y i z) (picture (now (im .entry)) (now (zm .entry)) 0) ⌝ }
+    ensures { λ r. ⌜ Draws pen (λ _. ownOffers pen kind ways x count y i z) im zm 0 r ⌝ }
 {
     let plain = is_plain(pen, kind);
     let frame = pen.frame;
@@ -269,7 +270,7 @@ fn fill_shared(
     zm: &mut [u16],
 ) -> u64
     requires { ⌜ (lo < hi) × (hi ≤ pen .frame .line) × (y < rowsOf (pen .frame) (length (now im)) (length (now zm))) × (liesPlain (pen .frame) ≡ false) × (liesTiled (pen .frame) ≡ false) ⌝ }
-    ensures { λ r. ⌜ picture (now (im .exit)) (now (zm .exit)) r ≡ drawn pen (spanOffers pen (rowsOf (pen .frame) (length (now (im .entry))) (length (now (zm .entry)))) kind lo hi y i z) (picture (now (im .entry)) (now (zm .entry)) 0) ⌝ }
+    ensures { λ r. ⌜ Draws pen (λ rows. spanOffers pen rows kind lo hi y i z) im zm 0 r ⌝ }
 {
     let frame = pen.frame;
     let ways = ways_of(frame);
@@ -297,7 +298,7 @@ fn fill_row(
     zm: &mut [u16],
 ) -> u64
     requires { ⌜ (lo < hi) × (hi ≤ pen .frame .line) × (y < rowsOf (pen .frame) (length (now im)) (length (now zm))) ⌝ }
-    ensures { λ r. ⌜ picture (now (im .exit)) (now (zm .exit)) r ≡ drawn pen (spanOffers pen (rowsOf (pen .frame) (length (now (im .entry))) (length (now (zm .entry)))) kind lo hi y i z) (picture (now (im .entry)) (now (zm .entry)) 0) ⌝ }
+    ensures { λ r. ⌜ Draws pen (λ rows. spanOffers pen rows kind lo hi y i z) im zm 0 r ⌝ }
 {
     let frame = pen.frame;
     if lies_plain(frame) {
@@ -328,7 +329,7 @@ pub fn span(
     im: &mut [u16],
     zm: &mut [u16],
 ) -> u64
-    ensures { λ r. ⌜ picture (now (im .exit)) (now (zm .exit)) r ≡ drawn pen (spanOffers pen (rowsOf (pen .frame) (length (now (im .entry))) (length (now (zm .entry)))) kind lo hi y i z) (picture (now (im .entry)) (now (zm .entry)) 0) ⌝ }
+    ensures { λ r. ⌜ Draws pen (λ rows. spanOffers pen rows kind lo hi y i z) im zm 0 r ⌝ }
 {
     let frame = pen.frame;
     if has_row(frame, y, im.len(), zm.len()) {

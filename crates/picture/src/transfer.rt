@@ -3,9 +3,8 @@ ghost use mathlib.Core.Path.{_≡_};
 ghost use mathlib.Core.Bool.{cond};
 ghost use Prim.Native.Nat.{_<_};
 ghost use lib.ListN.{length, getD, set};
-ghost use Rattle.picture.specs.Place.{rowsOf};
-ghost use Rattle.picture.specs.Picture.{picture};
-ghost use Rattle.picture.specs.Store.{filled, pixelFor, within, readOf};
+ghost use Rattle.picture.specs.Store.{pixelFor, within, readOf};
+ghost use Rattle.picture.specs.Lent.{Fills};
 use crate::Frame;
 use crate::Pen;
 use crate::pixel::store_i;
@@ -24,7 +23,7 @@ fn store_depth(pen: Pen, at: usize, z: u16, zm: &mut [u16])
 
 // A number, stored in Z or in I where its pixel is inside the memory.
 pub fn store(pen: Pen, deep: bool, x: u16, y: u16, value: u16, im: &mut [u16], zm: &mut [u16])
-    ensures { λ _. ⌜ picture (now (im .exit)) (now (zm .exit)) 0 ≡ filled pen (within pen (rowsOf (pen .frame) (length (now (im .entry))) (length (now (zm .entry)))) (pixelFor deep x y value)) (picture (now (im .entry)) (now (zm .entry)) 0) ⌝ }
+    ensures { λ _. ⌜ Fills pen (λ rows. within pen rows (pixelFor deep x y value)) im zm ⌝ }
 {
     let frame = pen.frame;
     if is_inside(frame, x, y, im.len(), zm.len()) {

@@ -1,8 +1,8 @@
 // The entry for the host program in C that reads a pixel, on the record where it stands. Its result is that of the chip's own `read`, by the
 // same definitions. include/dextolumen.h has the C side.
 ghost use mathlib.Core.Path.{_≡_};
-ghost use Rattle.machine.specs.Machine.{memories};
 ghost use Rattle.chip.specs.Read.{readAs, reading};
+ghost use Rattle.machine.specs.Lent.{found};
 use chip::transfer::read;
 use registers::Registers;
 
@@ -16,7 +16,7 @@ pub struct Seen {
 // Reads the region's pixel and updates the record where it stands, or refuses and leaves the record as it was.
 #[no_mangle]
 pub extern "C" fn dextolumen_read(registers: &mut Registers, im: &[u16], zm: &[u16]) -> Seen
-    ensures { λ a. ⌜ readAs (a .refusal) (a .pixel) (now (registers .exit)) ≡ reading (now (registers .entry)) (memories (now (im .entry)) (now (zm .entry))) ⌝ }
+    ensures { λ a. ⌜ readAs (a .refusal) (a .pixel) (now (registers .exit)) ≡ reading (now (registers .entry)) (found im zm) ⌝ }
 {
     let a = read(*registers, im, zm);
     let moved = a.registers;

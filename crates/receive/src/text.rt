@@ -3,9 +3,9 @@ ghost use Prim.Native.Nat.{_≤_};
 ghost use lib.ListN.{length};
 ghost use Rattle.report.specs.Text.{report};
 ghost use Rattle.report.specs.Calls.{Stands};
-ghost use Rattle.machine.specs.Machine.{memories};
 ghost use Rattle.instalments.specs.Instalments.{taking};
 ghost use Rattle.receive.specs.Receive.{received};
+ghost use Rattle.machine.specs.Lent.{found};
 use instalments::Intake;
 use instalments::dextolumen_finish;
 use report::Written;
@@ -39,7 +39,7 @@ pub(crate) fn put_received(
     zm: &[u16; 8192],
     out: &mut [u8; 180308],
 ) -> usize
-    ensures { λ r. ⌜ Stands (received (taking s (memories (now (im .entry)) (now (zm .entry))))) (now (out .entry)) (now (out .exit)) r ⌝ }
+    ensures { λ r. ⌜ Stands (received (taking s (found im zm))) (now (out .entry)) (now (out .exit)) r ⌝ }
 {
     let end = dextolumen_finish(s, im, zm);
     let line = end.registers.frame.line;

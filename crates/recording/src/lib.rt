@@ -3,9 +3,9 @@
 // `step` from one place, the step is compiled into the loop over the words, and the record is not copied from word to word.
 ghost use mathlib.Core.Path.{_≡_};
 ghost use Rattle.registers.specs.Record.{resetAs, resetOf};
-ghost use Rattle.machine.specs.Run.{ran};
 ghost use Rattle.machine.specs.Machine.{memories};
-ghost use Rattle.chip.specs.Stream.{running};
+ghost use Rattle.chip.specs.Promises.{RunsFrom};
+ghost use Rattle.machine.specs.Lent.{found, left};
 use chip::run::run;
 use chip::run::run_tiled;
 use registers::Registers;
@@ -39,7 +39,7 @@ pub extern "C" fn dextolumen_reset_tiled() -> Registers
 // Runs a packed stream from reset, over memories of rows one after the other.
 #[no_mangle]
 pub extern "C" fn dextolumen_run(bytes: &[u8], im: &mut [u16], zm: &mut [u16]) -> Ended
-    ensures { λ a. ⌜ ran (a .refusal) (a .index) (a .sum) (a .registers) (memories (now (im .exit)) (now (zm .exit))) ≡ running resetOf (now (bytes .entry)) (memories (now (im .entry)) (now (zm .entry))) ⌝ }
+    ensures { λ a. ⌜ RunsFrom resetOf (now (bytes .entry)) (found im zm) (a .refusal) (a .index) (a .sum) (a .registers) (left im zm) ⌝ }
 {
     let a = run(bytes, im, zm);
     let last = a.registers;
@@ -54,7 +54,7 @@ pub extern "C" fn dextolumen_run(bytes: &[u8], im: &mut [u16], zm: &mut [u16]) -
 // Runs a packed stream from reset, over memories in tiles of four by four.
 #[no_mangle]
 pub extern "C" fn dextolumen_run_tiled(bytes: &[u8], im: &mut [u16], zm: &mut [u16]) -> Ended
-    ensures { λ a. ⌜ ran (a .refusal) (a .index) (a .sum) (a .registers) (memories (now (im .exit)) (now (zm .exit))) ≡ running (resetAs 1) (now (bytes .entry)) (memories (now (im .entry)) (now (zm .entry))) ⌝ }
+    ensures { λ a. ⌜ RunsFrom (resetAs 1) (now (bytes .entry)) (found im zm) (a .refusal) (a .index) (a .sum) (a .registers) (left im zm) ⌝ }
 {
     let a = run_tiled(bytes, im, zm);
     let left = a.registers;

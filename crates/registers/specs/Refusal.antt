@@ -15,87 +15,56 @@ use Rattle.registers.specs.Region.{isOpen}
 
 -- ---- what is asked of a word and of the record
 
+-- the answers, each of which is mostly no
+pub record Asked : Type 0 where
+  -- a command above 15
+  pub unknown : Bool
+  -- command 7 or C hex
+  pub reserved : Bool
+  -- command A hex; AUX 11
+  pub unmodelled : Bool
+  -- AUX above 12
+  pub above : Bool
+  pub init : Bool
+  pub parm : Bool
+  pub ptrn : Bool
+
+abbrev pub asked : Bool → Bool → Bool → Bool → Bool → Bool → Bool → Asked
+asked unknown reserved unmodelled above init parm ptrn =
+    record { unknown = unknown; reserved = reserved; unmodelled = unmodelled; above = above; init = init; parm = parm; ptrn = ptrn }
+
+-- word by word: unknown, reserved, not modelled, AUX above 12, INIT, PARM, PTRN
+abbrev pub askedOf : Word → Asked
+askedOf (Init d) = asked false false false false true false false
+askedOf (Aux n) = asked false false (eqb n 11) (ltb 12 n) false false false
+askedOf (Parm v) = asked false false false false false true false
+askedOf (At c n) = asked false false false false false false false
+askedOf (Img d) = asked false false false false false false false
+askedOf (Ptrn v) = asked false false false false false false true
+askedOf Reserved = asked false true false false false false false
+askedOf Unmodelled = asked false false true false false false false
+askedOf Unknown = asked true false false false false false false
+
+abbrev pub isUnknown : Word → Bool
+isUnknown w = askedOf w .unknown
+
+abbrev pub isReserved : Word → Bool
+isReserved w = askedOf w .reserved
+
+abbrev pub isUnmodelled : Word → Bool
+isUnmodelled w = askedOf w .unmodelled
+
+abbrev pub isAbove : Word → Bool
+isAbove w = askedOf w .above
+
 abbrev pub isInit : Word → Bool
-isInit (Init d) = true
-isInit (Aux n) = false
-isInit (Parm v) = false
-isInit (At c n) = false
-isInit (Img d) = false
-isInit (Ptrn v) = false
-isInit Reserved = false
-isInit Unmodelled = false
-isInit Unknown = false
+isInit w = askedOf w .init
 
 abbrev pub isParm : Word → Bool
-isParm (Init d) = false
-isParm (Aux n) = false
-isParm (Parm v) = true
-isParm (At c n) = false
-isParm (Img d) = false
-isParm (Ptrn v) = false
-isParm Reserved = false
-isParm Unmodelled = false
-isParm Unknown = false
+isParm w = askedOf w .parm
 
--- a command above 15
-abbrev pub isUnknown : Word → Bool
-isUnknown (Init d) = false
-isUnknown (Aux n) = false
-isUnknown (Parm v) = false
-isUnknown (At c n) = false
-isUnknown (Img d) = false
-isUnknown (Ptrn v) = false
-isUnknown Reserved = false
-isUnknown Unmodelled = false
-isUnknown Unknown = true
-
--- command 7 or C hex
-abbrev pub isReserved : Word → Bool
-isReserved (Init d) = false
-isReserved (Aux n) = false
-isReserved (Parm v) = false
-isReserved (At c n) = false
-isReserved (Img d) = false
-isReserved (Ptrn v) = false
-isReserved Reserved = true
-isReserved Unmodelled = false
-isReserved Unknown = false
-
--- command A hex; AUX 11
-abbrev pub isUnmodelled : Word → Bool
-isUnmodelled (Init d) = false
-isUnmodelled (Aux n) = eqb n 11
-isUnmodelled (Parm v) = false
-isUnmodelled (At c n) = false
-isUnmodelled (Img d) = false
-isUnmodelled (Ptrn v) = false
-isUnmodelled Reserved = false
-isUnmodelled Unmodelled = true
-isUnmodelled Unknown = false
-
--- AUX above 12
-abbrev pub isAbove : Word → Bool
-isAbove (Init d) = false
-isAbove (Aux n) = ltb 12 n
-isAbove (Parm v) = false
-isAbove (At c n) = false
-isAbove (Img d) = false
-isAbove (Ptrn v) = false
-isAbove Reserved = false
-isAbove Unmodelled = false
-isAbove Unknown = false
-
--- PTRN
 abbrev pub isPtrn : Word → Bool
-isPtrn (Init d) = false
-isPtrn (Aux n) = false
-isPtrn (Parm v) = false
-isPtrn (At c n) = false
-isPtrn (Img d) = false
-isPtrn (Ptrn v) = true
-isPtrn Reserved = false
-isPtrn Unmodelled = false
-isPtrn Unknown = false
+isPtrn w = askedOf w .ptrn
 
 -- before the first accepted INIT
 abbrev pub isCold : Registers → Bool

@@ -5,6 +5,8 @@ ghost use lib.ListN.{length};
 ghost use Rattle.machine.specs.Run.{ran};
 ghost use Rattle.machine.specs.Machine.{memories};
 ghost use Rattle.show.specs.Show.{Fresh, drawnOn};
+ghost use Rattle.picture.specs.Lent.{Draws};
+ghost use Rattle.machine.specs.Lent.{left};
 use crate::page::page_rows;
 use crate::page::put_heading;
 use crate::page::put_page;
@@ -68,7 +70,7 @@ fn write_shown(depth: bool, line: u16, im: &[u16], zm: &[u16]) {
 // Draws the bytes on fresh memories.
 fn drawn(bytes: &[u8], im: &mut [u16], zm: &mut [u16]) -> Ran
     requires { ⌜ Fresh (now im) (now zm) ⌝ }
-    ensures { λ a. ⌜ ran (a .refusal) (a .index) (a .sum) (a .registers) (memories (now (im .exit)) (now (zm .exit))) ≡ drawnOn (length (now (im .entry))) (now (bytes .entry)) ⌝ }
+    ensures { λ a. ⌜ ran (a .refusal) (a .index) (a .sum) (a .registers) (left im zm) ≡ drawnOn (length (now (im .entry))) (now (bytes .entry)) ⌝ }
 {
     run(bytes, im, zm)
 }

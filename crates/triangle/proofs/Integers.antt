@@ -1,17 +1,21 @@
 -- An edge's expression, kept as what is added and what is taken away, is document 01's over the integers, and its test is on that
 -- integer's sign. An integer is the gap between two numbers if adding it to the second gives the first; differences and products of gaps
 -- are gaps again, and one gap has one integer. Assumes nothing.
-use mathlib.Core.Path.{_≡_, refl, ap}
+use mathlib.Core.Path.{_≡_, refl, sym, ap}
 use mathlib.Core.Bool.{Bool, true, false, cond, _&&_, _||_}
-use Prim.Native.Nat.{ℕ, zero, suc, _+_, _*_, _-_}
+use Prim.Native.Nat.{ℕ, zero, suc, _+_, _*_, _-_, _≤_}
 use native.Mathlib.Nat.{add-mul, mul-add, mul-comm}
 use native.Mathlib.Omega.{arith}
 use borrow.Author.Tests.{ltb-true, ltb-false, lt-ltb, le-ltb, eq-eqb, ne-eqb}
 use lib.Dec.{ltb, eqb}
 use lib.IntN.{ℤ, pos, negsuc, negℤ, subℕ, _+ℤ_, _-ℤ_, _*ℤ_}
 use Rattle.picture.specs.declared.Vertex.{Vertex}
-use Rattle.triangle.specs.Edge.{plusOf, minusOf, edgeAt, closed, inside, within}
-use Rattle.triangle.specs.Shared.{expression, isPositive, isZero}
+use Rattle.triangle.specs.declared.Corners.{Corners}
+use Rattle.triangle.specs.Edge.{plusOf, minusOf, edgeAt, closed, inside, within, covers, amount, areaOf}
+use Rattle.triangle.specs.Number.{massOf, mixed, shade}
+use Rattle.triangle.specs.Integers.{expression, isPositive, isZero, doubledArea, weighted, Rounded}
+use Rattle.triangle.specs.Loops.{edgesAt, Turned}
+use Rattle.triangle.proofs.Covers.{Within, covered-within}
 
 -- z = p − m
 abbrev Gap : ℤ → ℕ → ℕ → Type 0
@@ -102,3 +106,27 @@ gap-zero (negsuc k) p m g = ne-eqb m p (λ e. omega arith)
 pub edge-sign : (a b : Vertex) (x y : ℕ) → within a b x y ≡ isPositive (expression a b x y) || (isZero (expression a b x y) && closed a b)
 unfolding inside
 edge-sign a b x y = rw (gap-positive (expression a b x y) _ _ (edge-gap a b x y), gap-zero (expression a b x y) _ _ (edge-gap a b x y))
+
+-- ---- the doubled area and the numbers
+
+-- where an expression is not negative, its amount is it
+amount-integer : (a b : Vertex) (x y : ℕ) → edgeAt a b x y .minus ≤ edgeAt a b x y .plus → pos (amount (edgeAt a b x y)) ≡ expression a b x y
+amount-integer a b x y h = gap-one (pos (amount (edgeAt a b x y))) (expression a b x y) (edgeAt a b x y .plus) (edgeAt a b x y .minus) (omega (arith, h)) (edge-gap a b x y)
+
+module _ (t : Corners) (k : Turned t) where
+  -- the doubled area of corners that turn anticlockwise is document 01's D
+  pub area-integer : pos (areaOf t) ≡ doubledArea t
+  area-integer = amount-integer (t .a) (t .b) (t .c .x) (t .c .y) (omega (arith, k .turns))
+
+  -- the Gouraud number of a covered pixel is document 01's (2 N + D) divided by 2 D, rounded down
+  pub number-integer : (p q r x y : ℕ) → covers t x y ≡ true → Rounded t p q r x y (shade t p q r x y)
+  unfolding shade mixed
+  number-integer p q r x y h =
+      let w = covered-within t x y h in
+      record {
+        sum = massOf (amount (edgeAt (t .b) (t .c) x y)) (amount (edgeAt (t .c) (t .a) x y)) (amount (edgeAt (t .a) (t .b) x y)) (areaOf t) p q r;
+        area = areaOf t;
+        sum-is = rw (sym (amount-integer (t .b) (t .c) x y (w .bc)), sym (amount-integer (t .c) (t .a) x y (w .ca)), sym (amount-integer (t .a) (t .b) x y (w .ab)), sym area-integer) refl;
+        area-is = area-integer;
+        number-is = refl;
+      }

@@ -3,3 +3,4 @@ pub mod Number
 pub mod Offers
 pub mod Loops
 pub mod Shared
+pub mod Integers

@@ -1,29 +1,9 @@
--- An edge that two triangles share, and the offers of one pixel: what the laws about covered pixels speak of.
-use Prim.Native.Nat.{ℕ, zero, suc, _≤_, min, max}
+-- An edge that two triangles share: what the laws about pixels on it speak of.
+use Prim.Native.Nat.{ℕ, _≤_, min, max}
 use mathlib.Core.Path.{_≡_}
-use mathlib.Core.Bool.{Bool, true, false, cond, _&&_}
-use mathlib.Core.List.{List, [], _∷_}
-use lib.Dec.{eqb}
-use lib.IntN.{ℤ, pos, negsuc, _-ℤ_, _*ℤ_}
 use Rattle.picture.specs.declared.Vertex.{Vertex}
-use Rattle.picture.specs.Offer.{Offer}
 use Rattle.triangle.specs.declared.Corners.{Corners}
 use Rattle.triangle.specs.Edge.{edgeAt}
-
--- document 01's expression of the edge from a to b at pixel (x, y), over the integers
-abbrev pub expression : Vertex → Vertex → ℕ → ℕ → ℤ
-expression a b x y = (pos (b .x) -ℤ pos (a .x)) *ℤ (pos y -ℤ pos (a .y)) -ℤ (pos (b .y) -ℤ pos (a .y)) *ℤ (pos x -ℤ pos (a .x))
-
--- the signs of an integer
-abbrev pub isPositive : ℤ → Bool
-isPositive (pos zero) = false
-isPositive (pos (suc k)) = true
-isPositive (negsuc k) = false
-
-abbrev pub isZero : ℤ → Bool
-isZero (pos zero) = true
-isZero (pos (suc k)) = false
-isZero (negsuc k) = false
 
 -- two vertices are at the same point, whatever their numbers
 abbrev pub SamePoint : Vertex → Vertex → Type 0
@@ -47,8 +27,3 @@ pub record Amid (a b : Vertex) (x y : ℕ) : Type 0 where
   pub high : y ≤ max (a .y) (b .y)
   pub off-a : (a .x ≡ x) × (a .y ≡ y) → ⊥
   pub off-b : (b .x ≡ x) × (b .y ≡ y) → ⊥
-
--- the offers that are made of pixel (x, y)
-unfoldable pub atPixel : ℕ → ℕ → List Offer → List Offer
-atPixel x y [] = []
-atPixel x y (o ∷ os) = cond (eqb (o .x) x && eqb (o .y) y) (o ∷ atPixel x y os) (atPixel x y os)

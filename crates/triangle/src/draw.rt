@@ -2,13 +2,12 @@
 ghost use mathlib.Core.Path.{_≡_};
 ghost use mathlib.Core.Bool.{true, false};
 ghost use Prim.Native.Nat.{ℕ, _+_, _≤_, _<_};
-ghost use lib.ListN.{length};
 ghost use Rattle.picture.specs.Draw.{carriedTo};
-ghost use Rattle.picture.specs.Place.{rowsOf};
 ghost use Rattle.picture.specs.Picture.{picture, drawn};
 ghost use Rattle.triangle.specs.Edge.{covers, areaOf};
 ghost use Rattle.triangle.specs.Loops.{endOf, startOf, Turned, Spanned, Carries, Shaded, Told, Serves, InRows, Large};
 ghost use Rattle.triangle.specs.Offers.{kindOf, offersAt, rowOffers, turnedOffers, triangleOffers};
+ghost use Rattle.picture.specs.Lent.{Draws};
 use crate::Corners;
 use crate::Run;
 use crate::Shades;
@@ -104,7 +103,7 @@ fn run_row(
     zm: &mut [u16],
 ) -> u64
     requires { ⌜ (Spanned pen t y s) × (InRows pen y) × (s .lo < s .hi) × (Told constant t y s r) ⌝ }
-    ensures { λ n. ⌜ picture (now (im .exit)) (now (zm .exit)) n ≡ drawn pen (rowOffers pen (rowsOf (pen .frame) (length (now (im .entry))) (length (now (zm .entry)))) constant t y) (picture (now (im .entry)) (now (zm .entry)) 0) ⌝ }
+    ensures { λ n. ⌜ Draws pen (λ rows. rowOffers pen rows constant t y) im zm 0 n ⌝ }
 {
     let kind = kind_of(constant);
     span(pen, kind, s.lo as u16, s.hi as u16, y, r.i, r.z, im, zm)
@@ -121,7 +120,7 @@ fn divided_pixel(
     zm: &mut [u16],
 ) -> u64
     requires { ⌜ (Turned t) × (d ≡ areaOf t) × (d ≤ 12884508675) × (covers t x y ≡ true) × (x ≤ 65535) × (Large t) ⌝ }
-    ensures { λ r. ⌜ picture (now (im .exit)) (now (zm .exit)) r ≡ drawn pen (offersAt pen (rowsOf (pen .frame) (length (now (im .entry))) (length (now (zm .entry)))) false t x y) (picture (now (im .entry)) (now (zm .entry)) 0) ⌝ }
+    ensures { λ r. ⌜ Draws pen (λ rows. offersAt pen rows false t x y) im zm 0 r ⌝ }
 {
     let e = edges_at(t, x, y as usize);
     let i = number(t, d, e, t.a.i, t.b.i, t.c.i);
@@ -141,7 +140,7 @@ fn divided_row(
     zm: &mut [u16],
 ) -> u64
     requires { ⌜ (Turned t) × (d ≡ areaOf t) × (d ≤ 12884508675) × (Spanned pen t y s) × (InRows pen y) × (s .lo < s .hi) × (Large t) ⌝ }
-    ensures { λ r. ⌜ picture (now (im .exit)) (now (zm .exit)) r ≡ drawn pen (rowOffers pen (rowsOf (pen .frame) (length (now (im .entry))) (length (now (zm .entry)))) false t y) (picture (now (im .entry)) (now (zm .entry)) 0) ⌝ }
+    ensures { λ r. ⌜ Draws pen (λ rows. rowOffers pen rows false t y) im zm 0 r ⌝ }
 {
     let hi = s.hi;
     let mut x = s.lo;
@@ -165,7 +164,7 @@ fn draw_row(
     zm: &mut [u16],
 ) -> u64
     requires { ⌜ (Turned t) × (d ≡ areaOf t) × (d ≤ 12884508675) × (Shaded constant t shades) × (InRows pen y) ⌝ }
-    ensures { λ r. ⌜ picture (now (im .exit)) (now (zm .exit)) r ≡ drawn pen (rowOffers pen (rowsOf (pen .frame) (length (now (im .entry))) (length (now (zm .entry)))) constant t y) (picture (now (im .entry)) (now (zm .entry)) 0) ⌝ }
+    ensures { λ r. ⌜ Draws pen (λ rows. rowOffers pen rows constant t y) im zm 0 r ⌝ }
 {
     let s = spanned(pen, t, y);
     if s.lo < s.hi {
@@ -220,7 +219,7 @@ fn draw_turned(
     zm: &mut [u16],
 ) -> u64
     requires { ⌜ (Turned t) × (d ≡ areaOf t) × (d ≤ 12884508675) ⌝ }
-    ensures { λ r. ⌜ picture (now (im .exit)) (now (zm .exit)) r ≡ drawn pen (turnedOffers pen (rowsOf (pen .frame) (length (now (im .entry))) (length (now (zm .entry)))) constant t) (picture (now (im .entry)) (now (zm .entry)) 0) ⌝ }
+    ensures { λ r. ⌜ Draws pen (λ rows. turnedOffers pen rows constant t) im zm 0 r ⌝ }
 {
     let frame = pen.frame;
     let rows = rows_of(frame, im.len(), zm.len());
@@ -245,7 +244,7 @@ pub fn triangle(
     im: &mut [u16],
     zm: &mut [u16],
 ) -> u64
-    ensures { λ r. ⌜ picture (now (im .exit)) (now (zm .exit)) r ≡ drawn pen (triangleOffers pen (rowsOf (pen .frame) (length (now (im .entry))) (length (now (zm .entry)))) constant a b c) (picture (now (im .entry)) (now (zm .entry)) 0) ⌝ }
+    ensures { λ r. ⌜ Draws pen (λ rows. triangleOffers pen rows constant a b c) im zm 0 r ⌝ }
 {
     let e = edge_at(a, b, c.x as usize, c.y as usize);
     if e.minus < e.plus {
