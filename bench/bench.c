@@ -1,9 +1,13 @@
 // The driver: draws the same pseudo-random figures, packs and unpacks the same stream, and lists the squares of the same pictures, with the
-// proved code and with two implementations in C, by turns. Every run starts from the same memories and must leave the same ones and tell the
-// same counts, else the program says so and exits with 1. One line a row: the best rate of each, and ours over the better C. In the rows over
-// tiles the C draws over rows, and what ours leaves is laid out in rows before it is compared.
+// proved code and with two implementations in C, by turns. Every pass starts from the same memories and must leave the same ones and tell the
+// same counts, else the program says so and exits with 1. One line a row: the rate of each, and ours over the better C. In the rows over
+// tiles the C draws over rows, and what ours leaves is laid out in rows before it is compared. Last come recordings, which the proved code alone
+// runs: words a second.
+// A pass is timed in chunks, and a rate is that of the sum of each chunk's least time: what else the machine does for a moment costs a chunk of
+// one pass, not the pass.
 // usage: bench RUNS
 #include "rivals.h"
+#include "dextolumen.h"
 
 struct timespec {
     long tv_sec, tv_nsec;
@@ -218,18 +222,22 @@ static void clear(void) {
 #define OF(p) (p).x, (p).y, (p).i, (p).z
 #define LENT memory.picture[0], PLACES, memory.picture[1], PLACES
 
-static uint64_t triangles(TriangleCall *call, uint16_t layout, uint8_t constant) {
+// Chunk h of so many things begins here.
+enum { CHUNKS = 64 };
+static size_t from(size_t things, size_t h) { return things * h / CHUNKS; }
+
+static uint64_t triangles(TriangleCall *call, uint16_t layout, uint8_t constant, size_t h) {
     uint64_t count = 0;
-    for (size_t k = 0; k < drawn; k++) {
+    for (size_t k = from(drawn, h); k < from(drawn, h + 1); k++) {
         const Point *c = figures[k].corner;
         count += call(LINE, layout, constant, OF(c[0]), OF(c[1]), OF(c[2]), LENT);
     }
     return count;
 }
 
-static uint64_t segments(SegmentCall *call, uint16_t layout, uint8_t mode) {
+static uint64_t segments(SegmentCall *call, uint16_t layout, uint8_t mode, size_t h) {
     uint64_t count = 0;
-    for (size_t k = 0; k < drawn; k++) {
+    for (size_t k = from(drawn, h); k < from(drawn, h + 1); k++) {
         const Point *c = figures[k].corner;
         count += call(LINE, layout, mode, PATTERN, FOREGROUND, BACKGROUND, OF(c[0]), OF(c[1]), LENT);
     }
@@ -237,31 +245,44 @@ static uint64_t segments(SegmentCall *call, uint16_t layout, uint8_t mode) {
 }
 
 // Each list has a room of its own. Odd pictures are cut off a little more from one to the next.
-static uint64_t squares(SquaresCall *call, int odd) {
+static uint64_t squares(SquaresCall *call, int odd, size_t h) {
     uint64_t count = 0;
-    for (size_t k = 0; k < TIMES * PICTURES; k++) {
+    for (size_t k = from(TIMES * PICTURES, h); k < from(TIMES * PICTURES, h + 1); k++) {
         size_t one = k % PICTURES, side = odd ? SIDE - 1 - one : SIDE, places = side * (odd ? side / 2 : side);
         count += call(before[one], places, after[one], places, side, places / side, memory.unpacked + 1024 * one, 1024);
     }
     return count;
 }
 
-// One side does a row once. Answers the passed pixels, the length written, or the squares listed.
-static uint64_t once(const Row *row, const Side *side) {
+// One side does chunk h of a row: the codec and a recording are one call, and so one chunk. Answers the passed pixels, the length written, or the
+// squares listed.
+static uint64_t part(const Row *row, const Side *side, size_t h) {
     switch (row->kind) {
-    case TRIANGLES: return triangles(side->triangle, row->layout, row->mode);
-    case SEGMENTS: return segments(side->segment, row->layout, row->mode);
-    case PACK: return side->pack(words, WORDS, memory.packed, sizeof memory.packed);
-    case UNPACK: return side->unpack(bytes, BYTES, memory.unpacked, PLACES);
-    case SQUARES: return squares(side->squares, row->size == 0);
+    case TRIANGLES: return triangles(side->triangle, row->layout, row->mode, h);
+    case SEGMENTS: return segments(side->segment, row->layout, row->mode, h);
+    case PACK: return h == 0 ? side->pack(words, WORDS, memory.packed, sizeof memory.packed) : 0;
+    case UNPACK: return h == 0 ? side->unpack(bytes, BYTES, memory.unpacked, PLACES) : 0;
+    case SQUARES: return squares(side->squares, row->size == 0, h);
     }
     return 0;
+}
+
+static uint64_t once(const Row *row, const Side *side) {
+    uint64_t count = 0;
+    for (size_t h = 0; h < CHUNKS; h++) count += part(row, side, h);
+    return count;
+}
+
+static uint64_t offered(void) {
+    uint64_t count = 0;
+    for (size_t h = 0; h < CHUNKS; h++) count += triangles(plain_offered, ROWS, 0, h);
+    return count;
 }
 
 // What one pass over a row is worth: its offered pixels, the pixels of its pictures, or the bytes of the packed stream.
 static uint64_t worth(const Row *row) {
     switch (row->kind) {
-    case TRIANGLES: return triangles(plain_offered, ROWS, 0);
+    case TRIANGLES: return offered();
     case SEGMENTS: return drawn * ((uint64_t)row->size + 1);
     case SQUARES: return (uint64_t)TIMES * PLACES;
     default: return BYTES;
@@ -307,29 +328,38 @@ static uint64_t settle(const Row *row) {
     return count;
 }
 
-// Seconds a pass, over passes of 30 ms together. Clearing and comparing are not timed.
-static double run(const Row *row, const Side *side, uint64_t expected) {
+// The least seconds of each chunk of each side.
+static double least[SIDES][CHUNKS];
+
+// One pass, timed. Clearing and comparing are not. Answers the seconds.
+static double pass(const Row *row, int s, uint64_t expected) {
     double spent = 0;
-    int passes = 0;
-    while (spent < 0.03) {
-        clear();
+    uint64_t count = 0;
+    clear();
+    for (size_t h = 0; h < CHUNKS; h++) {
         double begun = now();
-        uint64_t count = once(row, side);
-        spent += now() - begun;
-        passes++;
-        agree(row, side, count, expected);
+        count += part(row, &sides[s], h);
+        double took = now() - begun;
+        spent += took;
+        if (took < least[s][h]) least[s][h] = took;
     }
-    return spent / passes;
+    agree(row, &sides[s], count, expected);
+    return spent;
 }
 
+// Passes by turns, so many and for so many times 30 ms of each side.
 static void measure(const Row *row, int runs) {
     uint64_t expected = settle(row);
-    double amount = (double)worth(row) * 1e-6, rate[SIDES] = {0};
-    for (int k = 0; k < runs; k++)
-        for (int s = 0; s < SIDES; s++) {
-            double reached = amount / run(row, &sides[s], expected);
-            if (reached > rate[s]) rate[s] = reached;
-        }
+    double amount = (double)worth(row) * 1e-6, rate[SIDES] = {0}, spent = 0;
+    for (int s = 0; s < SIDES; s++)
+        for (size_t h = 0; h < CHUNKS; h++) least[s][h] = 1e9;
+    for (int k = 0; k < runs || spent < 0.03 * SIDES * runs; k++)
+        for (int s = 0; s < SIDES; s++) spent += pass(row, s, expected);
+    for (int s = 0; s < SIDES; s++) {
+        double sum = 0;
+        for (size_t h = 0; h < CHUNKS; h++) sum += least[s][h];
+        rate[s] = amount / sum;
+    }
     double better = rate[PLAIN] > rate[SPAN] ? rate[PLAIN] : rate[SPAN];
     printf("%-19s ", row->name);
     for (int s = 0; s < SIDES; s++) printf(" %s %.1f ", sides[s].name, rate[s]);
@@ -345,9 +375,85 @@ static void check(const Row *row) {
     }
 }
 
+// ---- recordings
+
+typedef enum { REGULAR, RANDOM, ALONE, STRIPS } Sort;
+
+static const struct {
+    const char *name;
+    Sort sort;
+} recorded[] = {
+    {"words regular", REGULAR}, // I, Z, Y by turns
+    {"words random", RANDOM},   // I, Z, Y and T1X as they come: nothing is drawn
+    {"words alone", ALONE},     // triangles of some 30 pixels, each by itself: 12 words
+    {"words strips", STRIPS},   // such triangles in strips: four words each
+};
+
+enum { RECORDED = 240000 };
+static size_t put;
+static void word(unsigned command, unsigned data) { words[put++] = command << 16 | data; }
+
+static void vertex(unsigned command, unsigned x, unsigned y) {
+    word(1, any(65536));
+    word(2, any(65536));
+    word(3, y);
+    word(command, x);
+}
+
+// Makes a recording's words and packs them: INIT with lines of 1,024, depth test and both write enables on, and then those of its sort.
+static void record(Sort sort) {
+    seed = 8512;
+    put = 0;
+    word(15, 0x0800);
+    word(14, 3), word(13, 0x40);
+    word(14, 4), word(13, 6);
+    word(1, 0);
+    unsigned x = 0, y = 0;
+    for (size_t k = 0; put + 12 <= RECORDED; k++) switch (sort) {
+    case REGULAR: word(1, any(65536)), word(2, any(65536)), word(3, any(1000)); break;
+    case RANDOM: {
+        static const unsigned commands[] = {1, 2, 3, 5};
+        word(commands[any(4)], any(1000));
+        break;
+    }
+    case ALONE:
+        x = any(1000), y = any(1000);
+        vertex(5, x + any(4), y + any(4)), vertex(4, x + 8, y + any(4)), vertex(4, x + any(4), y + 8);
+        break;
+    case STRIPS:
+        if (k % 100 == 0) x = any(600), y = any(1000);
+        vertex(k % 100 == 0 ? 5 : 4, x, y + (k % 2 == 0 ? 0 : 8));
+        x += 4;
+    }
+    if (put % 2 != 0) word(1, 0);
+    plain_pack(words, put, bytes, BYTES);
+}
+
+// Million words a second of the proved code, by the least of several passes: there is no word machine in C to compare it with.
+static void recite(const char *name, Sort sort, int runs) {
+    record(sort);
+    double best = 1e9, spent = 0;
+    struct dextolumen_ended told = {0};
+    for (int k = 0; k < runs || spent < 0.03 * runs; k++) {
+        clear();
+        double begun = now();
+        told = dextolumen_run(bytes, put / 2 * 5, LENT);
+        double took = now() - begun;
+        spent += took;
+        if (took < best) best = took;
+    }
+    if (told.refusal != 0 || told.index != put || (told.sum == 0) != (sort == REGULAR || sort == RANDOM)) {
+        printf("%s: told %lu at %lu, sum %lu\n", name, (unsigned long)told.refusal, (unsigned long)told.index, (unsigned long)told.sum);
+        exit(1);
+    }
+    printf("%-19s  ours %.1f  Mword/s\n", name, (double)put * 1e-6 / best);
+    fflush(0);
+}
+
 int main(int argc, char **argv) {
     int runs = argc > 1 ? atoi(argv[1]) : 1;
     for (size_t k = 0; k < sizeof odd / sizeof odd[0]; k++) check(&odd[k]);
     for (size_t k = 0; k < sizeof timed / sizeof timed[0]; k++) measure(&timed[k], runs);
+    for (size_t k = 0; k < sizeof recorded / sizeof recorded[0]; k++) recite(recorded[k].name, recorded[k].sort, runs);
     return 0;
 }

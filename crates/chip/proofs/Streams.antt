@@ -14,13 +14,15 @@ use Rattle.stream.proofs.Calls.{next-told, flaw-told, good}
 use Rattle.registers.specs.declared.Registers.{Registers}
 use Rattle.registers.specs.declared.word.Word.{Word}
 use Rattle.registers.specs.Word.{wordOf}
-use Rattle.machine.specs.Run.{outcome, Ran, ran, runFrom, runOf}
+use Rattle.registers.specs.Bounds.{inBounds}
+use Rattle.machine.specs.Run.{Outcome, outcome, Ran, ran, runFrom, runOf}
 use Rattle.machine.specs.Machine.{Memories, stepOf}
 use Rattle.machine.proofs.Runs.{turn-accepted, turn-none}
 use Rattle.machine.proofs.Steps.{turn-halts}
 use Rattle.chip.specs.declared.run.Ran.{Ran as Told}
 use Rattle.chip.specs.Chip.{chip}
 use Rattle.chip.specs.Stream.{wordsOf, flawOf, running}
+use Rattle.chip.proofs.Laws.{step-kept}
 
 -- ---- the words
 
@@ -59,6 +61,10 @@ module _ (start : Registers) (bytes : List ℕ) where
         -- the next word is accepted
         pub reached-more : n ≡ 0 → Reached m′ r′ ((sum + p) % 2 ^ 64) (k + 1)
         reached-more e = record { same = so .same ∙ turn-accepted (stepOf chip) (wordsOf bytes) k (wordOf 0) below sum r m here e }
+
+        -- no word makes the record break a bound
+        pub reached-kept : inBounds r ≡ true → inBounds r′ ≡ true
+        reached-kept h = ap (λ (o : Outcome Registers Memories). inBounds (o .registers)) told ∙ step-kept r (wordOf (wordAt bytes k)) m h
 
         -- the next word is refused
         pub reached-halt : n ≢ 0 → ran n k sum r′ m′ ≡ runOf (stepOf chip) start (wordsOf bytes) m₀

@@ -1,17 +1,21 @@
 // A packed stream, from reset, in either layout.
 ghost use mathlib.Core.Path.{_≡_};
+ghost use mathlib.Core.Bool.{true};
+ghost use lib.ListN.{length};
 ghost use Rattle.stream.specs.Format.{wordAt};
+ghost use Rattle.registers.specs.Bounds.{inBounds};
 ghost use Rattle.registers.specs.Word.{wordOf};
 ghost use Rattle.registers.specs.Record.{resetAs, resetOf};
 ghost use Rattle.machine.specs.Run.{ran, runOf};
-ghost use Rattle.machine.specs.Machine.{memories, stepOf};
+ghost use Rattle.machine.specs.Machine.{stepOf};
 ghost use Rattle.chip.specs.Chip.{chip};
 ghost use Rattle.chip.specs.Stream.{wordsOf};
-ghost use Rattle.chip.specs.Promises.{Takes, RunsFrom};
 ghost use Rattle.machine.specs.Lent.{found, left};
+ghost use Rattle.chip.specs.Promises.{Takes, RunsFrom};
 use crate::step::Answer;
-use crate::step::step;
+use crate::step::step_kept;
 use registers::Registers;
+use registers::word::decoded;
 use stream::read::flaw;
 use stream::read::held;
 use stream::read::word;
@@ -27,14 +31,17 @@ pub struct Ran {
 
 // The word at place k of a stream, taken.
 fn step_at(r: Registers, bytes: &[u8], k: usize, im: &mut [u16], zm: &mut [u16]) -> Answer
+    requires { ⌜ (inBounds r ≡ true) × (length (now im) ≡ length (now zm)) ⌝ }
     ensures { λ a. ⌜ Takes r (wordOf (wordAt (now (bytes .entry)) k)) (found im zm) (a .refusal) (a .passed) (a .registers) (left im zm) ⌝ }
 {
     let w = word(bytes, k);
-    step(r, (w / 65536) as u8, (w % 65536) as u16, im, zm)
+    let taken = decoded((w / 65536) as u8, (w % 65536) as u16);
+    step_kept(r, taken, im, zm)
 }
 
-// The words of a stream, one after the other, until one is refused.
+// The words of a stream, one after the other, until one is refused. Bounds and lengths hold from reset on, so that no word asks about them.
 fn run_words(start: Registers, bytes: &[u8], im: &mut [u16], zm: &mut [u16]) -> Ran
+    requires { ⌜ (inBounds start ≡ true) × (length (now im) ≡ length (now zm)) ⌝ }
     ensures { λ a. ⌜ ran (a .refusal) (a .index) (a .sum) (a .registers) (left im zm) ≡ runOf (stepOf chip) start (wordsOf (now (bytes .entry))) (found im zm) ⌝ }
 {
     let count = held(bytes);
@@ -78,6 +85,7 @@ fn refused(start: Registers, number: u64) -> Ran
 
 // Runs a packed stream from a record: checks it and the memories, then takes word after word until one is refused.
 fn run_from(start: Registers, bytes: &[u8], im: &mut [u16], zm: &mut [u16]) -> Ran
+    requires { ⌜ inBounds start ≡ true ⌝ }
     ensures { λ a. ⌜ RunsFrom start (now (bytes .entry)) (found im zm) (a .refusal) (a .index) (a .sum) (a .registers) (left im zm) ⌝ }
 {
     let number = flaw(bytes);

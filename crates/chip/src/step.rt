@@ -1,9 +1,12 @@
 // One word.
 ghost use mathlib.Core.Path.{_≡_};
-ghost use Rattle.machine.specs.Machine.{memories};
+ghost use mathlib.Core.Bool.{true};
+ghost use lib.ListN.{length};
+ghost use Rattle.registers.specs.Bounds.{inBounds};
+ghost use Rattle.registers.specs.Refusal.{refusalOf};
 ghost use Rattle.registers.specs.Word.{decode};
-ghost use Rattle.chip.specs.Promises.{Takes};
 ghost use Rattle.machine.specs.Lent.{found, left};
+ghost use Rattle.chip.specs.Promises.{Takes};
 use crate::draw::draw;
 use crate::transfer::load;
 use registers::Registers;
@@ -28,12 +31,11 @@ fn quiet(refusal: u64, registers: Registers) -> Answer
     }
 }
 
-// Takes a word, or refuses it and leaves registers and memories as they were.
-pub fn step(r: Registers, command: u8, data: u16, im: &mut [u16], zm: &mut [u16]) -> Answer
-    ensures { λ a. ⌜ Takes r (decode command «data») (found im zm) (a .refusal) (a .passed) (a .registers) (left im zm) ⌝ }
+// Takes a word that got a number, or refuses it where that is not 0, and then leaves registers and memories as they were.
+fn take(r: Registers, word: Word, number: u64, im: &mut [u16], zm: &mut [u16]) -> Answer
+    requires { ⌜ number ≡ refusalOf (length (now im)) (length (now zm)) r word ⌝ }
+    ensures { λ a. ⌜ Takes r word (found im zm) (a .refusal) (a .passed) (a .registers) (left im zm) ⌝ }
 {
-    let word = decoded(command, data);
-    let number = r.refusal(word, im.len(), zm.len());
     if number != 0 {
         return quiet(number, r);
     }
@@ -61,4 +63,23 @@ pub fn step(r: Registers, command: u8, data: u16, im: &mut [u16], zm: &mut [u16]
         Word::Unmodelled => quiet(0, r),
         Word::Unknown => quiet(0, r),
     }
+}
+
+// Takes a word, or refuses it and leaves registers and memories as they were.
+pub fn step(r: Registers, command: u8, data: u16, im: &mut [u16], zm: &mut [u16]) -> Answer
+    ensures { λ a. ⌜ Takes r (decode command «data») (found im zm) (a .refusal) (a .passed) (a .registers) (left im zm) ⌝ }
+{
+    let word = decoded(command, data);
+    let number = r.refusal(word, im.len(), zm.len());
+    take(r, word, number, im, zm)
+}
+
+// The same of a decoded word, for a caller that knows that the record breaks no bound and that the memories are of one length: neither is asked
+// again.
+pub(crate) fn step_kept(r: Registers, word: Word, im: &mut [u16], zm: &mut [u16]) -> Answer
+    requires { ⌜ (inBounds r ≡ true) × (length (now im) ≡ length (now zm)) ⌝ }
+    ensures { λ a. ⌜ Takes r word (found im zm) (a .refusal) (a .passed) (a .registers) (left im zm) ⌝ }
+{
+    let number = r.judged(word);
+    take(r, word, number, im, zm)
 }

@@ -8,6 +8,7 @@ use native.Mathlib.Numerals.{add-one}
 use native.Mathlib.Omega.{arith}
 use lib.Bits.{and-zero-r, or-zero-l, and-mask}
 use lib.ListN.{getD, set}
+use lib.Seq.{set-getD}
 use lib.Dec.{ltb, eqb}
 use borrow.Author.Tests.{lt-ltb, le-ltb, ltb-true, ltb-false, eqb-true}
 use Rattle.picture.specs.declared.Pen.{Pen}
@@ -58,6 +59,50 @@ module _ (at i z : ℕ) (im zm : List ℕ) (n : ℕ) where
   pub nearer-fail : isNearer (comparedOf z (getD zm at 0)) ≡ false → nearerAt at i z (picture im zm n) ≡ picture im zm n
   unfolding nearerAt
   nearer-fail h = rw h
+
+nearer-is : (z old : ℕ) (b : Bool) → ltb z old ≡ b → isNearer (comparedOf z old) ≡ b
+unfolding comparedOf
+nearer-is z old true t = rw t
+nearer-is z old false t = rw t (go (eqb z old))
+  where
+    go : (e : Bool) → isNearer (cond e Equal Farther) ≡ false
+    go true = refl
+    go false = refl
+
+-- a choice of what is stored, in place of a branch: where the depth is not less, what stands there
+module _ (pen : Pen) (kind : Kind) (plain : Plain pen kind) (x y i z at : ℕ) (here : at ≡ placeOf (pen .frame) x y) (low : i ≤ 65535) (im zm : List ℕ) (n : ℕ) where
+  chosen-at : (b : Bool) → ltb z (getD zm at 0) ≡ b
+      → picture (set im at (cond b i (getD im at 0))) (set zm at (cond b z (getD zm at 0))) (cond b (n + 1) n) ≡ nearerAt at i z (picture im zm n)
+  chosen-at true t = sym (nearer-pass at i z im zm n (nearer-is z (getD zm at 0) true t))
+  chosen-at false t =
+      ap₂ (λ (k l : List ℕ). picture k l n) (set-getD im at 0) (set-getD zm at 0) ∙ sym (nearer-fail at i z im zm n (nearer-is z (getD zm at 0) false t))
+
+  pub chosen-drawn : {vi vz m : ℕ} → vi ≡ cond (ltb z (getD zm at 0)) i (getD im at 0) → vz ≡ cond (ltb z (getD zm at 0)) z (getD zm at 0)
+      → m ≡ cond (ltb z (getD zm at 0)) (n + 1) n
+      → (picture (set im at vi) (set zm at vz) m ≡ drawn pen (shown pen (offer kind x y i z)) (picture im zm n)) × (m ≤ n + 1)
+  chosen-drawn {vi} {vz} {m} ei ez em = (
+    shown-drawn pen kind x y i z (picture im zm n) _ (plain .shows-all x y)
+        (rw (ei, ez, em) (chosen-at (ltb z (getD zm at 0)) refl) ∙ sym (step-nearer pen kind plain at i z low (picture im zm n))
+        ∙ ap (λ (k : ℕ). stepAt pen kind k i z (picture im zm n)) here),
+    rw em (bound (ltb z (getD zm at 0))),
+  )
+    where
+      bound : (b : Bool) → cond b (n + 1) n ≤ n + 1
+      bound true = omega arith
+      bound false = omega arith
+
+-- numbers to which nothing is added
+abbrev carry : ℕ → ℕ → Carried
+carry first add = record { first = first; add = add }
+
+steady-is : (c : Carried) → c .add ≡ 0 → carry (c .first) 0 ≡ c
+steady-is c e = ap (λ (a : ℕ). carry (c .first) a) (sym e)
+
+pub steady-same : (i z : Carried) → (eqb (i .add) 0 && eqb (z .add) 0) ≡ true
+    → (carry (i .first) 0 ≡ i) × (carry (z .first) 0 ≡ z)
+steady-same i z e =
+    let h = both (eqb (i .add) 0) (eqb (z .add) 0) e in
+    (steady-is i (eqb-true _ _ (h .0)), steady-is z (eqb-true _ _ (h .1)))
 
 -- a test that holds below n, computed
 unfoldable pub every : (ℕ → Bool) → ℕ → Bool

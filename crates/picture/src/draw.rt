@@ -1,7 +1,8 @@
 // What figures are drawn with: a pixel, and a run of pixels of one row.
 ghost use mathlib.Core.Path.{_≡_};
-ghost use mathlib.Core.Bool.{true, false};
+ghost use mathlib.Core.Bool.{true, false, cond, _&&_};
 ghost use Prim.Native.Nat.{_+_, _*_, _/_, _%_, _^_, _≤_, _<_, min};
+ghost use lib.Dec.{eqb};
 ghost use lib.ListN.{length};
 ghost use Rattle.picture.specs.Draw.{placed, shown, spanOffers};
 ghost use Rattle.picture.specs.Loops.{Plain, Shares, stridden, ownOffers};
@@ -114,7 +115,6 @@ fn fill(
     requires { ⌜ (lo < hi) × (hi ≤ pen .frame .line) × (y < rowsOf (pen .frame) (length (now im)) (length (now zm))) × (liesPlain (pen .frame) ≡ true) ⌝ }
     ensures { λ r. ⌜ Draws pen (λ rows. spanOffers pen rows kind lo hi y i z) im zm 0 r ⌝ }
 {
-    let plain = is_plain(pen, kind);
     let frame = pen.frame;
     let base = place(frame, lo, y);
     let count = hi - lo;
@@ -126,7 +126,7 @@ fn fill(
         n = draw_one(
             pen,
             kind,
-            plain,
+            false,
             lo + j,
             y,
             base + (j as usize),
@@ -143,7 +143,130 @@ fn fill(
     n
 }
 
-// The same where pixels lie in tiles.
+// The new number where a pixel is nearer, the old one where it is not. It is a choice and no branch.
+fn pick(near: bool, new: u16, old: u16) -> u16
+    ensures { λ r. ⌜ r ≡ cond near new old ⌝ }
+{
+    if near { new } else { old }
+}
+
+// `draw_one` of carried numbers where nothing but a nearer depth decides. One that does not pass stores what stands there: so nothing branches,
+// and the loop takes several pixels at once. The numbers are taken out behind the reads: so those that are left have no branch either.
+fn put_carried(
+    pen: Pen,
+    kind: Kind,
+    x: u16,
+    y: u16,
+    at: usize,
+    ki: u64,
+    kz: u64,
+    im: &mut [u16],
+    zm: &mut [u16],
+    n: u16,
+) -> u16
+    requires { ⌜ Plain pen kind ⌝ }
+    requires { ⌜ (at ≡ placeOf (pen .frame) x y) × (at < length (now im)) × (at < length (now zm)) × (n < 65535) ⌝ }
+    ensures { λ r. ⌜ (Draws pen (λ _. shown pen (offer kind x y (ki / 2 ^ 48) (kz / 2 ^ 48))) im zm n r) × (r ≤ n + 1) ⌝ }
+{
+    let deep = zm[at];
+    let stood = im[at];
+    let z = whole(kz);
+    let i = whole(ki);
+    let near = z < deep;
+    zm[at] = pick(near, z, deep);
+    im[at] = pick(near, i, stood);
+    pick(near, n + 1, n)
+}
+
+// The same as `fill` where nothing but a nearer depth decides.
+fn fill_carried(
+    pen: Pen,
+    kind: Kind,
+    lo: u16,
+    hi: u16,
+    y: u16,
+    i: Carried,
+    z: Carried,
+    im: &mut [u16],
+    zm: &mut [u16],
+) -> u64
+    requires { ⌜ (lo < hi) × (hi ≤ pen .frame .line) × (y < rowsOf (pen .frame) (length (now im)) (length (now zm))) × (liesPlain (pen .frame) ≡ true) × (Plain pen kind) ⌝ }
+    ensures { λ r. ⌜ Draws pen (λ rows. spanOffers pen rows kind lo hi y i z) im zm 0 r ⌝ }
+{
+    let frame = pen.frame;
+    let base = place(frame, lo, y);
+    let count = hi - lo;
+    let mut ki = i.first;
+    let mut kz = z.first;
+    let mut j: u16 = 0;
+    let mut n: u16 = 0;
+    while j < count {
+        n = put_carried(pen, kind, lo + j, y, base + (j as usize), ki, kz, im, zm, n);
+        ki = std::num::wrapping_add_u64(ki, i.add);
+        kz = std::num::wrapping_add_u64(kz, z.add);
+        j += 1;
+    }
+    n as u64
+}
+
+// Whether two carried numbers stay the same along a row.
+fn are_steady(i: Carried, z: Carried) -> bool
+    ensures { λ r. ⌜ r ≡ (eqb (i .add) 0 && eqb (z .add) 0) ⌝ }
+{
+    (i.add == 0) & (z.add == 0)
+}
+
+// The same once more, so that the loop is compiled for numbers that stay the same, too.
+fn fill_nearer(
+    pen: Pen,
+    kind: Kind,
+    lo: u16,
+    hi: u16,
+    y: u16,
+    i: Carried,
+    z: Carried,
+    im: &mut [u16],
+    zm: &mut [u16],
+) -> u64
+    requires { ⌜ (lo < hi) × (hi ≤ pen .frame .line) × (y < rowsOf (pen .frame) (length (now im)) (length (now zm))) × (liesPlain (pen .frame) ≡ true) × (Plain pen kind) ⌝ }
+    ensures { λ r. ⌜ Draws pen (λ rows. spanOffers pen rows kind lo hi y i z) im zm 0 r ⌝ }
+{
+    if are_steady(i, z) {
+        let steady_i = Carried {
+            first: i.first,
+            add: 0,
+        };
+        let steady_z = Carried {
+            first: z.first,
+            add: 0,
+        };
+        return fill_carried(pen, kind, lo, hi, y, steady_i, steady_z, im, zm);
+    }
+    fill_carried(pen, kind, lo, hi, y, i, z, im, zm)
+}
+
+// The same for any pen.
+fn fill_beside(
+    pen: Pen,
+    kind: Kind,
+    lo: u16,
+    hi: u16,
+    y: u16,
+    i: Carried,
+    z: Carried,
+    im: &mut [u16],
+    zm: &mut [u16],
+) -> u64
+    requires { ⌜ (lo < hi) × (hi ≤ pen .frame .line) × (y < rowsOf (pen .frame) (length (now im)) (length (now zm))) × (liesPlain (pen .frame) ≡ true) ⌝ }
+    ensures { λ r. ⌜ Draws pen (λ rows. spanOffers pen rows kind lo hi y i z) im zm 0 r ⌝ }
+{
+    if is_plain(pen, kind) {
+        return fill_nearer(pen, kind, lo, hi, y, i, z, im, zm);
+    }
+    fill(pen, kind, lo, hi, y, i, z, im, zm)
+}
+
+// The same as `fill` where pixels lie in tiles.
 fn fill_tiled(
     pen: Pen,
     kind: Kind,
@@ -302,7 +425,7 @@ fn fill_row(
 {
     let frame = pen.frame;
     if lies_plain(frame) {
-        return fill(pen, kind, lo, hi, y, i, z, im, zm);
+        return fill_beside(pen, kind, lo, hi, y, i, z, im, zm);
     }
     if lies_tiled(frame) {
         return fill_tiled(pen, kind, lo, hi, y, i, z, im, zm);

@@ -36,7 +36,7 @@ use Rattle.registers.specs.Figure.{shapeOf, vertexOf, isPair, advanced, 
 use Rattle.registers.specs.Next.{value, awaited, joinedOf, counted, effectOf, parmOf, coordinateOf, imgNumber, transferredOf, after}
 use Rattle.registers.specs.Allowed.{isCoordinate, isBorder, onlyBits, zcontrolBits, hcontrolBits, lstatusBits, initAllowed, parameterAllowed, coordinateAllowed, allowed}
 use Rattle.registers.specs.Bounds.{frameFits, modesFit, windowFits, vertexFits, figureFits, valueFits, valuesFit, parkedFits, regionFits, inBounds}
-use Rattle.registers.specs.Refusal.{isUnmodelled, isAbove, isUnfit, refusalOf, next, readRefusalOf}
+use Rattle.registers.specs.Refusal.{isUnmodelled, isAbove, table, lowest, isUnfit, refusalOf, next, readRefusalOf}
 use Rattle.registers.proofs.Truth.{and-both, All, chain-all, all-chain, chosen}
 use Rattle.registers.proofs.Table.{everywhere}
 use Rattle.registers.proofs.Lengths.{line-fits, frame-laid}
@@ -485,6 +485,11 @@ kept-fit n r w h e = false≢true (sym fit ∙ given-2 n n r w .0 e .0)
   where
     fit : isUnfit n n r ≡ false
     fit = rw (eq-eqb n n refl, h)
+
+-- and so a word gets what the rest of the table says
+pub kept-judged : (ni nz : ℕ) (r : Registers) (w : Word) → inBounds r ≡ true → ni ≡ nz → lowest 1 (table false r w) ≡ refusalOf ni nz r w
+unfolding refusalOf
+kept-judged ni nz r w h e = rw (eq-eqb ni nz e, h)
 
 -- ---- the read call
 

@@ -121,7 +121,7 @@ impl Registers {
     }
 
     // The number that a word gets where the record and the memories are fit, the lowest that applies; 0 for none.
-    fn judged(self, word: Word) -> u64
+    pub fn judged(self, word: Word) -> u64
         ensures { λ r. ⌜ r ≡ lowest 1 (table false self word) ⌝ }
     {
         let cold = self.started == 0;

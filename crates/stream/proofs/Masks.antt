@@ -68,3 +68,54 @@ seam-byte v w =
 
 pub seam-lt : (v w : ℕ) → number (bits 4 v ++ bits 4 (w / 65536)) < 256
 seam-lt v w = omega (arith, seam-number v (w / 65536))
+
+-- ---- four bytes at once, one way round and the other
+
+-- the four bytes of a number below 2 ^ 32, turned round
+abbrev pub turn : ℕ → ℕ
+turn x = x % 256 * 16777216 + x / 256 % 256 * 65536 + x / 65536 % 256 * 256 + x / 16777216
+
+-- a number of four bytes, taken apart
+four-bytes : (a b c d y : ℕ) → a < 256 → b < 256 → c < 256 → y ≡ a + b * 256 + c * 65536 + d * 16777216
+    → (y % 256 ≡ a) × (y / 256 % 256 ≡ b) × (y / 65536 % 256 ≡ c) × (y / 16777216 ≡ d)
+four-bytes a b c d y ha hb hc e =
+    let e₁ : y / 256 ≡ b + c * 256 + d * 65536 = omega (arith, ha, e) in
+    let e₂ : y / 65536 ≡ c + d * 256 = omega (arith, ha, hb, e) in (omega (arith, ha, e), omega (arith, hb, e₁), omega (arith, hc, e₂), omega (arith, hc, e₂))
+
+-- the lowest first, turned round, is the highest first
+pub turn-four : (a b c d y x : ℕ) → a < 256 → b < 256 → c < 256
+    → y ≡ a + b * 256 + c * 65536 + d * 16777216 → x ≡ turn y → x ≡ a * 16777216 + b * 65536 + c * 256 + d
+turn-four a b c d y x ha hb hc e f =
+    let q = four-bytes a b c d y ha hb hc e in
+    f ∙ rw (q .0, q .1, q .2, q .3)
+
+pub high-four : (a b c d x : ℕ) → a < 256 → b < 256 → c < 256 → d < 256
+    → x ≡ a * 16777216 + b * 65536 + c * 256 + d → x / 4096 ≡ number (take 20 (joined 8 (a ∷ b ∷ c ∷ [])))
+high-four a b c d x ha hb hc hd e =
+    let e₁ : x / 4096 ≡ a * 4096 + b * 16 + c / 16 = omega (arith, hc, hd, e) in
+    e₁ ∙ omega (arith, high-number a b c, mod-eq-of-lt ha, mod-eq-of-lt hb)
+
+pub low-four : (a b c d g x : ℕ) → d < 256 → g < 256
+    → x ≡ a * 16777216 + b * 65536 + c * 256 + d → x % 4096 * 256 + g ≡ number (drop 4 (joined 8 (c ∷ d ∷ g ∷ [])))
+low-four a b c d g x hd hg e = omega (arith, low-number c d g)
+
+-- the bytes of a number below 2 ^ 32, turned round, are its bytes from the highest on
+pub turn-bytes : (x t : ℕ) → x < 4294967296 → t ≡ turn x
+    → (t % 256 ≡ x / 16777216) × (t / 256 % 256 ≡ x / 65536 % 256) × (t / 65536 % 256 ≡ x / 256 % 256) × (t / 16777216 % 256 ≡ x % 256)
+turn-bytes x t h e =
+    let q = four-bytes (x / 16777216) (x / 65536 % 256) (x / 256 % 256) (x % 256) t (omega (arith, h)) (omega arith) (omega arith) (back (x % 256) (x / 256 % 256 * 65536) (x / 65536 % 256 * 256) (x / 16777216) e) in
+    (q .0, q .1, q .2, ap (λ (n : ℕ). n % 256) (q .3) ∙ mod-eq-of-lt (omega arith))
+  where
+    back : (d c b a : ℕ) → t ≡ d * 16777216 + c + b + a → t ≡ a + b + c + d * 16777216
+    back d c b a e = omega (arith, e)
+
+-- the first four bytes of two words
+pub pair-bytes : (v w x : ℕ) → x ≡ v % 1048576 * 4096 + w / 256 % 4096
+    → (x / 16777216 ≡ number (bits 8 (v / 4096))) × (x / 65536 % 256 ≡ number (bits 8 (v / 16)))
+    × (x / 256 % 256 ≡ number (bits 4 v ++ bits 4 (w / 65536))) × (x % 256 ≡ number (bits 8 (w / 256)))
+pair-bytes v w x e = (
+  omega (arith, number-bits 8 (v / 4096)),
+  omega (arith, number-bits 8 (v / 16)),
+  omega (arith, seam-number v (w / 65536)),
+  omega (arith, number-bits 8 (w / 256)),
+)

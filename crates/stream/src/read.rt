@@ -1,13 +1,15 @@
 // Streams read: what is wrong with one, the words that it holds, and all of them at once.
 ghost use mathlib.Core.Path.{_≡_};
 ghost use Prim.Native.Nat.{_+_, _*_, _/_, _≤_, _<_};
-ghost use lib.ListN.{length, take, drop};
+ghost use lib.ListN.{length, getD, take, drop};
 ghost use lib.Seq.{sets};
 ghost use Rattle.stream.specs.Format.{unpackOf, wordAt};
+ghost use Rattle.stream.specs.Loops.{Quad};
 ghost use Rattle.stream.specs.Calls.{badLength, badTail, checked, over, told, unpacking};
 use crate::Coded;
 use crate::word::high_word;
 use crate::word::low_word;
+use crate::word::turned;
 
 // Whether a stream's length is that of no whole number of words.
 fn is_cut(bytes: &[u8]) -> bool
@@ -78,16 +80,27 @@ pub fn word(bytes: &[u8], k: usize) -> u32
     low_at(bytes, i)
 }
 
+// The four bytes from byte i on as one number, the first byte the lowest. It stands by itself so that the compiler makes one load of it.
+fn four_at(bytes: &[u8], i: usize) -> u32
+    requires { ⌜ i + 4 ≤ length (now bytes) ⌝ }
+    ensures { λ r. ⌜ Quad (now (bytes .entry)) i r ⌝ }
+{
+    (bytes[i] as u32)
+        + (bytes[i + 1] as u32) * 256
+        + (bytes[i + 2] as u32) * 65536
+        + (bytes[i + 3] as u32) * 16777216
+}
+
 // The first two words from byte i on, stored at place k.
 fn put_pair(bytes: &[u8], i: usize, out: &mut [u32], k: usize)
     requires { ⌜ i + 5 ≤ length (now bytes) ⌝ }
     requires { ⌜ k + 2 ≤ length (now out) ⌝ }
     ensures { λ _. ⌜ now (out .exit) ≡ sets (now (out .entry)) k (take 2 (unpackOf (drop i (now (bytes .entry))))) ⌝ }
 {
-    let h = high_at(bytes, i);
-    let l = low_at(bytes, i);
-    out[k] = h;
-    out[k + 1] = l;
+    let x = turned(four_at(bytes, i));
+    let e = bytes[i + 4] as u32;
+    out[k] = x / 4096;
+    out[k + 1] = x % 4096 * 256 + e;
 }
 
 // The first word from byte i on, stored at place k.

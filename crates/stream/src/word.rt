@@ -1,6 +1,6 @@
 // A pair of words and its five bytes: the word above takes two bytes and a high half, the word below a low half and two bytes.
 ghost use mathlib.Core.Path.{_≡_};
-ghost use Prim.Native.Nat.{_/_};
+ghost use Prim.Native.Nat.{_+_, _*_, _/_, _%_};
 ghost use mathlib.Core.List.{[], _∷_, _++_};
 ghost use lib.ListN.{take, drop};
 ghost use Rattle.stream.specs.Format.{bits, number, joined};
@@ -31,4 +31,11 @@ pub(crate) fn seam(v: u32, w: u32) -> u8
     ensures { λ r. ⌜ r ≡ number (bits 4 v ++ bits 4 (w / 65536)) ⌝ }
 {
     (((v & 15) << 4) | ((w >> 16) & 15)) as u8
+}
+
+// The four bytes of a number, the other way round.
+pub(crate) fn turned(x: u32) -> u32
+    ensures { λ r. ⌜ r ≡ x % 256 * 16777216 + x / 256 % 256 * 65536 + x / 65536 % 256 * 256 + x / 16777216 ⌝ }
+{
+    x % 256 * 16777216 + x / 256 % 256 * 65536 + x / 65536 % 256 * 256 + x / 16777216
 }

@@ -1,6 +1,6 @@
 // Streams written.
 ghost use mathlib.Core.Path.{_≡_};
-ghost use Prim.Native.Nat.{_+_, _*_, _/_, _≤_};
+ghost use Prim.Native.Nat.{_+_, _*_, _/_, _%_, _≤_};
 ghost use mathlib.Core.List.{[], _∷_};
 ghost use lib.ListN.{length};
 ghost use lib.Seq.{sets};
@@ -9,6 +9,7 @@ ghost use Rattle.stream.specs.Calls.{over, told, packing};
 use crate::Coded;
 use crate::word::low_byte;
 use crate::word::seam;
+use crate::word::turned;
 
 // Whether each word has at most 20 bits: no bit above the twentieth is set in any. (No early end: so the loop takes many words at once.)
 fn all_fit(words: &[u32]) -> bool
@@ -23,15 +24,24 @@ fn all_fit(words: &[u32]) -> bool
     set < 1048576
 }
 
+// The four bytes of a number, the lowest first, stored at place k. It stands by itself so that the compiler makes one store of it.
+fn put_four(x: u32, out: &mut [u8], k: usize)
+    requires { ⌜ k + 4 ≤ length (now out) ⌝ }
+    ensures { λ _. ⌜ now (out .exit) ≡ sets (now (out .entry)) k (x % 256 ∷ x / 256 % 256 ∷ x / 65536 % 256 ∷ x / 16777216 % 256 ∷ []) ⌝ }
+{
+    out[k] = (x % 256) as u8;
+    out[k + 1] = (x / 256 % 256) as u8;
+    out[k + 2] = (x / 65536 % 256) as u8;
+    out[k + 3] = (x / 16777216 % 256) as u8;
+}
+
 // The bytes of two words, stored at place k.
 fn put_pair(v: u32, w: u32, out: &mut [u8], k: usize)
     requires { ⌜ k + 5 ≤ length (now out) ⌝ }
     ensures { λ _. ⌜ now (out .exit) ≡ sets (now (out .entry)) k (packOf (v ∷ w ∷ [])) ⌝ }
 {
-    out[k] = low_byte(v >> 12);
-    out[k + 1] = low_byte(v >> 4);
-    out[k + 2] = seam(v, w);
-    out[k + 3] = low_byte(w >> 8);
+    let x = v % 1048576 * 4096 + w / 256 % 4096;
+    put_four(turned(x), out, k);
     out[k + 4] = low_byte(w);
 }
 

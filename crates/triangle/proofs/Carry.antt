@@ -56,6 +56,21 @@ told n d f pos least most small =
     (omega (arith, mul-assoc n f d, mul-le-mul-left n least))
     (omega (arith, mul-assoc n f d, mul-le-mul-left n most, mul-add n 281474976710656 d))
 
+-- a quotient below 65,536 by the reciprocal of an edge's height
+module _ (v d f : ℕ) (pos : 0 < d) (few : d ≤ 65535) (least : 281474976710656 ≤ f * d) (most : f * d ≤ 281474976710656 + d) (h : v < 65536 * d) where
+  over-small : v * d < 281474976710656
+  over-small =
+      let most : v ≤ 65536 * d = omega (arith, h) in
+      omega (arith, mul-le-mul-right d most, mul-le-mul-left (65536 * d) few, few)
+
+  pub over-told : v * f / 281474976710656 ≡ v / d
+  over-told = told v d f pos least most over-small
+
+  pub over-fits : v * f < 65536 * 281474976710656
+  over-fits =
+      let q : v / d < 65536 = (div-lt-iff-lt-mul {k = d} {x = v} {y = 65536} pos) .1 h in
+      (div-lt-iff-lt-mul {k = 281474976710656} {x = v * f} {y = 65536} (omega arith)) .0 (omega (arith, q, over-told))
+
 -- ---- a part of 2 ^ 48, by two divisions
 
 module _ (r m : ℕ) (pos : 0 < m) where

@@ -1,16 +1,18 @@
 -- The corners named so that they turn anticlockwise, by the computed expression. Assumes nothing.
 use mathlib.Core.Path.{_≡_, refl, sym, ap, _∙_}
 use mathlib.Core.List.{List, []}
-use Prim.Native.Nat.{ℕ, _-_, _<_}
+use Prim.Native.Nat.{ℕ, _+_, _-_, _<_}
 use native.Mathlib.Nat.{le-of-lt, le-of-eq}
+use native.Mathlib.Omega.{arith}
 use lib.Dec.{ltb}
-use borrow.Author.Tests.{lt-ltb, le-ltb, ltb-true}
+use borrow.Author.Tests.{lt-ltb, le-ltb, ltb-true, ltb-false}
 use mathlib.Core.Bool.{Bool, true, false, cond}
 use Rattle.picture.specs.declared.Vertex.{Vertex}
 use Rattle.picture.specs.declared.Pen.{Pen}
 use Rattle.picture.specs.Offer.{Offer}
 use Rattle.picture.specs.Picture.{Picture, drawn}
 use Rattle.picture.proofs.Fold.{drawn-nil}
+use Rattle.triangle.specs.declared.Corners.{Corners}
 use Rattle.triangle.specs.declared.Edge.{Edge}
 use Rattle.triangle.specs.Edge.{edgeAt, amount, areaOf}
 use Rattle.triangle.specs.Offers.{turnedOffers, cornersOf, triangleOffers}
@@ -35,6 +37,24 @@ module _ (a b c : Vertex) (e : Edge) (at : e ≡ edgeAt a b (c .x) (c .y)) where
   right-area =
       ap (λ (f : Edge). f .minus - f .plus) at
       ∙ sym (rw (turn-plus (a .x) (a .y) (b .x) (b .y) (c .x) (c .y), turn-minus (a .x) (a .y) (b .x) (b .y) (c .x) (c .y)))
+
+-- the corners named by it, with their doubled area
+module _ (a b c : Vertex) (e : Edge) (at : e ≡ edgeAt a b (c .x) (c .y)) (d : ℕ) (far : d ≡ e .plus - e .minus + (e .minus - e .plus)) (some : 0 < d) where
+  right-of : (s : Bool) → ltb (e .minus) (e .plus) ≡ s → s ≡ false → e .plus < e .minus
+  right-of s f n = omega (arith, far, some, ltb-false (e .minus) (e .plus) (f ∙ n))
+
+  named-by : (t : Corners) (s : Bool) → ltb (e .minus) (e .plus) ≡ s → t ≡ cond s (cornersOf a b c c) (cornersOf a c b c) → (Turned t) × (d ≡ areaOf t)
+  named-by t true f is =
+      let h = ltb-true (e .minus) (e .plus) f in
+      let g : d ≡ e .plus - e .minus = omega (arith, far, h) in
+      rw is (left-turned a b c e at h, g ∙ left-area a b c e at)
+  named-by t false f is =
+      let h = right-of false f refl in
+      let g : d ≡ e .minus - e .plus = omega (arith, far, h) in
+      rw is (right-turned a b c e at h, g ∙ right-area a b c e at)
+
+  pub named-turned : {t : Corners} → t ≡ cond (ltb (e .minus) (e .plus)) (cornersOf a b c c) (cornersOf a c b c) → (Turned t) × (d ≡ areaOf t)
+  named-turned {t} is = named-by t (ltb (e .minus) (e .plus)) refl is
 
 -- ---- what the vertices offer
 
@@ -71,13 +91,24 @@ module _ (pen : Pen) (rows : ℕ) (constant : Bool) (a b c : Vertex) where
       go false e false f = none
 
   module _ (e : Edge) (at : e ≡ edgeAt a b (c .x) (c .y)) where
-    pub left-drawn : (p q : Picture) → e .minus < e .plus → q ≡ drawn pen (turnedOffers pen rows constant (cornersOf a b c c)) p
+    left-drawn : (p q : Picture) → e .minus < e .plus → q ≡ drawn pen (turnedOffers pen rows constant (cornersOf a b c c)) p
         → q ≡ drawn pen (triangleOffers pen rows constant a b c) p
     left-drawn p q h k = rw (triangle-left (rw at at h)) k
 
-    pub right-drawn : (p q : Picture) → e .plus < e .minus → q ≡ drawn pen (turnedOffers pen rows constant (cornersOf a c b c)) p
+    right-drawn : (p q : Picture) → e .plus < e .minus → q ≡ drawn pen (turnedOffers pen rows constant (cornersOf a c b c)) p
         → q ≡ drawn pen (triangleOffers pen rows constant a b c) p
     right-drawn p q h k = rw (triangle-right (rw at at h)) k
 
     pub flat-drawn : (p : Picture) → e .minus ≡ e .plus → p ≡ drawn pen (triangleOffers pen rows constant a b c) p
     flat-drawn p h = rw (triangle-flat (rw at at h)) (sym (drawn-nil pen p))
+
+    -- what the named corners draw is what the vertices draw
+    module _ (d : ℕ) (far : d ≡ e .plus - e .minus + (e .minus - e .plus)) (some : 0 < d) (p q : Picture) where
+      drawn-by : (t : Corners) (s : Bool) → ltb (e .minus) (e .plus) ≡ s → t ≡ cond s (cornersOf a b c c) (cornersOf a c b c)
+          → q ≡ drawn pen (turnedOffers pen rows constant t) p → q ≡ drawn pen (triangleOffers pen rows constant a b c) p
+      drawn-by t true f is k = left-drawn p q (ltb-true (e .minus) (e .plus) f) (rw is at k)
+      drawn-by t false f is k = right-drawn p q (right-of a b c e at d far some false f refl) (rw is at k)
+
+      pub named-drawn : {t : Corners} → t ≡ cond (ltb (e .minus) (e .plus)) (cornersOf a b c c) (cornersOf a c b c)
+          → q ≡ drawn pen (turnedOffers pen rows constant t) p → q ≡ drawn pen (triangleOffers pen rows constant a b c) p
+      named-drawn {t} is k = drawn-by t (ltb (e .minus) (e .plus)) refl is k

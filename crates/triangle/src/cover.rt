@@ -1,6 +1,6 @@
 // The edges of a triangle at a pixel.
 ghost use mathlib.Core.Path.{_≡_};
-ghost use Prim.Native.Nat.{_+_, _*_, _≤_};
+ghost use Prim.Native.Nat.{_+_, _*_, _-_, _≤_};
 ghost use Rattle.triangle.specs.Edge.{edgeAt, closed};
 ghost use Rattle.triangle.specs.Loops.{edgesAt};
 use crate::Corners;
@@ -14,6 +14,13 @@ pub(crate) fn times(a: usize, b: usize) -> usize
     ensures { λ r. ⌜ (r ≡ a * b) × (r ≤ 4294836225) ⌝ }
 {
     a * b
+}
+
+// How far two numbers are apart.
+pub(crate) fn gap(a: usize, b: usize) -> usize
+    ensures { λ r. ⌜ r ≡ a - b + (b - a) ⌝ }
+{
+    if a < b { b - a } else { a - b }
 }
 
 // The edge from a to b at the pixel (x, y).

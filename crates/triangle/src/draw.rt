@@ -1,14 +1,16 @@
 // Triangles drawn: row by row, each row's covered pixels as one run.
 ghost use mathlib.Core.Path.{_≡_};
-ghost use mathlib.Core.Bool.{true, false};
+ghost use mathlib.Core.Bool.{true, false, cond};
+ghost use lib.Dec.{ltb};
 ghost use Prim.Native.Nat.{ℕ, _+_, _≤_, _<_};
 ghost use Rattle.picture.specs.Draw.{carriedTo};
-ghost use Rattle.picture.specs.Picture.{picture, drawn};
+ghost use Rattle.picture.specs.Picture.{picture};
 ghost use Rattle.triangle.specs.Edge.{covers, areaOf};
 ghost use Rattle.triangle.specs.Loops.{endOf, startOf, Turned, Spanned, Carries, Shaded, Told, Serves, InRows, Large};
-ghost use Rattle.triangle.specs.Offers.{kindOf, offersAt, rowOffers, turnedOffers, triangleOffers};
+ghost use Rattle.triangle.specs.Offers.{kindOf, offersAt, rowOffers, turnedOffers, cornersOf, triangleOffers};
 ghost use Rattle.picture.specs.Lent.{Draws};
 use crate::Corners;
+use crate::Edge;
 use crate::Run;
 use crate::Shades;
 use crate::Slopes;
@@ -16,6 +18,7 @@ use crate::Span;
 use crate::Way;
 use crate::cover::edge_at;
 use crate::cover::edges_at;
+use crate::cover::gap;
 use crate::number::begin;
 use crate::number::number;
 use crate::number::slopes_of;
@@ -234,7 +237,23 @@ fn draw_turned(
     n
 }
 
-// The triangle that vertex c completes. Answers how many pixels passed.
+// The corners named so that they turn anticlockwise, by the expression of the first edge at the third corner.
+fn named(a: Vertex, b: Vertex, c: Vertex, e: Edge) -> Corners
+    ensures { λ t. ⌜ t ≡ cond (ltb (e .minus) (e .plus)) (cornersOf a b c c) (cornersOf a c b c) ⌝ }
+{
+    if e.minus < e.plus {
+        return Corners { a, b, c, last: c };
+    }
+    Corners {
+        a,
+        b: c,
+        c: b,
+        last: c,
+    }
+}
+
+// The triangle that vertex c completes. Answers how many pixels passed. Both turning senses share the one call of `draw_turned`: so it is
+// compiled in place.
 pub fn triangle(
     pen: Pen,
     constant: bool,
@@ -247,18 +266,10 @@ pub fn triangle(
     ensures { λ r. ⌜ Draws pen (λ rows. triangleOffers pen rows constant a b c) im zm 0 r ⌝ }
 {
     let e = edge_at(a, b, c.x as usize, c.y as usize);
-    if e.minus < e.plus {
-        let t = Corners { a, b, c, last: c };
-        return draw_turned(pen, constant, t, e.plus - e.minus, im, zm);
-    }
-    if e.plus < e.minus {
-        let t = Corners {
-            a,
-            b: c,
-            c: b,
-            last: c,
-        };
-        return draw_turned(pen, constant, t, e.minus - e.plus, im, zm);
+    let d = gap(e.plus, e.minus);
+    let t = named(a, b, c, e);
+    if 0 < d {
+        return draw_turned(pen, constant, t, d, im, zm);
     }
     0
 }

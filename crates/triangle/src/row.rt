@@ -1,11 +1,12 @@
-// The covered columns of a row, by one division an edge.
+// The covered columns of a row: an edge's quotient is a product with its reciprocal, which the compiler takes out of the loop over the rows.
 ghost use mathlib.Core.Path.{_≡_};
-ghost use Prim.Native.Nat.{_+_, _≤_};
+ghost use Prim.Native.Nat.{_+_, _*_, _/_, _<_, _≤_};
 ghost use Rattle.triangle.specs.Edge.{closed};
 ghost use Rattle.triangle.specs.Loops.{short, Cuts, Spanned};
 use crate::Corners;
 use crate::Span;
 use crate::cover::edge_at;
+use crate::cover::gap;
 use crate::cover::is_closed;
 use picture::Pen;
 use picture::Vertex;
@@ -22,6 +23,25 @@ fn short_of(a: Vertex, b: Vertex) -> usize
     1
 }
 
+// 2^48 over an edge's height, and a little more. An edge without height has no quotient: the divisor is at least 1, so that the compiler may
+// divide before it knows.
+fn inverse(tall: usize) -> usize
+    ensures { λ r. ⌜ (0 < tall → (281474976710656 ≤ r * tall) × (r * tall ≤ 281474976710656 + tall)) ⌝ }
+{
+    281474976710656 / most(tall, 1) + 1
+}
+
+// v over an edge's height, by its reciprocal where the quotient is below 65,536. Beyond that no picture has columns.
+fn over(v: usize, tall: usize, inv: usize) -> usize
+    requires { ⌜ (0 < tall) × (tall ≤ 65535) × (281474976710656 ≤ inv * tall) × (inv * tall ≤ 281474976710656 + tall) ⌝ }
+    ensures { λ r. ⌜ r ≡ v / tall ⌝ }
+{
+    if v < 65536 * tall {
+        return v * inv / 281474976710656;
+    }
+    v / tall
+}
+
 // What the edge from a to b keeps of the columns s of row y.
 fn cut(a: Vertex, b: Vertex, y: usize, s: Span) -> Span
     requires { ⌜ y ≤ 65535 ⌝ }
@@ -32,11 +52,13 @@ fn cut(a: Vertex, b: Vertex, y: usize, s: Span) -> Span
     let minus = e.minus + short_of(a, b);
     let ay = a.y as usize;
     let by = b.y as usize;
+    let tall = gap(ay, by);
+    let inv = inverse(tall);
     if by < ay {
         if minus <= plus {
             return s;
         }
-        let first = (minus - plus - 1) / (ay - by) + 1;
+        let first = over(minus - plus - 1, tall, inv) + 1;
         return Span {
             lo: most(s.lo, first),
             hi: s.hi,
@@ -46,7 +68,7 @@ fn cut(a: Vertex, b: Vertex, y: usize, s: Span) -> Span
         return Span { lo: s.lo, hi: 0 };
     }
     if ay < by {
-        let end = (plus - minus) / (by - ay) + 1;
+        let end = over(plus - minus, tall, inv) + 1;
         return Span {
             lo: s.lo,
             hi: least(s.hi, end),

@@ -1,5 +1,7 @@
 -- `run::run` meets its contract: the run from reset. Assumes nothing.
 use mathlib.Core.Path.{ap, _∙_}
+use native.Mathlib.Omega.{arith}
+use Rattle.registers.proofs.Kept.{reset-kept-as}
 use Rattle.registers.specs.declared.Registers.{Registers}
 use Rattle.machine.specs.Machine.{memories}
 use Rattle.chip.specs.Stream.{running}
@@ -11,7 +13,7 @@ reset-requires : tie.Need-reset-requires
 reset-requires c κs = search needs
 
 run-from-requires : tie.Need-run-from-requires
-run-from-requires c κs = search needs
+run-from-requires c κs = rw (c .before .before .reset .ensures) (reset-kept-as 0 (omega arith))
 
 same-length : tie.Need-same-length
 same-length c = search needs

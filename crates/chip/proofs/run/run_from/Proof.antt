@@ -20,7 +20,7 @@ returns-2 : tie.Need-returns-2
 returns-2 c = run-unlike _ _ _ (c .before .before .before .flaw .ensures) (c .before .before .if1 .left) (c .refused2 .ensures) (c .before .if2 .taken)
 
 run-words-requires : tie.Need-run-words-requires
-run-words-requires c κs = search needs
+run-words-requires c κs = (c .before .before .before .before .before .before .before .before .pre, c .before .before .if2 .left)
 
 same-length : tie.Need-same-length
 same-length c = search needs

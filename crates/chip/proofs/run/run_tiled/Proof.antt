@@ -1,5 +1,7 @@
 -- `run::run_tiled` meets its contract: the run from reset in tiles. Assumes nothing.
 use mathlib.Core.Path.{ap, _∙_}
+use native.Mathlib.Omega.{arith}
+use Rattle.registers.proofs.Kept.{reset-kept-as}
 use Rattle.registers.specs.declared.Registers.{Registers}
 use Rattle.machine.specs.Machine.{memories}
 use Rattle.chip.specs.Stream.{running}
@@ -11,7 +13,7 @@ reset-tiled-requires : tie.Need-reset-tiled-requires
 reset-tiled-requires c κs = search needs
 
 run-from-requires : tie.Need-run-from-requires
-run-from-requires c κs = search needs
+run-from-requires c κs = rw (c .before .before .reset-tiled .ensures) (reset-kept-as 1 (omega arith))
 
 same-length : tie.Need-same-length
 same-length c = search needs

@@ -10,14 +10,17 @@ use Rattle.chip.proofs.run.step_at.Tie as tie
 word-requires : tie.Need-word-requires
 word-requires c κs = search needs
 
-cast-step : tie.Need-cast-step
-cast-step c = omega (arith, c .word .ensures, word-fits (now (c .before .before .before .before .args .bytes)) (c .before .before .before .before .args .k))
+cast-decoded : tie.Need-cast-decoded
+cast-decoded c = omega (arith, c .word .ensures, word-fits (now (c .before .before .before .before .args .bytes)) (c .before .before .before .before .args .k))
 
-cast-step-2 : tie.Need-cast-step-2
-cast-step-2 c = search needs
+cast-decoded-2 : tie.Need-cast-decoded-2
+cast-decoded-2 c = search needs
 
-step-requires : tie.Need-step-requires
-step-requires c κs = search needs
+decoded-requires : tie.Need-decoded-requires
+decoded-requires c κs = search needs
+
+step-kept-requires : tie.Need-step-kept-requires
+step-kept-requires c κs = search needs
 
 same-length : tie.Need-same-length
 same-length c = search needs
@@ -27,9 +30,19 @@ same-length-2 c = search needs
 
 returns : tie.Need-returns
 unfolding wordOf
-returns c = rw (c .before .before .before .before .before .before .before .word .ensures) at (c .before .before .before .before .step .ensures)
+returns c =
+    let taken = c .before .before .before .before in
+    rw (← taken .before .before .before .before .word .ensures, ← taken .before .before .before .decoded .ensures) (taken .step-kept .ensures)
 
 pub step-at-spec : {M : Type 1} → statement M
 step-at-spec =
     tie.close
-    (tie.spec word-requires cast-step cast-step-2 step-requires same-length same-length-2 returns)
+    (tie.spec
+    word-requires
+    cast-decoded
+    cast-decoded-2
+    decoded-requires
+    step-kept-requires
+    same-length
+    same-length-2
+    returns)

@@ -1,7 +1,7 @@
 -- `row::cut` meets its contract. Assumes nothing.
-use mathlib.Core.Path.{_≡_, refl, ap}
+use mathlib.Core.Path.{_≡_, ap, _∙_}
 use native.Mathlib.Omega.{arith}
-use Prim.Native.Nat.{_+_, _-_}
+use Prim.Native.Nat.{ℕ, _+_, _-_, _/_, _<_}
 use Rattle.triangle.proofs.Covers.{cut-all, cut-first, cut-none, cut-end}
 use Rattle.triangle.specs.Edge.{closed}
 use Rattle.triangle.specs.Loops.{short}
@@ -34,47 +34,84 @@ cast-ay c = search needs
 cast-by : tie.Need-cast-by
 cast-by c = search needs
 
+gap-requires : tie.Need-gap-requires
+gap-requires c κs = search needs
+
+inverse-requires : tie.Need-inverse-requires
+inverse-requires c κs = search needs
+
 returns : tie.Need-returns
-returns c = let k = c .before .before .before .before .before in let a = k .before .before .args in let e = eqs k in cut-all (a .a) (a .b) (a .y) (a .s) _ _ (e .0) (e .1) (omega (arith, c .before .if1 .taken)) (search needs)
+returns c = let k = c .before .before .before .before .before .before .before in let a = k .before .before .args in let e = eqs k in cut-all (a .a) (a .b) (a .y) (a .s) _ _ (e .0) (e .1) (omega (arith, c .before .if1 .taken)) (search needs)
 
-sub-first : tie.Need-sub-first
-sub-first c = search needs
+sub-over : tie.Need-sub-over
+sub-over c = search needs
 
-sub-first-2 : tie.Need-sub-first-2
-sub-first-2 c = search needs
+sub-over-2 : tie.Need-sub-over-2
+sub-over-2 c = search needs
 
-sub-first-3 : tie.Need-sub-first-3
-sub-first-3 c = search needs
-
-div-first : tie.Need-div-first
-div-first c = search needs
+over-requires : tie.Need-over-requires
+over-requires c κs =
+    let s = c .before .before .before .before .before .before .before .before .before in
+    let far = c .before .before .before .gap .ensures in
+    let some : 0 < c .before .before .before .gap .result = omega (arith, far, c .before .if1 .taken) in
+    let near = c .before .before .inverse .ensures some in
+    (some, omega (arith, far, s .good .0, s .good .1 .0), near .0, near .1)
 
 add-first : tie.Need-add-first
-add-first c = let k = c .before .before .before .before .before in let r = k .before .edge-at .result in omega (arith, div-le-self (r .minus + k .short-of .result - r .plus - 1) (k .before .before .args .a .y - k .before .before .args .b .y), k .before .edge-at .ensures .2, k .short-of .ensures .1)
+add-first c =
+    let k = c .before .before .before .before .before .before .before .before in
+    let r = k .before .edge-at .result in
+    omega (arith, c .over .ensures, div-le-self (r .minus + k .short-of .result - r .plus - 1) (c .before .before .before .before .gap .result), k .before .edge-at .ensures .2, k .short-of .ensures .1)
 
 most-requires : tie.Need-most-requires
 most-requires c κs = search needs
 
 returns-2 : tie.Need-returns-2
-returns-2 c = rw (c .most .ensures) (let k = c .before .before .before .before .before .before in let a = k .before .before .args in let e = eqs k in cut-first (a .a) (a .b) (a .y) (a .s) _ _ (e .0) (e .1) _ (c .before .before .if1 .taken) (c .before .if2 .left) refl)
+returns-2 c =
+    let k = c .before .before .before .before .before .before .before .before .before in
+    let a = k .before .before .args in
+    let r = k .before .edge-at .result in
+    let e = eqs k in
+    let falls = c .before .before .before .if1 .taken in
+    let tall : c .before .before .before .before .before .gap .result ≡ a .a .y - a .b .y = omega (arith, c .before .before .before .before .before .gap .ensures, falls) in
+    rw (c .most .ensures)
+    (cut-first (a .a) (a .b) (a .y) (a .s) _ _ (e .0) (e .1) _ falls (c .before .before .if2 .left)
+    (ap (λ (q : ℕ). q + 1) (c .before .over .ensures ∙ ap (λ (h : ℕ). (r .minus + k .short-of .result - r .plus - 1) / h) tall)))
 
 returns-3 : tie.Need-returns-3
-returns-3 c = let k = c .before .before .before .before .before in let a = k .before .before .args in let e = eqs k in cut-none (a .a) (a .b) (a .y) (a .s) _ _ (e .0) (e .1) (c .before .if1 .left) (c .if3 .taken)
+returns-3 c = let k = c .before .before .before .before .before .before .before in let a = k .before .before .args in let e = eqs k in cut-none (a .a) (a .b) (a .y) (a .s) _ _ (e .0) (e .1) (c .before .if1 .left) (c .if3 .taken)
 
-div-end : tie.Need-div-end
-div-end c = search needs
+over-requires-2 : tie.Need-over-requires-2
+over-requires-2 c κs =
+    let s = c .before .before .before .before .before .before .before .before .before .before in
+    let far = c .before .before .before .before .gap .ensures in
+    let some : 0 < c .before .before .before .before .gap .result = omega (arith, far, c .if4 .taken) in
+    let near = c .before .before .before .inverse .ensures some in
+    (some, omega (arith, far, s .good .0, s .good .1 .0), near .0, near .1)
 
 add-end : tie.Need-add-end
-add-end c = let k = c .before .before .before .before .before .before in let r = k .before .edge-at .result in omega (arith, div-le-self (r .plus - (r .minus + k .short-of .result)) (k .before .before .args .b .y - k .before .before .args .a .y), k .before .edge-at .ensures .1)
+add-end c =
+    let k = c .before .before .before .before .before .before .before .before .before in
+    let r = k .before .edge-at .result in
+    omega (arith, c .over2 .ensures, div-le-self (r .plus - (r .minus + k .short-of .result)) (c .before .before .before .before .before .gap .result), k .before .edge-at .ensures .1)
 
 least-requires : tie.Need-least-requires
 least-requires c κs = search needs
 
 returns-4 : tie.Need-returns-4
-returns-4 c = rw (c .least .ensures) (let k = c .before .before .before .before .before .before .before in let a = k .before .before .args in let e = eqs k in cut-end (a .a) (a .b) (a .y) (a .s) _ _ (e .0) (e .1) _ (c .before .if4 .taken) (c .before .before .if3 .left) refl)
+returns-4 c =
+    let k = c .before .before .before .before .before .before .before .before .before .before in
+    let a = k .before .before .args in
+    let r = k .before .edge-at .result in
+    let e = eqs k in
+    let rises = c .before .before .if4 .taken in
+    let tall : c .before .before .before .before .before .before .gap .result ≡ a .b .y - a .a .y = omega (arith, c .before .before .before .before .before .before .gap .ensures, rises) in
+    rw (c .least .ensures)
+    (cut-end (a .a) (a .b) (a .y) (a .s) _ _ (e .0) (e .1) _ rises (c .before .before .before .if3 .left)
+    (ap (λ (q : ℕ). q + 1) (c .before .over2 .ensures ∙ ap (λ (h : ℕ). (r .plus - (r .minus + k .short-of .result)) / h) tall)))
 
 returns-5 : tie.Need-returns-5
-returns-5 c = let k = c .before .before .before .before .before .before in let a = k .before .before .args in let e = eqs k in cut-all (a .a) (a .b) (a .y) (a .s) _ _ (e .0) (e .1) (c .if4 .left) (c .before .if3 .left)
+returns-5 c = let k = c .before .before .before .before .before .before .before .before in let a = k .before .before .args in let e = eqs k in cut-all (a .a) (a .b) (a .y) (a .s) _ _ (e .0) (e .1) (c .if4 .left) (c .before .if3 .left)
 
 pub cut-spec : {M : Type 1} → statement M
 cut-spec =
@@ -85,16 +122,17 @@ cut-spec =
     add-minus
     cast-ay
     cast-by
+    gap-requires
+    inverse-requires
     returns
-    sub-first
-    sub-first-2
-    sub-first-3
-    div-first
+    sub-over
+    sub-over-2
+    over-requires
     add-first
     most-requires
     returns-2
     returns-3
-    div-end
+    over-requires-2
     add-end
     least-requires
     returns-4

@@ -1,0 +1,186 @@
+-- `step::take` meets its contract: a refused word leaves all as it was, and each kind of word has its arm. Assumes nothing.
+use mathlib.Core.Path.{refl}
+use Rattle.registers.specs.Next.{after, completedBy}
+use Rattle.chip.specs.Chip.{wordStores}
+use Rattle.chip.proofs.Words.{word-refused, word-drawn, word-quiet, word-stored}
+use borrow.Author.Needs.{needs}
+use Rattle.chip.proofs.step.take.Statement.{statement}
+use Rattle.chip.proofs.step.take.Tie as tie
+
+quiet-requires : tie.Need-quiet-requires
+quiet-requires c κs = search needs
+
+returns : tie.Need-returns
+returns c = word-refused _ _ _ _ refl (c .before .before .before .before .pre) (c .quiet .ensures) (c .before .if1 .taken)
+
+enum-known-word : tie.Need-enum-known-word
+enum-known-word c = search needs
+
+init-requires : tie.Need-init-requires
+init-requires c κs = search needs
+
+quiet-requires-2 : tie.Need-quiet-requires-2
+quiet-requires-2 c κs = search needs
+
+enum-known-word-2 : tie.Need-enum-known-word-2
+enum-known-word-2 c = search needs
+
+aux-requires : tie.Need-aux-requires
+aux-requires c κs = search needs
+
+quiet-requires-3 : tie.Need-quiet-requires-3
+quiet-requires-3 c κs = search needs
+
+enum-known-word-3 : tie.Need-enum-known-word-3
+enum-known-word-3 c = search needs
+
+parm-requires : tie.Need-parm-requires
+parm-requires c κs = search needs
+
+quiet-requires-4 : tie.Need-quiet-requires-4
+quiet-requires-4 c κs = search needs
+
+enum-known-word-4 : tie.Need-enum-known-word-4
+enum-known-word-4 c = search needs
+
+completed-by-requires : tie.Need-completed-by-requires
+completed-by-requires c κs = search needs
+
+draw-requires : tie.Need-draw-requires
+draw-requires c κs = search needs
+
+coordinate-requires : tie.Need-coordinate-requires
+coordinate-requires c κs = search needs
+
+enum-known-word-5 : tie.Need-enum-known-word-5
+enum-known-word-5 c = search needs
+
+img-requires : tie.Need-img-requires
+img-requires c κs = search needs
+
+quiet-requires-5 : tie.Need-quiet-requires-5
+quiet-requires-5 c κs = search needs
+
+enum-known-word-6 : tie.Need-enum-known-word-6
+enum-known-word-6 c = search needs
+
+load-requires : tie.Need-load-requires
+load-requires c κs = search needs
+
+transferred-requires : tie.Need-transferred-requires
+transferred-requires c κs = search needs
+
+quiet-requires-6 : tie.Need-quiet-requires-6
+quiet-requires-6 c κs = search needs
+
+enum-told : tie.Need-enum-told
+enum-told c = search needs
+
+quiet-requires-7 : tie.Need-quiet-requires-7
+quiet-requires-7 c κs = search needs
+
+enum-told-2 : tie.Need-enum-told-2
+enum-told-2 c = search needs
+
+quiet-requires-8 : tie.Need-quiet-requires-8
+quiet-requires-8 c κs = search needs
+
+enum-told-3 : tie.Need-enum-told-3
+enum-told-3 c = search needs
+
+quiet-requires-9 : tie.Need-quiet-requires-9
+quiet-requires-9 c κs = search needs
+
+returns-2 : tie.Need-returns-2
+unfolding after completedBy wordStores
+returns-2 c = word-quiet _ _ _ _ refl (c .before .before .before .before .before .before .before .before .pre) (c .before .before .before .before .before .if1 .left) (rw (c .before .before .before .word .given .1)) (c .quiet2 .ensures) (rw (c .before .before .before .word .given .1)) (rw (c .before .before .before .word .given .1) (c .before .init .ensures))
+
+returns-3 : tie.Need-returns-3
+unfolding after completedBy wordStores
+returns-3 c = word-quiet _ _ _ _ refl (c .before .before .before .before .before .before .before .before .pre) (c .before .before .before .before .before .if1 .left) (rw (c .before .before .before .word2 .given .1)) (c .quiet3 .ensures) (rw (c .before .before .before .word2 .given .1)) (rw (c .before .before .before .word2 .given .1) (c .before .aux .ensures))
+
+returns-4 : tie.Need-returns-4
+unfolding after completedBy wordStores
+returns-4 c = word-quiet _ _ _ _ refl (c .before .before .before .before .before .before .before .before .pre) (c .before .before .before .before .before .if1 .left) (rw (c .before .before .before .word3 .given .1)) (c .quiet4 .ensures) (rw (c .before .before .before .word3 .given .1)) (rw (c .before .before .before .word3 .given .1) (c .before .parm .ensures))
+
+same-length : tie.Need-same-length
+same-length c = search needs
+
+same-length-2 : tie.Need-same-length-2
+same-length-2 c = search needs
+
+returns-5 : tie.Need-returns-5
+unfolding after completedBy wordStores
+returns-5 c = word-drawn _ _ _ _ refl (c .before .before .before .before .before .before .before .before .before .before .before .before .before .before .before .pre) (c .before .before .before .before .before .before .before .before .before .before .before .before .if1 .left) (rw (c .before .before .before .before .before .before .before .before .before .before .word4 .given .1)) (rw (c .before .before .before .before .before .before .before .before .before .before .word4 .given .1) (c .before .before .before .before .before .before .before .before .completed-by .ensures)) (c .before .before .before .before .before .draw .ensures) (rw (c .before .before .before .before .before .before .before .before .before .before .word4 .given .1) (c .coordinate .ensures))
+
+returns-6 : tie.Need-returns-6
+unfolding after completedBy wordStores
+returns-6 c = word-quiet _ _ _ _ refl (c .before .before .before .before .before .before .before .before .pre) (c .before .before .before .before .before .if1 .left) (rw (c .before .before .before .word5 .given .1)) (c .quiet5 .ensures) (rw (c .before .before .before .word5 .given .1)) (rw (c .before .before .before .word5 .given .1) (c .before .img .ensures))
+
+same-length-3 : tie.Need-same-length-3
+same-length-3 c = search needs
+
+same-length-4 : tie.Need-same-length-4
+same-length-4 c = search needs
+
+returns-7 : tie.Need-returns-7
+unfolding after completedBy wordStores
+returns-7 c = word-stored _ _ _ _ refl (c .before .before .before .before .before .before .before .before .before .before .before .before .before .before .before .pre) (c .before .before .before .before .before .before .before .before .before .before .before .before .if1 .left) (c .quiet6 .ensures) (rw (c .before .before .before .before .before .before .before .before .before .before .word6 .given .1)) (rw (c .before .before .before .before .before .before .before .before .before .before .word6 .given .1) (c .before .before .before .before .before .before .load .ensures)) (rw (c .before .before .before .before .before .before .before .before .before .before .word6 .given .1) (c .before .transferred .ensures))
+
+returns-8 : tie.Need-returns-8
+unfolding after completedBy wordStores
+returns-8 c = word-quiet _ _ _ _ refl (c .before .before .before .before .before .before .pre) (c .before .before .before .if1 .left) (rw (c .before .enum-told .given .1)) (c .quiet7 .ensures) (rw (c .before .enum-told .given .1)) (rw (c .before .enum-told .given .1))
+
+returns-9 : tie.Need-returns-9
+unfolding after completedBy wordStores
+returns-9 c = word-quiet _ _ _ _ refl (c .before .before .before .before .before .before .pre) (c .before .before .before .if1 .left) (rw (c .before .enum-told2 .given .1)) (c .quiet8 .ensures) (rw (c .before .enum-told2 .given .1)) (rw (c .before .enum-told2 .given .1))
+
+returns-10 : tie.Need-returns-10
+unfolding after completedBy wordStores
+returns-10 c = word-quiet _ _ _ _ refl (c .before .before .before .before .before .before .pre) (c .before .before .before .if1 .left) (rw (c .before .enum-told3 .given .1)) (c .quiet9 .ensures) (rw (c .before .enum-told3 .given .1)) (rw (c .before .enum-told3 .given .1))
+
+pub take-spec : {M : Type 1} → statement M
+take-spec =
+    tie.close
+    (tie.spec
+    quiet-requires
+    returns
+    enum-known-word
+    init-requires
+    quiet-requires-2
+    enum-known-word-2
+    aux-requires
+    quiet-requires-3
+    enum-known-word-3
+    parm-requires
+    quiet-requires-4
+    enum-known-word-4
+    completed-by-requires
+    draw-requires
+    coordinate-requires
+    enum-known-word-5
+    img-requires
+    quiet-requires-5
+    enum-known-word-6
+    load-requires
+    transferred-requires
+    quiet-requires-6
+    enum-told
+    quiet-requires-7
+    enum-told-2
+    quiet-requires-8
+    enum-told-3
+    quiet-requires-9
+    returns-2
+    returns-3
+    returns-4
+    same-length
+    same-length-2
+    returns-5
+    returns-6
+    same-length-3
+    same-length-4
+    returns-7
+    returns-8
+    returns-9
+    returns-10)

@@ -1,0 +1,136 @@
+-- `draw::fill_carried` meets its contract. The invariant of its loop: j pixels are drawn, and the carried numbers are those of pixel j.
+-- The measure is the number of pixels left. Assumes nothing.
+use mathlib.Core.Path.{_≡_, refl, ap, _∙_}
+use native.Mathlib.Omega.{arith}
+use Prim.Native.Nat.{ℕ, _<_, _+_, _-_, _*_, _%_, _^_, _≤_}
+use borrow.Author.Needs.{needs}
+use lib.ListN.{length}
+use Rattle.picture.specs.Place.{placeOf, rowsOf}
+use Rattle.picture.specs.Picture.{picture}
+use Rattle.picture.specs.Draw.{seen, spanPixel, spanOffers}
+use Rattle.picture.proofs.Places.{place-below, place-beside, inside-of, plain-mine}
+use Rattle.picture.proofs.Spans.{Reached, reached-start, reached-more, reached-i, reached-z}
+use Rattle.picture.proofs.Rows.{carried-start, carried-next, carried-at, row-turn}
+use Rattle.picture.proofs.draw.fill_carried.Statement.{statement}
+use Rattle.picture.proofs.draw.fill_carried.Tie as tie
+
+abbrev Inv-loop : tie.InvT-loop
+Inv-loop pen kind lo hi y i z im₀ zm₀ base count ki₀ kz₀ j₀ n₀ im zm ki kz j n =
+    (j ≤ count) × (count ≡ hi - lo) × (base ≡ placeOf (pen .frame) lo y) × (n ≤ j)
+    × (ki ≡ (i .first + j * i .add) % 2 ^ 64) × (kz ≡ (z .first + j * z .add) % 2 ^ 64)
+    × (Reached pen (λ k. seen pen (rowsOf (pen .frame) (length im₀) (length zm₀)) (spanPixel kind lo y i z k)) im₀ zm₀ im zm n j)
+
+abbrev μ-loop : tie.MeasureT-loop
+μ-loop pen kind lo hi y i z im₀ zm₀ base count ki₀ kz₀ j₀ n₀ im zm ki kz j n = count - j
+
+place-requires : tie.Need-place-requires Inv-loop μ-loop
+place-requires c κs = search needs
+
+sub-count : tie.Need-sub-count Inv-loop μ-loop
+sub-count c = search needs
+
+loop-holds : tie.Need-loop-holds Inv-loop μ-loop
+loop-holds c =
+    let a = c .before .before .before .before .args in (
+      omega arith,
+      refl,
+      c .place .ensures .0,
+      omega arith,
+      carried-start (a .i) (omega arith),
+      carried-start (a .z) (omega arith),
+      reached-start (λ k h. absurd (omega arith)),
+    )
+
+add-put-carried : tie.Need-add-put-carried Inv-loop μ-loop
+add-put-carried c = let l = c .before in omega (arith, l .loop .inv .1, c .loop-test .taken)
+
+cast-put-carried : tie.Need-cast-put-carried Inv-loop μ-loop
+cast-put-carried c = search needs
+
+add-put-carried-2 : tie.Need-add-put-carried-2 Inv-loop μ-loop
+add-put-carried-2 c = omega (arith, c .before .before .place .ensures .1)
+
+put-carried-requires : tie.Need-put-carried-requires Inv-loop μ-loop
+put-carried-requires c κs =
+    let l = c .before .before .before in
+    let s = l .before .before .before .before .before in
+    let a = s .args in
+    let k = l .loop in
+    let h : a .lo + k .j < a .pen .frame .line = omega (arith, k .inv .1, c .before .before .loop-test .taken, s .pre .0, s .pre .1) in
+    let e = ap (λ (m : ℕ). m + k .j) (k .inv .2) ∙ place-beside (a .pen .frame) (a .lo) (a .y) (k .j) (s .pre .3) in
+    let below = place-below (a .pen .frame) (length (a .im .now)) (length (a .zm .now)) (a .lo + k .j) (a .y)
+    (inside-of (a .pen .frame) (rowsOf (a .pen .frame) (length (a .im .now)) (length (a .zm .now))) (a .lo + k .j) (a .y) h (s .pre .2) (plain-mine (a .pen .frame) (a .lo + k .j) (s .pre .3))) in (
+      s .pre .4,
+      (e, omega (arith, e, below .0, reached-i (k .inv .6)), omega (arith, e, below .1, reached-z (k .inv .6)), omega (arith, k .inv .3, k .inv .0, k .inv .1)),
+    )
+
+wrapping-add-u64-requires : tie.Need-wrapping-add-u64-requires Inv-loop μ-loop
+wrapping-add-u64-requires c κs = search needs
+
+wrapping-add-u64-requires-2 : tie.Need-wrapping-add-u64-requires-2 Inv-loop μ-loop
+wrapping-add-u64-requires-2 c κs = search needs
+
+add-j : tie.Need-add-j Inv-loop μ-loop
+add-j c = search needs
+
+loop-less : tie.Need-loop-less Inv-loop μ-loop
+loop-less c = search needs
+
+loop-again : tie.Need-loop-again Inv-loop μ-loop
+loop-again c =
+    let d = c .before .before .before .before .before .before in
+    let l = c .before .before .before .before .before .before .before .before .before .before in
+    let s = l .before .before .before .before .before in
+    let a = s .args in
+    let k = l .loop in
+    let rows = rowsOf (a .pen .frame) (length (a .im .now)) (length (a .zm .now)) in (
+      omega (arith, c .before .before .before .before .before .before .before .before .before .loop-test .taken),
+      k .inv .1,
+      k .inv .2,
+      omega (arith, k .inv .3, d .put-carried .ensures .1),
+      carried-next (a .i .first) (a .i .add) (k .j) _ (k .ki) (k .inv .4) (c .before .wrapping-add-u64 .ensures),
+      carried-next (a .z .first) (a .z .add) (k .j) _ (k .kz) (k .inv .5) (c .wrapping-add-u642 .ensures),
+      reached-more (k .inv .6)
+          (row-turn (a .pen) rows (a .kind) (a .lo) (a .y) (a .i) (a .z) (k .j) (picture (k .im) (k .zm) (k .n)) (inside-of (a .pen .frame) rows (a .lo + k .j) (a .y) (omega (arith, k .inv .1, c .before .before .before .before .before .before .before .before .before .loop-test .taken, s .pre .0, s .pre .1)) (s .pre .2) (plain-mine (a .pen .frame) (a .lo + k .j) (s .pre .3)))
+          (carried-at (a .i) (k .j) (k .ki) (k .inv .4)) (carried-at (a .z) (k .j) (k .kz) (k .inv .5)) (d .put-carried .ensures .0)),
+    )
+
+cast-result : tie.Need-cast-result Inv-loop μ-loop
+cast-result c = search needs
+
+same-length : tie.Need-same-length Inv-loop μ-loop
+same-length c = reached-i (c .before .loop .inv .6)
+
+same-length-2 : tie.Need-same-length-2 Inv-loop μ-loop
+same-length-2 c = reached-z (c .before .loop .inv .6)
+
+returns : tie.Need-returns Inv-loop μ-loop
+unfolding spanOffers
+returns c =
+    let k = c .before .loop in
+    let a = c .before .before .before .before .before .before .args in
+    let e : k .j ≡ a .hi - a .lo = omega (arith, k .inv .0, k .inv .1, c .loop-test .left) in
+    rw e at (k .inv .6 .so)
+
+pub fill-carried-spec : {M : Type 1} → statement M
+fill-carried-spec =
+    tie.close
+    (tie.spec
+    Inv-loop
+    μ-loop
+    place-requires
+    sub-count
+    loop-holds
+    add-put-carried
+    cast-put-carried
+    add-put-carried-2
+    put-carried-requires
+    wrapping-add-u64-requires
+    wrapping-add-u64-requires-2
+    add-j
+    loop-less
+    loop-again
+    cast-result
+    same-length
+    same-length-2
+    returns)
