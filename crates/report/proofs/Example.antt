@@ -3,7 +3,7 @@ use mathlib.Core.Path.{_≡_, refl}
 use mathlib.Core.List.{List, [], _∷_, _++_}
 use Prim.Native.Nat.{ℕ}
 use lib.ListN.{replicate}
-use Rattle.report.specs.Image.{imageHeading, numbers, rowBytes, down, image}
+use Rattle.report.specs.Image.{imageHeading, pixel, numbers, rowBytes, down, image}
 use Rattle.report.specs.Text.{digits, decimal, field, pair, shown, lines, named, heading, report}
 
 -- the picture, as far as anything shows: two places of the first row, one of the second
@@ -26,9 +26,9 @@ unfolding digits decimal field pair shown lines named heading report
 example = refl
 
 -- two rows of two places, the lower 1 and 258, the upper 3 and 65535: `P5`, `2 2`, `65535`, and the upper row first
-pub small-image : image 2 2 (1 ∷ 258 ∷ 3 ∷ 65535 ∷ [])
+pub small-image : image 65535 2 2 (1 ∷ 258 ∷ 3 ∷ 65535 ∷ [])
     ≡ 80 ∷ 53 ∷ 10 ∷ 50 ∷ 32 ∷ 50 ∷ 10 ∷ 54 ∷ 53 ∷ 53 ∷ 51 ∷ 53 ∷ 10 ∷
     0 ∷ 3 ∷ 255 ∷ 255 ∷
     0 ∷ 1 ∷ 1 ∷ 2 ∷ []
-unfolding digits decimal field pair imageHeading numbers rowBytes down image
+unfolding digits decimal field pair imageHeading pixel numbers rowBytes down image
 small-image = refl
