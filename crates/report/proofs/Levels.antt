@@ -109,6 +109,7 @@ module _ (r : Range) where
       whole k =
           let all : min (r .high) (r .high) - baseOf r ≡ r .high - baseOf r = omega arith in
           rw all (nearest-whole (r .high - baseOf r) k)
+
       go : (b : Bool) → ltb (r .low) (r .high) ≡ b → nearest (min (r .high) (r .high) - baseOf r) (r .high - baseOf r) ≡ 255
       go true t =
           let less = ltb-true (r .low) (r .high) t in
@@ -219,6 +220,7 @@ module _ (depth : Bool) (im zm : List ℕ) where
     where
       less : eqb k n ≡ false → k < n
       less t = let other = eqb-false k n t in omega (arith, h, other)
+
       go : (b : Bool) → eqb k n ≡ b → (k < n → Within (shownAt depth im zm k) (rangeOf depth im zm n))
           → Within (shownAt depth im zm k) (seen depth (rangeOf depth im zm n) (getD im n 0) (getD zm n 0))
       go true t ih = rw (eqb-true k n t) (seen-holds (rangeOf depth im zm n) (getD im n 0) (getD zm n 0) (rw (eqb-true k n t) at e))
@@ -248,9 +250,9 @@ module _ (depth : Bool) (r : Range) (im zm : List ℕ) where
         let level = levelAt depth r (getD im k 0) (getD zm k 0) in
         let before = levelsIn depth r im zm k in
         rw (add-one k)
-            (ap (λ (l : List ℕ). set l k level) split
-            ∙ set-at before (getD im k 0) (drop (suc k) im) level k (length-levels k)
-            ∙ sym (append-assoc before (level ∷ []) (drop (suc k) im)))
+        (ap (λ (l : List ℕ). set l k level) split
+        ∙ set-at before (getD im k 0) (drop (suc k) im) level k (length-levels k)
+        ∙ sym (append-assoc before (level ∷ []) (drop (suc k) im)))
 
     -- so that one turn of a loop stores it
     pub level-turn : {z level : ℕ} → level ≡ levelAt depth r (getD now k 0) z → z ≡ getD zm k 0
