@@ -3,7 +3,7 @@ ghost use mathlib.Core.Path.{_≡_};
 ghost use Rattle.stream.specs.Format.{wordAt};
 ghost use Rattle.registers.specs.Word.{wordOf};
 ghost use Rattle.registers.specs.Next.{after, completedBy};
-ghost use Rattle.show.specs.Reach.{heightOf, raised, onward, reached};
+ghost use Rattle.show.specs.Reach.{heightOf, reachOf, isMissed, raised, onward, reached};
 use crate::Above;
 use crate::Came;
 use picture::place::most;
@@ -23,6 +23,24 @@ fn height_of(figure: Completed) -> usize
         Completed::Triangle(a, b, c) => most(most(a.y as usize, b.y as usize), c.y as usize) + 1,
         Completed::Segment(a, b) => most(a.y as usize, b.y as usize) + 1,
     }
+}
+
+// The rows that its pixels may lie in.
+fn reach_of(figure: Completed) -> usize
+    ensures { λ h. ⌜ h ≡ reachOf figure ⌝ }
+{
+    match figure {
+        Completed::Nothing => 0,
+        Completed::Triangle(a, b, c) => most(most(a.y as usize, b.y as usize), c.y as usize),
+        Completed::Segment(a, b) => most(a.y as usize, b.y as usize) + 1,
+    }
+}
+
+// Whether it may have pixels above the rows in use.
+fn is_missed(rows: usize, reach: usize, top: u16) -> bool
+    ensures { λ b. ⌜ b ≡ isMissed rows reach top ⌝ }
+{
+    (rows < reach) & !((top as usize) < rows)
 }
 
 // The figure that an accepted word completes.
@@ -61,10 +79,10 @@ fn next(r: Registers, word: Word) -> Registers
 }
 
 // The higher of the highest figure so far and one more.
-fn higher(a: Above, height: usize, rows: usize) -> Above
-    ensures { λ b. ⌜ b ≡ raised a height rows ⌝ }
+fn higher(a: Above, missed: bool, height: usize, rows: usize) -> Above
+    ensures { λ b. ⌜ b ≡ raised a missed height rows ⌝ }
 {
-    if (rows < height) & (a.height < height) {
+    if missed & (a.height < height) {
         return Above {
             height: height,
             rows: rows,
@@ -79,8 +97,9 @@ fn taken(places: usize, s: Came, word: Word) -> Came
 {
     let r = s.registers;
     let rows = rows_of(r.frame, places, places);
-    let height = height_of(completed(r, word));
-    let above = higher(s.above, height, rows);
+    let figure = completed(r, word);
+    let missed = is_missed(rows, reach_of(figure), r.window.top);
+    let above = higher(s.above, missed, height_of(figure), rows);
     let after = next(r, word);
     Came {
         registers: after,
@@ -96,7 +115,7 @@ fn taken_at(places: usize, s: Came, bytes: &[u8], k: usize) -> Came
     taken(places, s, decoded((w / 65536) as u8, (w % 65536) as u16))
 }
 
-// The highest figure of a stream's first words that is higher than the rows in use, over memories of so many places.
+// The highest figure of a stream's first words of which rows are missed, over memories of so many places.
 pub(crate) fn reach(places: usize, bytes: &[u8], count: usize) -> Above
     ensures { λ a. ⌜ a ≡ reached places (now (bytes .entry)) count .above ⌝ }
 {

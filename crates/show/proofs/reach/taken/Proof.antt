@@ -10,6 +10,12 @@ rows-of-requires c κs = search needs
 completed-requires : tie.Need-completed-requires
 completed-requires c κs = search needs
 
+reach-of-requires : tie.Need-reach-of-requires
+reach-of-requires c κs = search needs
+
+is-missed-requires : tie.Need-is-missed-requires
+is-missed-requires c κs = search needs
+
 height-of-requires : tie.Need-height-of-requires
 height-of-requires c κs = search needs
 
@@ -21,12 +27,14 @@ next-requires c κs = search needs
 
 returns : tie.Need-returns
 returns c =
-    let h = c .before in
-    let g = h .before in
-    let f = g .before in
-    let m = f .before in
-    let a = m .before .before .args in
-    onward-told (a .places) (a .s) (a .word) (c .next .ensures) (h .higher .ensures) (g .height-of .ensures) (f .completed .ensures) (m .rows-of .ensures)
+    let b = c .before in
+    let h = b .before in
+    let m = h .before in
+    let q = m .before in
+    let f = q .before in
+    let k = f .before in
+    let a = k .before .before .args in
+    onward-told (a .places) (a .s) (a .word) (c .next .ensures) (b .higher .ensures) (h .height-of .ensures) (m .is-missed .ensures) (q .reach-of .ensures) (f .completed .ensures) (k .rows-of .ensures)
 
 pub taken-spec : {M : Type 1} → statement M
 taken-spec =
@@ -34,6 +42,8 @@ taken-spec =
     (tie.spec
     rows-of-requires
     completed-requires
+    reach-of-requires
+    is-missed-requires
     height-of-requires
     higher-requires
     next-requires
