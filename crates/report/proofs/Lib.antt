@@ -3,6 +3,7 @@ pub mod Putting
 pub mod Lengths
 pub mod Pages
 pub mod Upright
+pub mod Levels
 pub mod Room
 pub mod Calls
 pub mod Fitting

@@ -23,3 +23,7 @@ pub settled : {o : Outcome} {r r′ : Written} {left left′ : List ℕ} → tol
 settled {r = r} {r′ = r′} p q =
     let same = p ∙ sym q in
     (sym (written-back r) ∙ ap (λ (t : Outcome). writtenOf (t .refusal) (t .size)) same ∙ written-back r′, ap (λ (t : Outcome). t .left) same)
+
+-- of `to_levels` and `drawn_places`, whose promises are an equation for what they leave or answer
+pub one-answer : {A : Type 0} {value r r′ : A} → r ≡ value → r′ ≡ value → r ≡ r′
+one-answer p q = p ∙ sym q

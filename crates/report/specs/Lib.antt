@@ -1,3 +1,4 @@
 pub mod Text
 pub mod Image
+pub mod Levels
 pub mod Calls

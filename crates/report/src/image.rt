@@ -1,9 +1,10 @@
-// The image of a memory: its heading, and its rows from the top down, as many at a time as the lent output is to hold.
+// The image of a memory: its heading, and its rows from the top down, as many at a time as the lent output is to hold. `most` is the greatest number
+// that a pixel may have.
 ghost use mathlib.Core.Path.{_≡_};
 ghost use Prim.Native.Nat.{suc, _+_, _-_, _*_, _≤_, min};
 ghost use lib.ListN.{length};
 ghost use lib.Dec.{ltb};
-ghost use Rattle.report.specs.Image.{imageHeading, twoBytes, numbers, rowBytes, down};
+ghost use Rattle.report.specs.Image.{imageHeading, twoBytes, pixel, pixelSize, numbers, rowBytes, down};
 ghost use Rattle.report.specs.Calls.{Put, Sized, told, writingText};
 use crate::Written;
 use crate::heading::put_bytes;
@@ -12,31 +13,31 @@ use crate::number::put_field;
 use crate::number::put_pair;
 use crate::place::number_at;
 
-// How many bytes the heading takes: eleven, and the digits of the width and the height.
-fn size_of_heading(line: u16, rows: usize) -> usize
-    ensures { λ r. ⌜ Sized (imageHeading line rows) 51 r ⌝ }
+// How many bytes the heading takes: six, and the digits of the width, the height and the greatest number.
+fn size_of_heading(most: u16, line: u16, rows: usize) -> usize
+    ensures { λ r. ⌜ Sized (imageHeading most line rows) 66 r ⌝ }
 {
-    digits(line as u64) + digits(rows as u64) + 11
+    digits(line as u64) + digits(rows as u64) + digits(most as u64) + 6
 }
 
 // Puts the heading.
-fn put_image_heading(line: u16, rows: usize, out: &mut [u8], at: usize) -> usize
-    requires { ⌜ at + length (imageHeading line rows) ≤ length (now out) ⌝ }
-    ensures { λ r. ⌜ Put (imageHeading line rows) (now (out .entry)) at (now (out .exit)) r ⌝ }
+fn put_image_heading(most: u16, line: u16, rows: usize, out: &mut [u8], at: usize) -> usize
+    requires { ⌜ at + length (imageHeading most line rows) ≤ length (now out) ⌝ }
+    ensures { λ r. ⌜ Put (imageHeading most line rows) (now (out .entry)) at (now (out .exit)) r ⌝ }
 {
     let first = put_bytes(b"P5\n", out, at);
     let second = put_pair(line as u64, rows as u64, b'\n', out, first);
-    put_field(65535, b'\n', out, second)
+    put_field(most as u64, b'\n', out, second)
 }
 
 // Writes the heading to the front of `out`, or refuses where that is too short.
-pub fn image_heading(line: u16, rows: usize, out: &mut [u8]) -> Written
-    ensures { λ r. ⌜ told r (now (out .exit)) ≡ writingText (imageHeading line rows) (now (out .entry)) ⌝ }
+pub fn image_heading(most: u16, line: u16, rows: usize, out: &mut [u8]) -> Written
+    ensures { λ r. ⌜ told r (now (out .exit)) ≡ writingText (imageHeading most line rows) (now (out .entry)) ⌝ }
 {
-    if out.len() < size_of_heading(line, rows) {
+    if out.len() < size_of_heading(most, line, rows) {
         return Written::NoRoom;
     }
-    let n = put_image_heading(line, rows, out, 0);
+    let n = put_image_heading(most, line, rows, out, 0);
     Written::Done(n)
 }
 
@@ -50,16 +51,35 @@ fn put_two_bytes(n: u16, out: &mut [u8], at: usize) -> usize
     at + 2
 }
 
+// Puts a pixel's bytes.
+fn put_pixel(most: u16, n: u16, out: &mut [u8], at: usize) -> usize
+    requires { ⌜ at + pixelSize most ≤ length (now out) ⌝ }
+    ensures { λ r. ⌜ Put (pixel most n) (now (out .entry)) at (now (out .exit)) r ⌝ }
+{
+    if most < 256 {
+        out[at] = (n % 256) as u8;
+        return at + 1;
+    }
+    put_two_bytes(n, out, at)
+}
+
 // Puts the numbers of `count` places, from a place on.
-fn put_numbers(memory: &[u16], from: usize, count: u16, out: &mut [u8], at: usize) -> usize
+fn put_numbers(
+    most: u16,
+    memory: &[u16],
+    from: usize,
+    count: u16,
+    out: &mut [u8],
+    at: usize,
+) -> usize
     requires { ⌜ from ≤ length (now memory) ⌝ }
-    requires { ⌜ at + length (numbers (now memory) from count) ≤ length (now out) ⌝ }
-    ensures { λ r. ⌜ Put (numbers (now (memory .entry)) from count) (now (out .entry)) at (now (out .exit)) r ⌝ }
+    requires { ⌜ at + length (numbers most (now memory) from count) ≤ length (now out) ⌝ }
+    ensures { λ r. ⌜ Put (numbers most (now (memory .entry)) from count) (now (out .entry)) at (now (out .exit)) r ⌝ }
 {
     let mut next = at;
     let mut k = 0;
     while k < count as usize {
-        next = put_two_bytes(number_at(memory, from + k), out, next);
+        next = put_pixel(most, number_at(memory, from + k), out, next);
         k += 1;
     }
     next
@@ -80,12 +100,12 @@ fn row_start(line: u16, y: usize, end: usize) -> usize
 }
 
 // Puts the numbers of a row.
-fn put_row(line: u16, y: usize, memory: &[u16], out: &mut [u8], at: usize) -> usize
-    requires { ⌜ at + length (rowBytes line (now memory) y) ≤ length (now out) ⌝ }
-    ensures { λ r. ⌜ Put (rowBytes line (now (memory .entry)) y) (now (out .entry)) at (now (out .exit)) r ⌝ }
+fn put_row(most: u16, line: u16, y: usize, memory: &[u16], out: &mut [u8], at: usize) -> usize
+    requires { ⌜ at + length (rowBytes most line (now memory) y) ≤ length (now out) ⌝ }
+    ensures { λ r. ⌜ Put (rowBytes most line (now (memory .entry)) y) (now (out .entry)) at (now (out .exit)) r ⌝ }
 {
     let start = row_start(line, y, memory.len());
-    put_numbers(memory, start, line, out, at)
+    put_numbers(most, memory, start, line, out, at)
 }
 
 // The row that has k rows between it and row `below`; the lowest where there are not so many.
@@ -100,6 +120,7 @@ fn row_under(below: usize, k: usize) -> usize
 
 // Puts the rows under row `below`, downward.
 fn put_rows(
+    most: u16,
     line: u16,
     below: usize,
     count: usize,
@@ -107,23 +128,33 @@ fn put_rows(
     out: &mut [u8],
     at: usize,
 ) -> usize
-    requires { ⌜ at + length (down line (now memory) below count) ≤ length (now out) ⌝ }
-    ensures { λ r. ⌜ Put (down line (now (memory .entry)) below count) (now (out .entry)) at (now (out .exit)) r ⌝ }
+    requires { ⌜ at + length (down most line (now memory) below count) ≤ length (now out) ⌝ }
+    ensures { λ r. ⌜ Put (down most line (now (memory .entry)) below count) (now (out .entry)) at (now (out .exit)) r ⌝ }
 {
     let mut next = at;
     let mut k = 0;
     while k < count {
-        next = put_row(line, row_under(below, k), memory, out, next);
+        next = put_row(most, line, row_under(below, k), memory, out, next);
         k += 1;
     }
     next
 }
 
-// Whether so many rows take more bytes than the room. A division asks it, since the product might wrap.
-fn rows_longer(line: u16, count: usize, room: usize) -> bool
-    ensures { λ r. ⌜ r ≡ ltb room (count * (2 * line)) ⌝ }
+// How many bytes a row takes.
+fn row_size(most: u16, line: u16) -> usize
+    ensures { λ r. ⌜ r ≡ pixelSize most * line ⌝ }
 {
-    let row = 2 * (line as usize);
+    if most < 256 {
+        return line as usize;
+    }
+    2 * (line as usize)
+}
+
+// Whether so many rows take more bytes than the room. A division asks it, since the product might wrap.
+fn rows_longer(most: u16, line: u16, count: usize, room: usize) -> bool
+    ensures { λ r. ⌜ r ≡ ltb room (count * (pixelSize most * line)) ⌝ }
+{
+    let row = row_size(most, line);
     if row == 0 {
         return false;
     }
@@ -131,12 +162,19 @@ fn rows_longer(line: u16, count: usize, room: usize) -> bool
 }
 
 // Writes the `count` rows under row `below`, the topmost first, to the front of `out`, or refuses where that is too short.
-pub fn image_rows(line: u16, below: usize, count: usize, memory: &[u16], out: &mut [u8]) -> Written
-    ensures { λ r. ⌜ told r (now (out .exit)) ≡ writingText (down line (now (memory .entry)) below count) (now (out .entry)) ⌝ }
+pub fn image_rows(
+    most: u16,
+    line: u16,
+    below: usize,
+    count: usize,
+    memory: &[u16],
+    out: &mut [u8],
+) -> Written
+    ensures { λ r. ⌜ told r (now (out .exit)) ≡ writingText (down most line (now (memory .entry)) below count) (now (out .entry)) ⌝ }
 {
-    if rows_longer(line, count, out.len()) {
+    if rows_longer(most, line, count, out.len()) {
         return Written::NoRoom;
     }
-    let n = put_rows(line, below, count, memory, out, 0);
+    let n = put_rows(most, line, below, count, memory, out, 0);
     Written::Done(n)
 }

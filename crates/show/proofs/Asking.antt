@@ -1,6 +1,6 @@
 -- Arguments, byte by byte. Assumes nothing.
 use mathlib.Core.Path.{_≡_, refl, sym, subst}
-use mathlib.Core.Bool.{Bool, true, false, not}
+use mathlib.Core.Bool.{Bool, true, false}
 use mathlib.Core.List.{List, [], _∷_}
 use Prim.Native.Nat.{ℕ, suc, _+_, _*_, _%_, _≤_, _<_, min}
 use native.Mathlib.Numerals.{add-one}
@@ -10,16 +10,8 @@ use lib.ListN.{length, getD, drop}
 use lib.Seq.{drop-cons}
 use lib.Dec.{ltb, eqb}
 use Rattle.report.proofs.Choice.{either}
-use Rattle.show.specs.Arguments.{isDigit, digitsOnly, valueOf, memoryOf, placesIf, askedFor, askedOf, Few}
+use Rattle.show.specs.Arguments.{isDigit, digitsOnly, valueOf, memoryOf, isLevels, placesIf, askedFor, sizedOf, scaledOf, askedOf, Few}
 use Rattle.show.specs.declared.Asked.{Asked}
-
-pub not-true : (b : Bool) → not b ≡ true → b ≡ false
-not-true true e = sym e
-not-true false e = refl
-
-pub not-false : (b : Bool) → not b ≡ false → b ≡ true
-not-false true e = refl
-not-false false e = sym e
 
 -- ---- digits
 
@@ -71,20 +63,26 @@ value-end n h = omega arith
 
 -- ---- what is asked for
 
-for-few : (memory places : ℕ) → Few (askedFor memory places)
+for-few : (memory : ℕ) (levels given : Bool) (places : ℕ) → Few (askedFor memory levels given places)
 unfolding askedFor
-for-few memory places =
-    either Few (eqb places 0) (λ e. tt) (λ e.
-    either Few (ltb 1048576 places) (λ h. tt) (λ h.
-    either Few (eqb memory 2) (λ d. ltb-false 1048576 places h) (λ d. ltb-false 1048576 places h)))
+for-few memory levels given places =
+    either Few (eqb places 0) (λ e. tt) (λ e. either Few (ltb 1048576 places) (λ h. tt) (λ h. ltb-false 1048576 places h))
 
-of-few : (count : ℕ) (first second : List ℕ) → Few (askedOf count first second)
+sized-few : (memory : ℕ) (levels : Bool) (used count : ℕ) (arg : List ℕ) → Few (sizedOf memory levels used count arg)
+unfolding sizedOf
+sized-few memory levels used count arg =
+    either Few (ltb (used + 1) count) (λ h. tt) (λ h. for-few memory levels (ltb used count) (placesIf (ltb used count) arg))
+
+scaled-few : (memory used count : ℕ) (first second : List ℕ) → Few (scaledOf memory used count first second)
+unfolding scaledOf
+scaled-few memory used count first second =
+    either Few (isLevels first) (λ e. sized-few memory true (used + 1) count second) (λ e. sized-few memory false used count first)
+
+of-few : (count : ℕ) (first second third : List ℕ) → Few (askedOf count first second third)
 unfolding askedOf
-of-few count first second =
-    either Few (eqb (memoryOf first) 0) (λ e.
-    either Few (ltb 2 count) (λ h. tt) (λ h. for-few 1 (placesIf (ltb 1 count) first))) (λ e.
-    either Few (ltb 3 count) (λ h. tt) (λ h. for-few (memoryOf first) (placesIf (ltb 2 count) second)))
+of-few count first second third =
+    either Few (eqb (memoryOf first) 0) (λ e. scaled-few 1 1 count first second) (λ e. scaled-few (memoryOf first) 2 count second third)
 
 -- no more places than there may be
-pub asked-few : (r : Asked) (count : ℕ) (first second : List ℕ) → r ≡ askedOf count first second → Few r
-asked-few r count first second e = subst Few (sym e) (of-few count first second)
+pub asked-few : (r : Asked) (count : ℕ) (first second third : List ℕ) → r ≡ askedOf count first second third → Few r
+asked-few r count first second third e = subst Few (sym e) (of-few count first second third)

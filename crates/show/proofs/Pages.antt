@@ -1,24 +1,62 @@
 -- Pages: each has a row, and together they are the image. Assumes nothing.
 use mathlib.Core.Path.{_≡_, refl, sym, ap, _∙_}
-use mathlib.Core.Bool.{Bool, true, false}
+use mathlib.Core.Bool.{Bool, true, false, cond}
 use mathlib.Core.List.{List, _++_}
 use Prim.Native.Nat.{ℕ, zero, suc, _+_, _-_, _*_, _/_, _≤_, _<_, min}
-use native.Mathlib.Nat.{div-zero, le-trans, mul-le-mul-right, div-mul-le-self, le-div-iff-mul-le}
+use native.Mathlib.Nat.{div-zero, le-trans, mul-le-mul-left, mul-le-mul-right, div-mul-le-self, le-div-iff-mul-le, div-lt-iff-lt-mul}
 use native.Mathlib.Omega.{arith}
-use borrow.Author.Tests.{ltb-true, ltb-false}
+use borrow.Author.Tests.{ltb-true, ltb-false, eqb-false}
 use lib.ListN.{length, take, replicate, length-replicate}
-use lib.Dec.{ltb}
-use Rattle.report.specs.Image.{imageHeading, down, image}
+use lib.Dec.{ltb, eqb}
+use Rattle.report.specs.Image.{imageHeading, pixelSize, down, image}
+use Rattle.report.specs.Levels.{levels, levelImage, drawnPlaces}
 use Rattle.report.proofs.Pages.{down-join}
+use Rattle.report.proofs.Levels.{drawn-low}
+use Rattle.report.proofs.Choice.{either}
 use Rattle.input.specs.Room.{filled, Filled}
-use Rattle.show.specs.Show.{Fresh, pageRows, pages}
+use Rattle.show.specs.Show.{Fresh, rowsHolding, rowsShown, pageRows, pages}
 
 -- rows that fit have a length
 pub rows-line : (places line rows : ℕ) → rows ≡ places / line → (rows ≡ 0 → ⊥) → 0 < line
 rows-line places zero rows e h = absurd (h (e ∙ div-zero places))
 rows-line places (suc line) rows e h = omega arith
 
+-- ---- the rows of an image in levels
+
+-- rows that hold places that stand in `rows` rows are no more than these
+holding-low : (line rows n : ℕ) → 0 < line → n ≤ rows * line → rowsHolding line n ≤ rows
+unfolding rowsHolding
+holding-low line rows n h k = either (λ (m : ℕ). m ≤ rows) (eqb n 0) (λ e. omega arith) (λ e. some (eqb-false n 0 e))
+  where
+    some : (n ≡ 0 → ⊥) → suc ((n - 1) / line) ≤ rows
+    some e =
+        let low : n - 1 < rows * line = omega (arith, k, e) in
+        div-lt-iff-lt-mul h .1 low
+
+module _ (given : Bool) (line rows : ℕ) (im zm : List ℕ) (h : 0 < line) where
+  shown-low : rowsShown given line rows im zm ≤ rows
+  unfolding rowsShown
+  shown-low =
+      either (λ (m : ℕ). m ≤ rows) given (λ e. omega arith) (λ e. holding-low line rows (drawnPlaces im zm (rows * line)) h (drawn-low im zm (rows * line)))
+
+  -- their places stand in the memory
+  pub shown-within : {kept : ℕ} → kept ≡ rowsShown given line rows im zm → rows * line ≤ length im → kept * line ≤ length im
+  shown-within e k =
+      let low : rowsShown given line rows im zm * line ≤ rows * line = mul-le-mul-right line shown-low in
+      rw e (le-trans low k)
+
 -- ---- one page
+
+-- rows that fit with two bytes a place fit with one
+pub page-sized : (line most count : ℕ) → count * (2 * line) ≤ 131072 → count * (pixelSize most * line) ≤ 131072
+unfolding pixelSize
+page-sized line most count h = go (ltb most 256)
+  where
+    go : (b : Bool) → count * (cond b 1 2 * line) ≤ 131072
+    go true =
+        let less : 1 * line ≤ 2 * line = omega arith in
+        le-trans (mul-le-mul-left count less) h
+    go false = h
 
 module _ (line below : ℕ) where
   pub page-low : pageRows line below ≤ below
@@ -51,20 +89,26 @@ module _ (line : ℕ) (h : 0 < line) (k : line < 65536) where
       go true e = omega (arith, page-some line below h k (ltb-true 0 below e))
       go false e = omega (arith, ltb-false 0 below e)
 
-  pages-down : (memory : List ℕ) (n below : ℕ) → below ≤ n → pages line memory below n ≡ down line memory below below
+  pages-down : (most : ℕ) (memory : List ℕ) (n below : ℕ) → below ≤ n → pages most line memory below n ≡ down most line memory below below
   unfolding pages down
-  pages-down memory zero below b =
+  pages-down most memory zero below b =
       let none : below ≡ 0 = omega arith in
       rw none
-  pages-down memory (suc n) below b =
+  pages-down most memory (suc n) below b =
       let p = pageRows line below in
       let all : p + (below - p) ≡ below = omega (arith, page-low line below) in
-      rw (pages-down memory n (below - p) (page-left below n b)) (sym (down-join line memory below p (below - p)) ∙ ap (down line memory below) all)
+      rw (pages-down most memory n (below - p) (page-left below n b)) (sym (down-join most line memory below p (below - p)) ∙ ap (down most line memory below) all)
 
   -- the heading and the pages, written one after the other, are the image
-  pub shown-image : (rows : ℕ) (memory : List ℕ) → imageHeading line rows ++ pages line memory rows rows ≡ image line rows memory
+  pub shown-image : (most rows : ℕ) (memory : List ℕ) → imageHeading most line rows ++ pages most line memory rows rows ≡ image most line rows memory
   unfolding image
-  shown-image rows memory = rw (pages-down memory rows rows (omega arith))
+  shown-image most rows memory = rw (pages-down most memory rows rows (omega arith))
+
+  -- so are those of levels
+  pub shown-levels : (depth : Bool) (rows : ℕ) (im zm : List ℕ)
+      → imageHeading 255 line rows ++ pages 255 line (levels depth im zm (rows * line)) rows rows ≡ levelImage depth line rows im zm
+  unfolding levelImage
+  shown-levels depth rows im zm = shown-image 255 rows (levels depth im zm (rows * line))
 
 -- ---- fresh memories
 

@@ -16,6 +16,12 @@ slice-aggregate-arg-2 c = search needs
 arg-requires-2 : tie.Need-arg-requires-2
 arg-requires-2 c κs = search needs
 
+slice-aggregate-arg-3 : tie.Need-slice-aggregate-arg-3
+slice-aggregate-arg-3 c = search needs
+
+arg-requires-3 : tie.Need-arg-requires-3
+arg-requires-3 c κs = search needs
+
 arg-count-requires : tie.Need-arg-count-requires
 arg-count-requires c κs = search needs
 
@@ -31,6 +37,12 @@ array-share-prefix-second c = search needs
 slice-aggregate-asked-2 : tie.Need-slice-aggregate-asked-2
 slice-aggregate-asked-2 c = search needs
 
+array-share-prefix-third : tie.Need-array-share-prefix-third
+array-share-prefix-third c = search needs
+
+slice-aggregate-asked-3 : tie.Need-slice-aggregate-asked-3
+slice-aggregate-asked-3 c = search needs
+
 asked-requires : tie.Need-asked-requires
 asked-requires c κs = search needs
 
@@ -39,14 +51,7 @@ enum-known-wanted c = search needs
 
 read-requires : tie.Need-read-requires
 read-requires c κs =
-    let w = c .before .before .before in rw (c .before .wanted .given .1) at (asked-few (w .asked .result) _ _ _ (w .asked .ensures))
-
-enum-known-wanted-2 : tie.Need-enum-known-wanted-2
-enum-known-wanted-2 c = search needs
-
-read-requires-2 : tie.Need-read-requires-2
-read-requires-2 c κs =
-    let w = c .before .before .before in rw (c .before .wanted2 .given .1) at (asked-few (w .asked .result) _ _ _ (w .asked .ensures))
+    let w = c .before .before .before in rw (c .before .wanted .given .1) at (asked-few (w .asked .result) _ _ _ _ (w .asked .ensures))
 
 enum-told : tie.Need-enum-told
 enum-told c = search needs
@@ -75,9 +80,6 @@ returns-2 c = search needs
 returns-3 : tie.Need-returns-3
 returns-3 c = search needs
 
-returns-4 : tie.Need-returns-4
-returns-4 c = search needs
-
 pub main-spec : {M : Type 1} → statement M
 main-spec =
     tie.close
@@ -86,16 +88,18 @@ main-spec =
     arg-requires
     slice-aggregate-arg-2
     arg-requires-2
+    slice-aggregate-arg-3
+    arg-requires-3
     arg-count-requires
     array-share-prefix-first
     slice-aggregate-asked
     array-share-prefix-second
     slice-aggregate-asked-2
+    array-share-prefix-third
+    slice-aggregate-asked-3
     asked-requires
     enum-known-wanted
     read-requires
-    enum-known-wanted-2
-    read-requires-2
     enum-told
     slice-aggregate-say
     say-requires
@@ -104,5 +108,4 @@ main-spec =
     say-requires-2
     returns
     returns-2
-    returns-3
-    returns-4)
+    returns-3)

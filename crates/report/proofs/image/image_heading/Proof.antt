@@ -15,7 +15,7 @@ returns : tie.Need-returns
 returns c =
     let h = c .before in
     let a = h .before .before .args in
-    unwritten (imageHeading (a .line) (a .rows)) (a .out .now) (omega (arith, h .size-of-heading .ensures .size, c .if1 .taken))
+    unwritten (imageHeading (a .most) (a .line) (a .rows)) (a .out .now) (omega (arith, h .size-of-heading .ensures .size, c .if1 .taken))
 
 put-image-heading-requires : tie.Need-put-image-heading-requires
 put-image-heading-requires c κs = search needs
@@ -29,8 +29,8 @@ returns-2 c =
     let t = p .before .before in
     let h = t .before in
     let a = h .before .before .args in
-    let enough : length (imageHeading (a .line) (a .rows)) ≤ length (a .out .now) = omega (arith, h .size-of-heading .ensures .size, t .if1 .left) in
-    done (imageHeading (a .line) (a .rows)) (a .out .now) enough (p .put-image-heading .ensures)
+    let enough : length (imageHeading (a .most) (a .line) (a .rows)) ≤ length (a .out .now) = omega (arith, h .size-of-heading .ensures .size, t .if1 .left) in
+    done (imageHeading (a .most) (a .line) (a .rows)) (a .out .now) enough (p .put-image-heading .ensures)
 
 pub image-heading-spec : {M : Type 1} → statement M
 image-heading-spec =

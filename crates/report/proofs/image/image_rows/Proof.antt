@@ -14,15 +14,15 @@ returns : tie.Need-returns
 returns c =
     let h = c .before in
     let a = h .before .before .before .args in
-    let asked = rows-asked (a .line) (a .memory .now) (a .below) (a .count) _ (h .rows-longer .ensures) in
-    longer (down (a .line) (a .memory .now) (a .below) (a .count)) (a .out .now) asked (c .if1 .taken)
+    let asked = rows-asked (a .most) (a .line) (a .memory .now) (a .below) (a .count) _ (h .rows-longer .ensures) in
+    longer (down (a .most) (a .line) (a .memory .now) (a .below) (a .count)) (a .out .now) asked (c .if1 .taken)
 
 put-rows-requires : tie.Need-put-rows-requires
 put-rows-requires c κs =
     let h = c .before .before in
     let a = h .before .before .before .args in
-    let asked = rows-asked (a .line) (a .memory .now) (a .below) (a .count) _ (h .rows-longer .ensures) in
-    omega (arith, fits (down (a .line) (a .memory .now) (a .below) (a .count)) (a .out .now) asked (c .before .if1 .left))
+    let asked = rows-asked (a .most) (a .line) (a .memory .now) (a .below) (a .count) _ (h .rows-longer .ensures) in
+    omega (arith, fits (down (a .most) (a .line) (a .memory .now) (a .below) (a .count)) (a .out .now) asked (c .before .if1 .left))
 
 same-length : tie.Need-same-length
 same-length c = search needs
@@ -33,8 +33,8 @@ returns-2 c =
     let t = p .before .before in
     let h = t .before in
     let a = h .before .before .before .args in
-    let rows = down (a .line) (a .memory .now) (a .below) (a .count) in
-    let asked = rows-asked (a .line) (a .memory .now) (a .below) (a .count) _ (h .rows-longer .ensures) in
+    let rows = down (a .most) (a .line) (a .memory .now) (a .below) (a .count) in
+    let asked = rows-asked (a .most) (a .line) (a .memory .now) (a .below) (a .count) _ (h .rows-longer .ensures) in
     done rows (a .out .now) (fits rows (a .out .now) asked (t .if1 .left)) (p .put-rows .ensures)
 
 pub image-rows-spec : {M : Type 1} → statement M

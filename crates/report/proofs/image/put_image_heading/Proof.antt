@@ -11,17 +11,17 @@ slice-aggregate-put-bytes : tie.Need-slice-aggregate-put-bytes
 slice-aggregate-put-bytes c = search needs
 
 put-bytes-requires : tie.Need-put-bytes-requires
-put-bytes-requires c κs = let a = c .before .before .before .args in omega (arith, image-heading-parts (a .line) (a .rows))
+put-bytes-requires c κs = let a = c .before .before .before .args in omega (arith, image-heading-parts (a .most) (a .line) (a .rows))
 
 put-pair-requires : tie.Need-put-pair-requires
-put-pair-requires c κs = let a = c .before .before .before .before .before .before .before .args in omega (arith, image-heading-parts (a .line) (a .rows))
+put-pair-requires c κs = let a = c .before .before .before .before .before .before .before .args in omega (arith, image-heading-parts (a .most) (a .line) (a .rows))
 
 put-field-requires : tie.Need-put-field-requires
 put-field-requires c κs =
     let second = c .before .before .before in
     let first = second .before .before .before .before in
     let a = first .before .before .before .before .args in
-    omega (arith, image-heading-parts (a .line) (a .rows))
+    omega (arith, image-heading-parts (a .most) (a .line) (a .rows))
 
 same-length : tie.Need-same-length
 same-length c = search needs

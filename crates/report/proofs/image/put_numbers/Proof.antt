@@ -8,23 +8,23 @@ use borrow.Author.Needs.{needs}
 use lib.ListN.{length}
 use Rattle.report.specs.Image.{numbers}
 use Rattle.report.specs.Calls.{Put}
-use Rattle.report.proofs.Pages.{numbers-more, length-numbers}
+use Rattle.report.proofs.Pages.{numbers-more, numbers-within}
 use Rattle.report.proofs.Putting.{put-none, put-append}
 use Rattle.report.proofs.image.put_numbers.Statement.{statement}
 use Rattle.report.proofs.image.put_numbers.Tie as tie
 
-none : (memory : List ℕ) (from : ℕ) (out : List ℕ) (at : ℕ) → Put (numbers memory from 0) out at out at
+none : (most : ℕ) (memory : List ℕ) (from : ℕ) (out : List ℕ) (at : ℕ) → Put (numbers most memory from 0) out at out at
 unfolding numbers
-none memory from out at = put-none out at
+none most memory from out at = put-none out at
 
 abbrev Inv-loop : tie.InvT-loop
-Inv-loop memory from count out₀ at next₀ k₀ out next k = (k ≤ count) × (length out ≡ length out₀) × Put (numbers memory from k) out₀ at out next
+Inv-loop most memory from count out₀ at next₀ k₀ out next k = (k ≤ count) × (length out ≡ length out₀) × Put (numbers most memory from k) out₀ at out next
 
 abbrev μ-loop : tie.MeasureT-loop
-μ-loop memory from count out₀ at next₀ k₀ out next k = count - k
+μ-loop most memory from count out₀ at next₀ k₀ out next k = count - k
 
 loop-holds : tie.Need-loop-holds Inv-loop μ-loop
-loop-holds c = let a = c .before .before .args in (search needs, refl, none (a .memory .now) (a .from) (a .out .now) (a .at))
+loop-holds c = let a = c .before .before .args in (search needs, refl, none (a .most) (a .memory .now) (a .from) (a .out .now) (a .at))
 
 add-number-at : tie.Need-add-number-at Inv-loop μ-loop
 add-number-at c = search needs
@@ -32,13 +32,11 @@ add-number-at c = search needs
 number-at-requires : tie.Need-number-at-requires Inv-loop μ-loop
 number-at-requires c κs = search needs
 
-put-two-bytes-requires : tie.Need-put-two-bytes-requires Inv-loop μ-loop
-put-two-bytes-requires c κs =
+put-pixel-requires : tie.Need-put-pixel-requires Inv-loop μ-loop
+put-pixel-requires c κs =
     let l = c .before .before .before in
     let a = l .before .before .before .args in
-    let so-far = length-numbers (a .memory .now) (a .from) (l .loop .k) in
-    let all = length-numbers (a .memory .now) (a .from) (a .count) in
-    omega (arith, so-far, all, l .loop .inv .1, l .loop .inv .2 .ends)
+    omega (arith, l .loop .inv .1, l .loop .inv .2 .ends, numbers-within (a .most) (a .memory .now) (a .from) (l .loop .k) (a .count) (omega arith))
 
 add-k : tie.Need-add-k Inv-loop μ-loop
 add-k c = search needs
@@ -52,8 +50,8 @@ loop-again c =
     let l = p .before .before .before .before in
     let a = l .before .before .before .args in (
       omega arith,
-      p .put-two-bytes .kept .1 .0 ∙ l .loop .inv .1,
-      rw (numbers-more (a .memory .now) (a .from) (l .loop .k)) (put-append (l .loop .inv .2) (rw (p .before .before .number-at .ensures) at (p .put-two-bytes .ensures))),
+      p .put-pixel .kept .1 .1 .0 ∙ l .loop .inv .1,
+      rw (numbers-more (a .most) (a .memory .now) (a .from) (l .loop .k)) (put-append (l .loop .inv .2) (rw (p .before .before .number-at .ensures) at (p .put-pixel .ensures))),
     )
 
 same-length : tie.Need-same-length Inv-loop μ-loop
@@ -75,7 +73,7 @@ put-numbers-spec =
     loop-holds
     add-number-at
     number-at-requires
-    put-two-bytes-requires
+    put-pixel-requires
     add-k
     loop-less
     loop-again

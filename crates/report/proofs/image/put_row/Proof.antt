@@ -15,7 +15,7 @@ put-numbers-requires : tie.Need-put-numbers-requires
 put-numbers-requires c κs =
     let s = c .before .row-start in
     let a = c .before .before .before .before .args in
-    (omega (arith, s .ensures), omega (arith, length-numbers (a .memory .now) (s .result) (a .line), length-row (a .line) (a .memory .now) (a .y)))
+    (omega (arith, s .ensures), omega (arith, length-numbers (a .most) (a .memory .now) (s .result) (a .line), length-row (a .most) (a .line) (a .memory .now) (a .y)))
 
 same-length : tie.Need-same-length
 same-length c = search needs
@@ -27,7 +27,7 @@ returns c =
     let s = p .before .before in
     let a = s .before .before .before .args in
     let same =
-    ap (λ (from : ℕ). numbers (a .memory .now) from (a .line)) (s .row-start .ensures) ∙ numbers-from (a .memory .now) (a .y * a .line) (a .line) in
+    ap (λ (from : ℕ). numbers (a .most) (a .memory .now) from (a .line)) (s .row-start .ensures) ∙ numbers-from (a .most) (a .memory .now) (a .y * a .line) (a .line) in
     rw same at (p .put-numbers .ensures)
 
 pub put-row-spec : {M : Type 1} → statement M

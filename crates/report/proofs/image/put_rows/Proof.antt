@@ -13,21 +13,21 @@ use Rattle.report.proofs.Putting.{put-none, put-append}
 use Rattle.report.proofs.image.put_rows.Statement.{statement}
 use Rattle.report.proofs.image.put_rows.Tie as tie
 
-none : (line : ℕ) (memory : List ℕ) (below : ℕ) (out : List ℕ) (at : ℕ) → Put (down line memory below 0) out at out at
+none : (most line : ℕ) (memory : List ℕ) (below : ℕ) (out : List ℕ) (at : ℕ) → Put (down most line memory below 0) out at out at
 unfolding down
-none line memory below out at = put-none out at
+none most line memory below out at = put-none out at
 
 abbrev Inv-loop : tie.InvT-loop
-Inv-loop line below count memory out₀ at next₀ k₀ out next k =
+Inv-loop most line below count memory out₀ at next₀ k₀ out next k =
     (k ≤ count)
     × (length out ≡ length out₀)
-    × Put (down line memory below k) out₀ at out next
+    × Put (down most line memory below k) out₀ at out next
 
 abbrev μ-loop : tie.MeasureT-loop
-μ-loop line below count memory out₀ at next₀ k₀ out next k = count - k
+μ-loop most line below count memory out₀ at next₀ k₀ out next k = count - k
 
 loop-holds : tie.Need-loop-holds Inv-loop μ-loop
-loop-holds c = let a = c .before .before .args in (search needs, refl, none (a .line) (a .memory .now) (a .below) (a .out .now) (a .at))
+loop-holds c = let a = c .before .before .args in (search needs, refl, none (a .most) (a .line) (a .memory .now) (a .below) (a .out .now) (a .at))
 
 row-under-requires : tie.Need-row-under-requires Inv-loop μ-loop
 row-under-requires c κs = search needs
@@ -37,8 +37,8 @@ put-row-requires c κs =
     let l = c .before .before .before in
     let a = l .before .before .before .args in
     let k = l .loop .k in
-    let row = ap (λ (y : ℕ). length (rowBytes (a .line) (a .memory .now) y)) (c .before .row-under .ensures) in
-    omega (arith, row, l .loop .inv .1, l .loop .inv .2 .ends, down-within (a .line) (a .memory .now) (a .below) k (a .count) (omega arith))
+    let row = ap (λ (y : ℕ). length (rowBytes (a .most) (a .line) (a .memory .now) y)) (c .before .row-under .ensures) in
+    omega (arith, row, l .loop .inv .1, l .loop .inv .2 .ends, down-within (a .most) (a .line) (a .memory .now) (a .below) k (a .count) (omega arith))
 
 add-k : tie.Need-add-k Inv-loop μ-loop
 add-k c = search needs
@@ -52,8 +52,8 @@ loop-again c =
     let l = p .before .before .before .before in
     let a = l .before .before .before .args in (
       omega arith,
-      p .put-row .kept .1 .1 .1 .0 ∙ l .loop .inv .1,
-      rw (down-more (a .line) (a .memory .now) (a .below) (l .loop .k))
+      p .put-row .kept .1 .1 .1 .1 .0 ∙ l .loop .inv .1,
+      rw (down-more (a .most) (a .line) (a .memory .now) (a .below) (l .loop .k))
           (put-append (l .loop .inv .2) (rw (p .before .before .row-under .ensures) at (p .put-row .ensures))),
     )
 

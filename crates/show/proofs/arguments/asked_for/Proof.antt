@@ -18,18 +18,9 @@ returns-2 c =
 returns-3 : tie.Need-returns-3
 unfolding askedFor
 returns-3 c =
-    let f = c .before in
-    let e = f .before in
+    let e = c .before in
     let n = e .before .args .places in
-    rw (ne-eqb n 0 (e .if1 .left), le-ltb 1048576 n (f .if2 .left), c .if3 .taken)
-
-returns-4 : tie.Need-returns-4
-unfolding askedFor
-returns-4 c =
-    let f = c .before in
-    let e = f .before in
-    let a = e .before .args in
-    rw (ne-eqb (a .places) 0 (e .if1 .left), le-ltb 1048576 (a .places) (f .if2 .left), ne-eqb (a .memory) 2 (c .if3 .left))
+    rw (ne-eqb n 0 (e .if1 .left), le-ltb 1048576 n (c .if2 .left))
 
 pub asked-for-spec : {M : Type 1} → statement M
-asked-for-spec = tie.close (tie.spec returns returns-2 returns-3 returns-4)
+asked-for-spec = tie.close (tie.spec returns returns-2 returns-3)

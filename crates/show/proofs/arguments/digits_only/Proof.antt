@@ -8,7 +8,8 @@ use borrow.Author.Needs.{needs}
 use lib.ListN.{length, drop}
 use lib.Seq.{drop-length}
 use Rattle.show.specs.Arguments.{digitsOnly}
-use Rattle.show.proofs.Asking.{not-true, not-false, digits-none, digits-more, digits-end}
+use Rattle.report.proofs.Choice.{not-true, not-false}
+use Rattle.show.proofs.Asking.{digits-none, digits-more, digits-end}
 use Rattle.show.proofs.arguments.digits_only.Statement.{statement}
 use Rattle.show.proofs.arguments.digits_only.Tie as tie
 

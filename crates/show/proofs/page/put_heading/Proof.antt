@@ -1,4 +1,4 @@
--- `page::put_heading` meets its contract: a heading of at most 51 bytes fits. Assumes nothing.
+-- `page::put_heading` meets its contract: a heading of at most 66 bytes fits. Assumes nothing.
 use native.Mathlib.Omega.{arith}
 use borrow.Author.Needs.{needs}
 use Rattle.report.specs.Image.{imageHeading}
@@ -20,16 +20,16 @@ returns : tie.Need-returns
 returns c =
     let w = c .before .before .before in
     let a = w .before .before .args in
-    let short = image-heading-short (a .line) (a .rows) (search needs) (search needs) in
-    answer-stands (imageHeading (a .line) (a .rows)) (a .page .now) _ (omega (arith, short)) (w .image-heading .ensures) (c .before .answer .given .1)
+    let short = image-heading-short (a .most) (a .line) (a .rows) (search needs) (search needs) (search needs) in
+    answer-stands (imageHeading (a .most) (a .line) (a .rows)) (a .page .now) _ (omega (arith, short)) (w .image-heading .ensures) (c .before .answer .given .1)
 
 returns-2 : tie.Need-returns-2
 returns-2 c =
     let w = c .before .before in
     let a = w .before .before .args in
-    let short = image-heading-short (a .line) (a .rows) (search needs) (search needs) in
+    let short = image-heading-short (a .most) (a .line) (a .rows) (search needs) (search needs) (search needs) in
     absurd
-    (answer-fits (imageHeading (a .line) (a .rows)) (a .page .now) _ (omega (arith, short)) (w .image-heading .ensures) (c .enum-told .given .1))
+    (answer-fits (imageHeading (a .most) (a .line) (a .rows)) (a .page .now) _ (omega (arith, short)) (w .image-heading .ensures) (c .enum-told .given .1))
 
 pub put-heading-spec : {M : Type 1} → statement M
 put-heading-spec =

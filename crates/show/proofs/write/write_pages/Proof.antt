@@ -1,16 +1,16 @@
--- `write::write_image` meets its contract. Its loop needs no invariant: each page is asked for anew. The measure is the number of rows left. Assumes nothing.
+-- `write::write_pages` meets its contract. Its loop needs no invariant: each page is asked for anew. The measure is the number of rows left. Assumes nothing.
 use Prim.Native.Nat.{_≤_}
 use native.Mathlib.Omega.{arith}
 use borrow.Author.Needs.{needs}
 use Rattle.show.proofs.Pages.{page-fits, page-low, page-some}
-use Rattle.show.proofs.write.write_image.Statement.{statement}
-use Rattle.show.proofs.write.write_image.Tie as tie
+use Rattle.show.proofs.write.write_pages.Statement.{statement}
+use Rattle.show.proofs.write.write_pages.Tie as tie
 
 abbrev Inv-loop : tie.InvT-loop
-Inv-loop depth line rows im zm page₀ size below₀ page below = Unit {0}
+Inv-loop most line rows memory page₀ size below₀ page below = Unit {0}
 
 abbrev μ-loop : tie.MeasureT-loop
-μ-loop depth line rows im zm page₀ size below₀ page below = below
+μ-loop most line rows memory page₀ size below₀ page below = below
 
 put-heading-requires : tie.Need-put-heading-requires Inv-loop μ-loop
 put-heading-requires c κs = search needs
@@ -31,12 +31,12 @@ loop-holds : tie.Need-loop-holds Inv-loop μ-loop
 loop-holds c = tt
 
 page-rows-requires : tie.Need-page-rows-requires Inv-loop μ-loop
-page-rows-requires c κs = c .before .before .before .before .before .before .before .before .before .pre
+page-rows-requires c κs = c .before .before .before .before .before .before .before .before .pre
 
 put-page-requires : tie.Need-put-page-requires Inv-loop μ-loop
 put-page-requires c κs =
     let p = c .before in
-    let s = c .before .before .before .before .before .before .before .before .before .before .before in
+    let s = c .before .before .before .before .before .before .before .before .before .before in
     rw (p .page-rows .ensures) (page-fits (s .args .line) (p .before .before .loop .below) (s .pre))
 
 array-share-prefix-page-2 : tie.Need-array-share-prefix-page-2 Inv-loop μ-loop
@@ -54,12 +54,12 @@ returns-2 c = search needs
 sub-below : tie.Need-sub-below Inv-loop μ-loop
 sub-below c =
     let p = c .before .before .before .before .before in
-    rw (p .page-rows .ensures) (page-low (c .before .before .before .before .before .before .before .before .before .before .before .before .before .before .before .args .line) (p .before .before .loop .below))
+    rw (p .page-rows .ensures) (page-low (c .before .before .before .before .before .before .before .before .before .before .before .before .before .before .args .line) (p .before .before .loop .below))
 
 loop-less : tie.Need-loop-less Inv-loop μ-loop
 loop-less c =
     let p = c .before .before .before .before .before in
-    let s = c .before .before .before .before .before .before .before .before .before .before .before .before .before .before .before in
+    let s = c .before .before .before .before .before .before .before .before .before .before .before .before .before .before in
     let some = page-some (s .args .line) (p .before .before .loop .below) (s .pre) (omega arith) (omega arith) in
     omega (arith, some, p .page-rows .ensures)
 
@@ -69,8 +69,8 @@ loop-again c = tt
 returns-3 : tie.Need-returns-3 Inv-loop μ-loop
 returns-3 c = search needs
 
-pub write-image-spec : {M : Type 1} → statement M
-write-image-spec =
+pub write-pages-spec : {M : Type 1} → statement M
+write-pages-spec =
     tie.close
     (tie.spec
     Inv-loop
