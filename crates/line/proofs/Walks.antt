@@ -21,7 +21,8 @@ use Rattle.line.specs.declared.ramp.Ramp.{Ramp}
 use Rattle.line.specs.declared.slope.Slope.{Slope}
 use Rattle.line.specs.Segment.{larger, firstOf, from, stepOffers, segmentOffers}
 use Rattle.line.specs.Ramp.{nextOf, Narrow, RampAt}
-use Rattle.line.specs.Step.{slopeOf, OnStep, Inside}
+use Rattle.line.specs.Step.{slopeOf, OnStep}
+use Rattle.line.specs.Field.{Inside}
 use Rattle.line.proofs.Ramps.{ramp-ready, ramp-next}
 
 -- the rows in use of the memories that a loop starts with

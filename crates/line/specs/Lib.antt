@@ -3,3 +3,6 @@ pub mod Polyline
 pub mod Ramp
 pub mod Step
 pub mod Course
+pub mod Walk
+pub mod Ink
+pub mod Field

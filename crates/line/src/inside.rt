@@ -8,17 +8,18 @@ ghost use Rattle.picture.specs.Place.{rowsOf};
 ghost use Rattle.picture.specs.Offer.{offer, keep};
 ghost use Rattle.picture.specs.Draw.{spans};
 ghost use Rattle.picture.specs.Picture.{picture, drawn};
-ghost use Rattle.line.specs.Segment.{larger, xAt, yAt, isSet, firstOf, from, dashOffers, shadeOffers};
-ghost use Rattle.line.specs.Step.{within, endsWithin, Inside, Dashed, Shaded};
+ghost use Rattle.line.specs.Segment.{kindOf, larger, xAt, yAt, isSet, firstOf, from, dashOffers, shadeOffers, segmentOffers};
+ghost use Rattle.line.specs.Step.{Dashed, Shaded};
+ghost use Rattle.line.specs.Field.{Inside};
 ghost use Rattle.line.specs.Course.{OnCourse};
+ghost use Rattle.line.specs.Ramp.{RampAt};
+use crate::Mode;
 use crate::Style;
 use crate::course::Course;
 use crate::course::course_of;
 use crate::course::place_at;
-use crate::dash::first_side;
-use crate::dash::first_step;
-use crate::dash::ink_of;
-use crate::dash::is_set;
+use crate::pattern::colour_of;
+use crate::pattern::is_set;
 use crate::ramp::Ramp;
 use crate::ramp::next;
 use crate::ramp::number;
@@ -29,26 +30,23 @@ use picture::Kind;
 use picture::Pen;
 use picture::Vertex;
 use picture::draw::put_placed;
-use picture::place::lies_plain;
-use picture::place::rows_of;
 
-// Whether a point is inside the window and the memory, with so many rows in use.
-fn is_within(pen: Pen, v: Vertex, rows: usize) -> bool
-    ensures { λ r. ⌜ r ≡ within pen rows v ⌝ }
+// The first step that is drawn: a segment that is joined to the one before it leaves out step 0.
+fn first_step(joined: bool) -> u64
+    ensures { λ r. ⌜ r ≡ firstOf joined ⌝ }
 {
-    let frame = pen.frame;
-    let window = (pen.left <= v.x) & (v.x <= pen.right) & (pen.bottom <= v.y) & (v.y <= pen.top);
-    let memory = (v.x < frame.line) & ((v.y as usize) < rows);
-    window & memory
+    if joined { 1 } else { 0 }
 }
 
-// Whether both ends of a segment are, with memories of these lengths, and rows lie one after the other.
-pub(crate) fn has_ends(pen: Pen, a: Vertex, b: Vertex, ni: usize, nz: usize) -> bool
-    ensures { λ r. ⌜ r ≡ endsWithin pen (rowsOf (pen .frame) ni nz) a b ⌝ }
+// How far that step moves to the side.
+fn first_side(s: Slope, joined: bool) -> Ramp
+    ensures { λ r. ⌜ RampAt (s .n) (firstOf joined) 0 (s .m) r ⌝ }
 {
-    let frame = pen.frame;
-    let rows = rows_of(frame, ni, nz);
-    lies_plain(frame) & is_within(pen, a, rows) & is_within(pen, b, rows)
+    let side = start(s.n, 0, s.m);
+    if joined {
+        return next(side, 2 * (s.n as u64));
+    }
+    side
 }
 
 // Draws step k, which is offered since the ends are.
@@ -93,7 +91,7 @@ fn put_dash(
     ensures { λ r. ⌜ (picture (now (im .exit)) (now (zm .exit)) r ≡ drawn pen (dashOffers pen (rowsOf (pen .frame) (length (now (im .entry))) (length (now (zm .entry)))) kind ground style a b k) (picture (now (im .entry)) (now (zm .entry)) 0)) × (r ≤ 1) ⌝ }
 {
     if set | ground {
-        let ink = ink_of(style, set);
+        let ink = colour_of(style, set);
         return put_inside(pen, kind, a, b, s, c, k, side, ink, 0, im, zm);
     }
     0
@@ -132,8 +130,8 @@ fn put_shade(
     )
 }
 
-// `dash::dashed` for a segment of which every pixel is offered.
-pub(crate) fn dashed(
+// Draws a line with a pattern, of which every pixel is offered.
+fn dashed(
     pen: Pen,
     kind: Kind,
     ground: bool,
@@ -161,8 +159,8 @@ pub(crate) fn dashed(
     passed
 }
 
-// `shade::shaded` for a segment of which every pixel is offered.
-pub(crate) fn shaded(pen: Pen, a: Vertex, b: Vertex, im: &mut [u16], zm: &mut [u16]) -> u64
+// Draws a line with numbers, of which every pixel is offered.
+fn shaded(pen: Pen, a: Vertex, b: Vertex, im: &mut [u16], zm: &mut [u16]) -> u64
     requires { ⌜ Inside pen (rowsOf (pen .frame) (length (now im)) (length (now zm))) Line2 a b ⌝ }
     ensures { λ r. ⌜ picture (now (im .exit)) (now (zm .exit)) r ≡ drawn pen (spans (shadeOffers pen (rowsOf (pen .frame) (length (now (im .entry))) (length (now (zm .entry)))) a b) (larger a b + 1)) (picture (now (im .entry)) (now (zm .entry)) 0) ⌝ }
 {
@@ -182,4 +180,24 @@ pub(crate) fn shaded(pen: Pen, a: Vertex, b: Vertex, im: &mut [u16], zm: &mut [u
         k += 1;
     }
     passed
+}
+
+// Draws a segment of which every pixel is offered.
+pub(crate) fn drawn_inside(
+    pen: Pen,
+    style: Style,
+    a: Vertex,
+    b: Vertex,
+    im: &mut [u16],
+    zm: &mut [u16],
+) -> u64
+    requires { ⌜ Inside pen (rowsOf (pen .frame) (length (now im)) (length (now zm))) (kindOf (style .mode)) a b ⌝ }
+    ensures { λ r. ⌜ picture (now (im .exit)) (now (zm .exit)) r ≡ drawn pen (segmentOffers pen (rowsOf (pen .frame) (length (now (im .entry))) (length (now (zm .entry)))) style a b) (picture (now (im .entry)) (now (zm .entry)) 0) ⌝ }
+{
+    let mode = style.mode;
+    match mode {
+        Mode::Zero => dashed(pen, Kind::Line0, true, style, a, b, im, zm),
+        Mode::One => dashed(pen, Kind::Line1, false, style, a, b, im, zm),
+        Mode::Two => shaded(pen, a, b, im, zm),
+    }
 }

@@ -4,17 +4,22 @@ ghost use lib.ListN.{length};
 ghost use Rattle.picture.specs.Place.{rowsOf};
 ghost use Rattle.picture.specs.Picture.{picture, drawn};
 ghost use Rattle.line.specs.Segment.{larger, segmentOffers};
+use crate::anywhere::drawn_anywhere;
+use crate::field::has_ends;
+use crate::field::is_open;
+use crate::inside::drawn_inside;
 use crate::slope::slope_of;
-use picture::Kind;
 use picture::Pen;
 use picture::Vertex;
 
+mod anywhere;
 mod course;
-mod dash;
+mod field;
 mod inside;
+mod pattern;
 mod ramp;
-mod shade;
 mod slope;
+mod walk;
 
 // The line modes 0, 1 and 2.
 pub enum Mode {
@@ -47,9 +52,8 @@ pub fn segment(pen: Pen, style: Style, a: Vertex, b: Vertex, im: &mut [u16], zm:
     ensures { λ r. ⌜ picture (now (im .exit)) (now (zm .exit)) r ≡ drawn pen (segmentOffers pen (rowsOf (pen .frame) (length (now (im .entry))) (length (now (zm .entry)))) style a b) (picture (now (im .entry)) (now (zm .entry)) 0) ⌝ }
 {
     let mode = style.mode;
-    match mode {
-        Mode::Zero => dash::dashed(pen, Kind::Line0, true, style, a, b, im, zm),
-        Mode::One => dash::dashed(pen, Kind::Line1, false, style, a, b, im, zm),
-        Mode::Two => shade::shaded(pen, a, b, im, zm),
+    if has_ends(pen, a, b, im.len(), zm.len()) & is_open(pen, mode) {
+        return drawn_inside(pen, style, a, b, im, zm);
     }
+    drawn_anywhere(pen, style, a, b, im, zm)
 }

@@ -8,8 +8,8 @@ use borrow.Author.Needs.{needs}
 use Rattle.line.proofs.inside.put_dash.Statement.{statement}
 use Rattle.line.proofs.inside.put_dash.Tie as tie
 
-ink-of-requires : tie.Need-ink-of-requires
-ink-of-requires c κs = search needs
+colour-of-requires : tie.Need-colour-of-requires
+colour-of-requires c κs = search needs
 
 put-inside-requires : tie.Need-put-inside-requires
 put-inside-requires c κs = search needs
@@ -25,7 +25,7 @@ returns c =
     let s = c .before .before .before .before .before .before .before .before .before .before .before in
     let a = s .args in
     put-step (a .pen) (rowsOf (a .pen .frame) (length (a .im .now)) (length (a .zm .now))) _ (a .im .now) (a .zm .now)
-    (dash-inked (a .pen) _ (a .a) (a .b) (a .s) (a .k) (pixelAt (a .a) (a .b) (a .k)) refl (a .kind) (a .ground) (a .style) (a .set) _ (s .pre .2) (c .before .before .before .before .before .before .before .before .if1 .taken) (c .before .before .before .before .before .before .before .ink-of .ensures))
+    (dash-inked (a .pen) _ (a .a) (a .b) (a .s) (a .k) (pixelAt (a .a) (a .b) (a .k)) refl (a .kind) (a .ground) (a .style) (a .set) _ (s .pre .2) (c .before .before .before .before .before .before .before .before .if1 .taken) (c .before .before .before .before .before .before .before .colour-of .ensures))
     (c .before .before .before .before .put-inside .ensures)
 
 returns-2 : tie.Need-returns-2
@@ -38,4 +38,4 @@ returns-2 c =
 pub put-dash-spec : {M : Type 1} → statement M
 put-dash-spec =
     tie.close
-    (tie.spec ink-of-requires put-inside-requires same-length same-length-2 returns returns-2)
+    (tie.spec colour-of-requires put-inside-requires same-length same-length-2 returns returns-2)

@@ -1,0 +1,32 @@
+-- What is asked of a step's pixel before it is drawn.
+use mathlib.Core.Path.{_≡_}
+use mathlib.Core.Bool.{Bool, true, not, _&&_, _||_}
+use Prim.Native.Nat.{ℕ}
+use lib.Dec.{ltb, eqb}
+use Rattle.picture.specs.declared.Pen.{Pen}
+use Rattle.picture.specs.declared.Vertex.{Vertex}
+use Rattle.picture.specs.declared.Kind.{Kind}
+use Rattle.picture.specs.Place.{liesPlain, liesTiled}
+use Rattle.picture.specs.Offer.{inWindow, isMasked, shows}
+use Rattle.line.specs.declared.field.Field.{Field}
+
+-- the transparency pattern hides nothing: it does not concern the kind, or is all ones
+abbrev pub isOpen : Pen → Kind → Bool
+isOpen pen kind = not (isMasked kind) || eqb (pen .transparency) 65535
+
+-- the rows in use, and whether nothing but the window and the memory is asked
+abbrev pub fieldOf : Pen → Kind → ℕ → Field
+fieldOf pen kind rows = record { direct = (liesPlain (pen .frame) || liesTiled (pen .frame)) && isOpen pen kind; rows = rows }
+
+-- a pixel is inside the window, and in a column of the line and a row in use
+unfoldable pub within : Pen → ℕ → ℕ → ℕ → Bool
+within pen rows x y = inWindow pen x y && (ltb x (pen .frame .line) && ltb y rows)
+
+-- both ends of a segment are, and rows lie one after the other
+abbrev pub endsWithin : Pen → ℕ → Vertex → Vertex → Bool
+endsWithin pen rows a b = liesPlain (pen .frame) && within pen rows (a .x) (a .y) && within pen rows (b .x) (b .y)
+
+-- a segment of which every pixel is offered: its ends are inside, and the transparency pattern hides nothing of its kind
+pub record Inside (pen : Pen) (rows : ℕ) (kind : Kind) (a b : Vertex) : Type 0 where
+  pub ends : endsWithin pen rows a b ≡ true
+  pub shown : (x y : ℕ) → (not (isMasked kind) || shows pen x y) ≡ true
