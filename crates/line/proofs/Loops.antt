@@ -6,6 +6,7 @@ use mathlib.Core.List.{List, []}
 use Prim.Native.Nat.{ℕ, _+_, _*_, _%_, _/_, _^_, _≤_, _<_}
 use native.Mathlib.Omega.{arith}
 use lib.ListN.{length}
+use borrow.Author.Tests.{lt-ltb, le-ltb}
 use Rattle.picture.specs.declared.Carried.{Carried}
 use Rattle.picture.specs.declared.Pen.{Pen}
 use Rattle.picture.specs.declared.Kind.{Kind}
@@ -29,8 +30,7 @@ use Rattle.line.specs.Step.{slopeOf, pixelAt, OnStep}
 use Rattle.line.specs.Ink.{inkOf, joinedIn}
 use Rattle.line.specs.Walk.{Carries, Stands, startOf, nextOf, OnWalk}
 use Rattle.line.proofs.Segments.{smaller-le}
-use Rattle.line.proofs.Ramps.{number-side}
-use Rattle.line.proofs.Walks.{first-low, from-before, from-on}
+use Rattle.line.proofs.Rounding.{number-side}
 
 -- ---- what is carried
 
@@ -118,6 +118,24 @@ module _ {pen : Pen} {f : ℕ → ℕ → List Offer} {first : ℕ} {a b : Verte
     walked-end l =
         let e : p .k ≡ larger a b + 1 = omega (arith, h .upto, h .last, ap (λ (s : Slope). s .n) (h .slope)) in
         rw e at (h .so-far .so)
+
+-- ---- the steps from a first one on
+
+-- it is 0 or 1
+pub first-low : (joined : Bool) → firstOf joined ≤ 1
+unfolding firstOf
+first-low true = omega arith
+first-low false = omega arith
+
+-- before the first nothing is offered
+pub from-before : (first : ℕ) (f : ℕ → List Offer) (k : ℕ) → k < first → from first f k ≡ []
+unfolding from
+from-before first f k h = rw (lt-ltb k first h)
+
+-- from it on each step offers what it does
+pub from-on : (first : ℕ) (f : ℕ → List Offer) (k : ℕ) → first ≤ k → from first f k ≡ f k
+unfolding from
+from-on first f k h = rw (le-ltb k first h)
 
 -- ---- what a step offers
 

@@ -1,6 +1,5 @@
 pub mod Segment
 pub mod Polyline
-pub mod Ramp
 pub mod Step
 pub mod Course
 pub mod Walk

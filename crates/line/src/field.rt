@@ -5,8 +5,9 @@ ghost use lib.Dec.{eqb};
 ghost use Rattle.picture.specs.Place.{rowsOf};
 ghost use Rattle.picture.specs.Offer.{isMasked};
 ghost use Rattle.line.specs.Segment.{kindOf};
-ghost use Rattle.line.specs.Field.{within, endsWithin, isOpen, fieldOf};
+ghost use Rattle.line.specs.Field.{within, endsWithin, isOpen, liesWhole, fieldOf, isBare};
 use crate::Mode;
+use picture::Frame;
 use picture::Kind;
 use picture::Pen;
 use picture::Vertex;
@@ -42,6 +43,13 @@ pub(crate) fn is_open(pen: Pen, mode: Mode) -> bool
     }
 }
 
+// Whether pixels lie in rows or in tiles, so that the memory has every column.
+fn lies_whole(frame: Frame) -> bool
+    ensures { λ r. ⌜ r ≡ liesWhole frame ⌝ }
+{
+    lies_plain(frame) | (frame.layout == TILED)
+}
+
 // The field of a segment, over memories of these lengths.
 pub(crate) fn field_of(pen: Pen, mode: Mode, ni: usize, nz: usize) -> Field
     ensures { λ r. ⌜ r ≡ fieldOf pen (kindOf mode) (rowsOf (pen .frame) ni nz) ⌝ }
@@ -49,7 +57,7 @@ pub(crate) fn field_of(pen: Pen, mode: Mode, ni: usize, nz: usize) -> Field
     let frame = pen.frame;
     let open = is_open(pen, mode);
     let rows = rows_of(frame, ni, nz);
-    let direct = (lies_plain(frame) | (frame.layout == TILED)) & open;
+    let direct = lies_whole(frame) & open;
     Field { direct, rows }
 }
 
@@ -63,11 +71,23 @@ pub(crate) fn is_within(pen: Pen, rows: usize, x: u16, y: u16) -> bool
     window & memory
 }
 
-// Whether both ends of a segment are, with memories of these lengths, and rows lie one after the other.
+// Whether both ends of a segment are, with memories of these lengths, in rows or in tiles.
 pub(crate) fn has_ends(pen: Pen, a: Vertex, b: Vertex, ni: usize, nz: usize) -> bool
     ensures { λ r. ⌜ r ≡ endsWithin pen (rowsOf (pen .frame) ni nz) a b ⌝ }
 {
     let frame = pen.frame;
     let rows = rows_of(frame, ni, nz);
-    lies_plain(frame) & is_within(pen, rows, a.x, a.y) & is_within(pen, rows, b.x, b.y)
+    lies_whole(frame) & is_within(pen, rows, a.x, a.y) & is_within(pen, rows, b.x, b.y)
+}
+
+// Whether the depth alone decides of a line's pixels, and numbers are stored whole.
+pub(crate) fn is_bare(pen: Pen, mode: Mode) -> bool
+    ensures { λ r. ⌜ r ≡ isBare pen (kindOf mode) ⌝ }
+{
+    let whole = pen.ienable & (pen.planes == 65535);
+    match mode {
+        Mode::Zero => whole,
+        Mode::One => whole,
+        Mode::Two => (pen.depth & pen.zenable) & whole,
+    }
 }

@@ -6,6 +6,7 @@ ghost use Rattle.picture.specs.Picture.{picture, drawn};
 ghost use Rattle.line.specs.Segment.{larger, segmentOffers};
 use crate::anywhere::drawn_anywhere;
 use crate::field::has_ends;
+use crate::field::is_bare;
 use crate::field::is_open;
 use crate::inside::drawn_inside;
 use crate::slope::slope_of;
@@ -17,7 +18,6 @@ mod course;
 mod field;
 mod inside;
 mod pattern;
-mod ramp;
 mod slope;
 mod walk;
 
@@ -52,7 +52,8 @@ pub fn segment(pen: Pen, style: Style, a: Vertex, b: Vertex, im: &mut [u16], zm:
     ensures { λ r. ⌜ picture (now (im .exit)) (now (zm .exit)) r ≡ drawn pen (segmentOffers pen (rowsOf (pen .frame) (length (now (im .entry))) (length (now (zm .entry)))) style a b) (picture (now (im .entry)) (now (zm .entry)) 0) ⌝ }
 {
     let mode = style.mode;
-    if has_ends(pen, a, b, im.len(), zm.len()) & is_open(pen, mode) {
+    let inside = has_ends(pen, a, b, im.len(), zm.len());
+    if inside & is_open(pen, mode) & is_bare(pen, mode) {
         return drawn_inside(pen, style, a, b, im, zm);
     }
     drawn_anywhere(pen, style, a, b, im, zm)

@@ -11,8 +11,11 @@ has-ends-requires c κs = search needs
 is-open-requires : tie.Need-is-open-requires
 is-open-requires c κs = search needs
 
+is-bare-requires : tie.Need-is-bare-requires
+is-bare-requires c κs = search needs
+
 drawn-inside-requires : tie.Need-drawn-inside-requires
-drawn-inside-requires c κs = let a = c .before .before .before .before .before .before .before .args in inside-of-tests (a .pen) _ (kindOf (a .style .mode)) (a .a) (a .b) (c .before .before .before .before .has-ends .ensures) (c .before .before .before .is-open .ensures) (c .before .before .if1 .taken)
+drawn-inside-requires c κs = let a = c .before .before .before .before .before .before .before .before .args in inside-of-tests (a .pen) _ (kindOf (a .style .mode)) (a .a) (a .b) (c .before .before .before .before .before .has-ends .ensures) (c .before .before .before .before .is-open .ensures) (c .before .before .before .is-bare .ensures) (c .before .before .if1 .taken)
 
 same-length : tie.Need-same-length
 same-length c = search needs
@@ -41,6 +44,7 @@ segment-spec =
     (tie.spec
     has-ends-requires
     is-open-requires
+    is-bare-requires
     drawn-inside-requires
     same-length
     same-length-2

@@ -7,8 +7,7 @@ use Rattle.picture.proofs.Spans.{reached-i, reached-z}
 use Rattle.line.specs.declared.walk.Step.{Step}
 use Rattle.line.specs.Segment.{firstOf, stepOffers, segmentOffers}
 use Rattle.line.specs.Ink.{joinedIn}
-use Rattle.line.proofs.Walks.{first-low}
-use Rattle.line.proofs.Loops.{Walked, walked-start, walked-on, walked-rows, walked-next, walked-end, before-first}
+use Rattle.line.proofs.Loops.{first-low, Walked, walked-start, walked-on, walked-rows, walked-next, walked-end, before-first}
 use borrow.Author.Needs.{needs}
 use Rattle.line.proofs.anywhere.drawn_anywhere.Statement.{statement}
 use Rattle.line.proofs.anywhere.drawn_anywhere.Tie as tie

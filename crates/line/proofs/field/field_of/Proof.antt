@@ -9,11 +9,11 @@ is-open-requires c κs = search needs
 rows-of-requires : tie.Need-rows-of-requires
 rows-of-requires c κs = search needs
 
-lies-plain-requires : tie.Need-lies-plain-requires
-lies-plain-requires c κs = search needs
+lies-whole-requires : tie.Need-lies-whole-requires
+lies-whole-requires c κs = search needs
 
 returns : tie.Need-returns
-returns c = rw (c .before .lies-plain .ensures, c .before .before .rows-of .ensures, c .before .before .before .is-open .ensures)
+returns c = rw (c .lies-whole .ensures, c .before .rows-of .ensures, c .before .before .is-open .ensures)
 
 pub field-of-spec : {M : Type 1} → statement M
 field-of-spec =
@@ -21,5 +21,5 @@ field-of-spec =
     (tie.spec
     is-open-requires
     rows-of-requires
-    lies-plain-requires
+    lies-whole-requires
     returns)
