@@ -23,8 +23,8 @@ use Rattle.triangle.specs.Offers.{kindOf as triangleKind, cornersOf}
 use Rattle.triangle.specs.Loops.{Large}
 use Rattle.triangle.proofs.Members.{triangle-member, triangle-counts}
 use Rattle.triangle.proofs.Sizes.{Below, never-large}
-use Rattle.line.specs.Segment.{larger}
-use Rattle.line.proofs.Members.{kindOf, segment-member, segment-counts}
+use Rattle.line.specs.Segment.{kindOf, larger}
+use Rattle.line.proofs.Members.{segment-member, segment-counts}
 use Rattle.registers.specs.declared.Registers.{Registers}
 use Rattle.registers.specs.declared.word.Word.{Word}
 use Rattle.registers.specs.declared.word.Word.the-variants.{Init, Aux, Parm, At, Img, Ptrn, Reserved, Unmodelled, Unknown}

@@ -1,24 +1,24 @@
 -- Why no step of a segment asks whether it is offered, where both ends are inside the window and the memory: these are boxes, and no step
 -- leaves the box between the two ends. Assumes nothing.
-use mathlib.Core.Path.{_≡_, refl, sym, _∙_}
+use mathlib.Core.Path.{_≡_, refl, sym, ap, _∙_}
 use mathlib.Core.Bool.{Bool, true, false, cond, not, _&&_, _||_}
-use Prim.Native.Nat.{ℕ, _+_, _-_, _≤_, min, max}
+use Prim.Native.Nat.{ℕ, _+_, _-_, _≤_, _<_, min, max}
 use native.Mathlib.Omega.{arith}
 use lib.Dec.{leb, ltb, eqb}
-use borrow.Author.Tests.{leb-true, leb-false, ltb-true, eqb-true}
+use borrow.Author.Tests.{leb-true, leb-false, lt-ltb, ltb-true, eqb-true}
 use Rattle.picture.specs.declared.Pen.{Pen}
 use Rattle.picture.specs.declared.Vertex.{Vertex}
 use Rattle.picture.specs.declared.Kind.{Kind}
-use Rattle.picture.specs.declared.Kind.the-variants.{Line2}
-use Rattle.picture.specs.Place.{liesPlain}
-use Rattle.picture.specs.Offer.{offer, inWindow, offered, isMasked}
-use Rattle.picture.proofs.Places.{both, inside-of, plain-mine}
-use Rattle.picture.proofs.Offers.{box-offered}
+use Rattle.picture.specs.Place.{liesPlain, liesTiled, layoutOf, mine, inMemory}
+use Rattle.picture.specs.Offer.{offer, inWindow, offered, isMasked, shows}
+use Rattle.picture.proofs.Places.{both, plain-mine, tiled-mine}
+use Rattle.picture.proofs.Offers.{window-in, window-of}
 use Rattle.picture.proofs.Rows.{shows-all}
+use Rattle.line.specs.declared.field.Field.{Field}
 use Rattle.line.specs.declared.slope.Slope.{Slope}
-use Rattle.line.specs.declared.slope.Pixel.{Pixel}
 use Rattle.line.specs.Segment.{distance, towards, larger, sideAt, xAt, yAt}
-use Rattle.line.specs.Step.{slopeOf, pixelAt, OnStep, within, endsWithin, Inside}
+use Rattle.line.specs.Step.{slopeOf, OnStep}
+use Rattle.line.specs.Field.{isOpen, liesWhole, fieldOf, within, endsWithin, Inside, isBare}
 use Rattle.line.proofs.Steps.{Lands, lands-level, lands-steep}
 
 -- ---- the box between two points
@@ -45,45 +45,80 @@ step-low a b k h =
     let l = lands a b (slopeOf a b) k (record { slope = refl; step = h }) in
     (rw (← l .2 .x) (towards-between (a .x) (b .x) (l .0) (l .2 .across-fits) .1), rw (← l .2 .y) (towards-between (a .y) (b .y) (l .1) (l .2 .up-fits) .1))
 
+-- ---- a field where nothing but the window and the memory is asked
+
+-- where the transparency pattern hides nothing it shows each pixel
+open-shown : (pen : Pen) (kind : Kind) → isOpen pen kind ≡ true → (x y : ℕ) → (not (isMasked kind) || shows pen x y) ≡ true
+open-shown pen kind h x y = go (not (isMasked kind)) h
+  where
+    go : (m : Bool) → m || eqb (pen .transparency) 65535 ≡ true → m || shows pen x y ≡ true
+    go true e = refl
+    go false e = shows-all pen x y (eqb-true _ _ e)
+
+pub direct-offered : (pen : Pen) (rows : ℕ) (kind : Kind) (x y : ℕ) → liesWhole (pen .frame) && isOpen pen kind ≡ true
+    → offered pen rows (offer kind x y 0 0) ≡ within pen rows x y
+unfolding offered inMemory within
+direct-offered pen rows kind x y h =
+    let u = both (liesWhole (pen .frame)) (isOpen pen kind) h in
+    rw (mine-all (liesPlain (pen .frame)) refl (u .0), open-shown pen kind (u .1) x y)
+    (go (inWindow pen x y) (ltb x (pen .frame .line)) (ltb y rows))
+  where
+    mine-all : (t : Bool) → liesPlain (pen .frame) ≡ t → t || liesTiled (pen .frame) ≡ true → mine (layoutOf (pen .frame)) x ≡ true
+    mine-all true e l = plain-mine (pen .frame) x e
+    mine-all false e l = tiled-mine (pen .frame) x l
+
+    go : (p q r : Bool) → p && (q && r && true) && true ≡ p && (q && r)
+    go true true true = refl
+    go true true false = refl
+    go true false r = refl
+    go false q r = refl
+
+-- by what was computed
+pub field-offered : (pen : Pen) (rows : ℕ) (kind : Kind) (x y : ℕ) {field : Field} {t : Bool} → field ≡ fieldOf pen kind rows → field .direct ≡ true
+    → t ≡ within pen (field .rows) x y → offered pen rows (offer kind x y 0 0) ≡ t
+field-offered pen rows kind x y e d w =
+    direct-offered pen rows kind x y (sym (ap (λ (f : Field). f .direct) e) ∙ d) ∙ sym (w ∙ ap (λ (f : Field). within pen (f .rows) x y) e)
+
 -- ---- a segment whose ends are inside
 
-within-offered : (pen : Pen) (rows : ℕ) (v : Vertex) → liesPlain (pen .frame) ≡ true → within pen rows v ≡ true
-    → offered pen rows (offer Line2 (v .x) (v .y) 0 0) ≡ true
-unfolding within offered
-within-offered pen rows v lies h =
-    let k = both (inWindow pen (v .x) (v .y)) (ltb (v .x) (pen .frame .line) && ltb (v .y) rows) h in
-    let m = both (ltb (v .x) (pen .frame .line)) (ltb (v .y) rows) (k .1) in
-    rw (k .0, inside-of (pen .frame) rows (v .x) (v .y) (ltb-true _ _ (m .0)) (ltb-true _ _ (m .1)) (plain-mine (pen .frame) (v .x) lies))
+-- what lies between two pixels that are inside the window and the memory is inside
+within-box : (pen : Pen) (rows ax ay bx by x y : ℕ) → within pen rows ax ay ≡ true → within pen rows bx by ≡ true
+    → min ax bx ≤ x → x ≤ max ax bx → min ay by ≤ y → y ≤ max ay by → within pen rows x y ≡ true
+unfolding within
+within-box pen rows ax ay bx by x y p q l r b t =
+    let v = parts ax ay p in
+    let w = parts bx by q in
+    rw (
+      window-in pen x y (omega (arith, v .0, w .0)) (omega (arith, v .1, w .1)) (omega (arith, v .2, w .2)) (omega (arith, v .3, w .3)),
+      lt-ltb x (pen .frame .line) (omega (arith, v .4, w .4)),
+      lt-ltb y rows (omega (arith, v .5, w .5)),
+    )
+  where
+    parts : (cx cy : ℕ) → inWindow pen cx cy && (ltb cx (pen .frame .line) && ltb cy rows) ≡ true
+        → (pen .left ≤ cx) × (cx ≤ pen .right) × (pen .bottom ≤ cy) × (cy ≤ pen .top) × (cx < pen .frame .line) × (cy < rows)
+    parts cx cy e =
+        let m = both (inWindow pen cx cy) (ltb cx (pen .frame .line) && ltb cy rows) e in
+        let k = both (ltb cx (pen .frame .line)) (ltb cy rows) (m .1) in
+        let w = window-of pen cx cy (m .0) in
+        (w .0, w .1, w .2, w .3, ltb-true _ _ (k .0), ltb-true _ _ (k .1))
 
 module _ (pen : Pen) (rows : ℕ) (kind : Kind) (a b : Vertex) where
-  -- rows lie one after the other
-  pub inside-plain : Inside pen rows kind a b → liesPlain (pen .frame) ≡ true
-  inside-plain i =
-      both (liesPlain (pen .frame)) (within pen rows a) (both (liesPlain (pen .frame) && within pen rows a) (within pen rows b) (i .ends) .0) .0
-
   -- each step of it is offered
-  pub step-offered : (s : Slope) (k : ℕ) (p : Pixel) → p ≡ pixelAt a b k → OnStep a b s k → Inside pen rows kind a b
-      → offered pen rows (offer kind (p .x) (p .y) 0 0) ≡ true
-  step-offered s k p e h i =
+  pub step-offered : (s : Slope) (k : ℕ) → OnStep a b s k → Inside pen rows kind a b → offered pen rows (offer kind (xAt a b k) (yAt a b k) 0 0) ≡ true
+  step-offered s k h i =
       let l = lands a b s k h in
       let x = towards-between (a .x) (b .x) (l .0) (l .2 .across-fits) in
       let y = towards-between (a .y) (b .y) (l .1) (l .2 .up-fits) in
-      let ends = both (liesPlain (pen .frame) && within pen rows a) (within pen rows b) (i .ends) in
-      let lies = inside-plain i in
-      let first = both (liesPlain (pen .frame)) (within pen rows a) (ends .0) .1 in
-      rw (e, ← l .2 .x, ← l .2 .y)
-      (box-offered pen rows lies (a .x) (a .y) (b .x) (b .y) _ _ kind (within-offered pen rows a lies first) (within-offered pen rows b lies (ends .1)) (x .0) (x .1) (y .0) (y .1) (i .shown _ _))
+      let ends = both (liesWhole (pen .frame) && within pen rows (a .x) (a .y)) (within pen rows (b .x) (b .y)) (i .ends) in
+      let first = both (liesWhole (pen .frame)) (within pen rows (a .x) (a .y)) (ends .0) in
+      let direct : liesWhole (pen .frame) && isOpen pen kind ≡ true = rw (first .0, i .clear) in
+      direct-offered pen rows kind (xAt a b k) (yAt a b k) direct
+      ∙ rw (← l .2 .x, ← l .2 .y) (within-box pen rows (a .x) (a .y) (b .x) (b .y) _ _ (first .1) (ends .1) (x .0) (x .1) (y .0) (y .1))
 
-  -- a pattern of all ones hides nothing, whatever the kind
-  pub inside-open : {t : Bool} → t ≡ endsWithin pen rows a b → t && eqb (pen .transparency) 65535 ≡ true → Inside pen rows kind a b
-  inside-open {t} e h =
-      let u = both t (eqb (pen .transparency) 65535) h in
-      record { ends = sym e ∙ u .0; shown = λ x y. rw (shows-all pen x y (eqb-true _ _ (u .1))) (go (not (isMasked kind))) }
-    where
-      go : (m : Bool) → m || true ≡ true
-      go true = refl
-      go false = refl
-
--- and the pattern does not concern lines with numbers
-pub inside-shaded : (pen : Pen) (rows : ℕ) (a b : Vertex) {t : Bool} → t ≡ endsWithin pen rows a b → t ≡ true → Inside pen rows Line2 a b
-inside-shaded pen rows a b e h = record { ends = sym e ∙ h; shown = λ x y. refl }
+  -- by the tests that were made
+  pub inside-of-tests : {t o r : Bool} → t ≡ endsWithin pen rows a b → o ≡ isOpen pen kind → r ≡ isBare pen kind → t && o && r ≡ true
+      → Inside pen rows kind a b × (isBare pen kind ≡ true)
+  inside-of-tests {t} {o} {r} e f g h =
+      let u = both (t && o) r h in
+      let v = both t o (u .0) in
+      (record { ends = sym e ∙ v .0; clear = sym f ∙ v .1 }, sym g ∙ u .1)

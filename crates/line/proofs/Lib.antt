@@ -1,9 +1,10 @@
 pub mod Rounding
+pub mod Fixed
 pub mod Segments
-pub mod Ramps
 pub mod Steps
 pub mod Insides
 pub mod Courses
-pub mod Walks
+pub mod Loops
+pub mod Bare
 pub mod Polylines
 pub mod Members

@@ -18,14 +18,8 @@ use Rattle.picture.proofs.Members.{Numbers, Member, every-span, every-kept}
 use Rattle.line.specs.declared.Mode.{Mode}
 use Rattle.line.specs.declared.Mode.the-variants.{Zero, One, Two}
 use Rattle.line.specs.declared.Style.{Style}
-use Rattle.line.specs.Segment.{larger, xAt, yAt, isSet, firstOf, from, dashOffers, shadeOffers, stepOffers, segmentOffers}
+use Rattle.line.specs.Segment.{kindOf, larger, xAt, yAt, isSet, firstOf, from, dashOffers, shadeOffers, stepOffers, segmentOffers}
 use Rattle.line.proofs.Rounding.{number-le}
-
--- the kind of a line's pixels
-abbrev pub kindOf : Mode → Kind
-kindOf Zero = Line0
-kindOf One = Line1
-kindOf Two = Line2
 
 -- the steps from a first one on have what each step has, and what no offers have
 from-has : (P : List Offer → Type 0) (first : ℕ) (f : ℕ → List Offer) (k : ℕ) → P [] → P (f k) → P (from first f k)

@@ -14,7 +14,7 @@ use Rattle.picture.specs.Draw.{spans}
 use Rattle.picture.proofs.Spans.{spans-same, spans-from, spans-none}
 use Rattle.line.specs.Segment.{larger, isSet, patternAt, firstOf, from, dashOffers, segmentOffers}
 use Rattle.line.specs.Polyline.{Leg, legKind, styled, segmentsOffers, stepsOf, dotOffers, bendOffers, lineOffers}
-use Rattle.line.proofs.Walks.{first-low, from-before, from-on}
+use Rattle.line.proofs.Loops.{first-low, from-before, from-on}
 
 -- from the same first step on, the same is offered where each step offers the same
 first-same : (first : ℕ) (f g : ℕ → List Offer) (k : ℕ) → f k ≡ g k → from first f k ≡ from first g k

@@ -2,7 +2,7 @@
 -- Assumes nothing.
 use mathlib.Core.Path.{_≡_, refl, sym, ap, _∙_}
 use Prim.Native.Nat.{ℕ, zero, suc, _+_, _-_, _*_, _/_, _≤_, _<_, zero-le, min, max}
-use native.Mathlib.Nat.{le-of-suc-le-suc, div-lt-iff-lt-mul, le-div-iff-mul-le, le-antisymm, mul-le-mul-left, mul-le-mul-right, mul-comm, mul-left-comm, suc-mul, add-mul, zero-lt-suc, zero-mul, sub-add-cancel, sub-self, sub-zero, le-max-left, le-max-right, min-le-left, min-le-right, le-refl}
+use native.Mathlib.Nat.{le-of-suc-le-suc, div-lt-iff-lt-mul, le-div-iff-mul-le, le-antisymm, mul-le-mul-left, mul-le-mul-right, mul-comm, mul-left-comm, suc-mul, add-mul, zero-lt-suc, zero-mul, sub-add-cancel, sub-self, sub-zero, mul-zero, le-max-left, le-max-right, min-le-left, min-le-right, le-refl}
 use native.Mathlib.Omega.{arith}
 use borrow.Author.Tests.{ne-eqb}
 use Rattle.line.specs.Segment.{sideAt, numberAt}
@@ -89,3 +89,10 @@ number-last (suc n) first second =
     let e : (suc n - suc n) * first + suc n * second ≡ suc n * second = omega (arith, ap (λ (x : ℕ). x * first) (sub-self (suc n)), zero-mul first) in
     rw (ne-eqb (suc n) 0 (λ e. omega arith), e)
     (le-antisymm (round-le (suc n) (suc n * second) second (zero-lt-suc n) (le-refl _)) (round-ge (suc n) (suc n * second) second (zero-lt-suc n) (le-refl _)))
+
+-- how far to the side is a number from 0 to m
+pub number-side : (n m k : ℕ) → k ≤ n → m ≤ n → numberAt n k 0 m ≡ sideAt n m k
+unfolding numberAt sideAt
+number-side zero m k h l = omega arith
+number-side (suc n) m k h l =
+    rw (ne-eqb (suc n) 0 (λ e. omega arith)) (ap (λ (x : ℕ). (2 * x + suc n) / (2 * suc n)) (omega (arith, mul-zero (suc n - k))))

@@ -1,5 +1,7 @@
 pub mod Segment
 pub mod Polyline
-pub mod Ramp
 pub mod Step
 pub mod Course
+pub mod Walk
+pub mod Ink
+pub mod Field

@@ -49,6 +49,12 @@ yAt a b k = towards (a .y) (b .y) (cond (xLeads a b) (sideAt (larger a b) (small
 
 -- ---- what a step offers
 
+-- the kind of a line's pixels
+abbrev pub kindOf : Mode → Kind
+kindOf Zero = Line0
+kindOf One = Line1
+kindOf Two = Line2
+
 -- a number at step k of n in mode 2: (2((n−k)·first + k·second) + n) div 2n, and the new endpoint's if n = 0
 unfoldable pub numberAt : ℕ → ℕ → ℕ → ℕ → ℕ
 numberAt n k first second = cond (eqb n 0) second ((2 * ((n - k) * first + k * second) + n) / (2 * n))

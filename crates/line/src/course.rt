@@ -1,5 +1,5 @@
-// The places of a segment's steps, from the first place and from what a pixel along either axis adds or takes: no pixel is computed. Rows
-// lie one after the other here.
+// The places of a segment's steps. Where rows lie one after the other they are told from the first place and from what a pixel along either
+// axis adds or takes: no pixel is computed.
 ghost use mathlib.Core.Path.{_≡_};
 ghost use mathlib.Core.Bool.{true};
 ghost use Prim.Native.Nat.{_*_, _≤_};
@@ -7,9 +7,14 @@ ghost use Rattle.picture.specs.Place.{liesPlain, placeOf};
 ghost use Rattle.line.specs.Segment.{sideAt, xAt, yAt};
 ghost use Rattle.line.specs.Step.{OnStep};
 ghost use Rattle.line.specs.Course.{moveOf, courseOf, OnCourse};
+ghost use Rattle.line.specs.Walk.{OnWalk};
 use crate::slope::Slope;
+use crate::slope::pixel_of;
+use crate::walk::Step;
+use crate::walk::whole;
 use picture::Pen;
 use picture::Vertex;
+use picture::place::lies_plain;
 use picture::place::place;
 
 // What a pixel along an axis adds to the place, and what it takes from it: one of them is 0.
@@ -64,16 +69,8 @@ fn times(far: u16, width: u16) -> usize
     (far as usize) * (width as usize)
 }
 
-// The place of step k, which moves so far to the side.
-pub(crate) fn place_at(
-    pen: Pen,
-    c: Course,
-    a: Vertex,
-    b: Vertex,
-    s: Slope,
-    k: u64,
-    side: u16,
-) -> usize
+// The place of step k, which moves so far to the side, in rows.
+fn place_in_rows(pen: Pen, c: Course, a: Vertex, b: Vertex, s: Slope, k: u64, side: u16) -> usize
     requires { ⌜ OnCourse pen a b s c × OnStep a b s k × (side ≡ sideAt (s .n) (s .m) k) × (liesPlain (pen .frame) ≡ true) ⌝ }
     ensures { λ r. ⌜ r ≡ placeOf (pen .frame) (xAt a b k) (yAt a b k) ⌝ }
 {
@@ -83,4 +80,18 @@ pub(crate) fn place_at(
     let up = times(lead, ahead.up) + times(side, aside.up);
     let down = times(lead, ahead.down) + times(side, aside.down);
     (c.first as usize) + up - down
+}
+
+// The place of the step where a walk stands: told by the course in rows, and in other layouts by the pixel.
+pub(crate) fn place_at(pen: Pen, c: Course, a: Vertex, b: Vertex, s: Slope, p: Step) -> usize
+    requires { ⌜ OnCourse pen a b s c × OnWalk a b s p ⌝ }
+    ensures { λ r. ⌜ r ≡ placeOf (pen .frame) (xAt a b (p .k)) (yAt a b (p .k)) ⌝ }
+{
+    let frame = pen.frame;
+    let side = whole(p.side);
+    if lies_plain(frame) {
+        return place_in_rows(pen, c, a, b, s, p.k, side);
+    }
+    let q = pixel_of(a, b, s, p.k, side);
+    place(frame, q.x, q.y)
 }

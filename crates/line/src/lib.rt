@@ -3,17 +3,22 @@ ghost use mathlib.Core.Path.{_≡_};
 ghost use Rattle.picture.specs.Picture.{picture};
 ghost use Rattle.line.specs.Segment.{larger, segmentOffers};
 ghost use Rattle.picture.specs.Lent.{Draws};
+use crate::anywhere::drawn_anywhere;
+use crate::field::has_ends;
+use crate::field::is_bare;
+use crate::field::is_open;
+use crate::inside::drawn_inside;
 use crate::slope::slope_of;
-use picture::Kind;
 use picture::Pen;
 use picture::Vertex;
 
+mod anywhere;
 mod course;
-mod dash;
+mod field;
 mod inside;
-mod ramp;
-mod shade;
+mod pattern;
 mod slope;
+mod walk;
 
 // The line modes 0, 1 and 2.
 pub enum Mode {
@@ -46,9 +51,9 @@ pub fn segment(pen: Pen, style: Style, a: Vertex, b: Vertex, im: &mut [u16], zm:
     ensures { λ r. ⌜ Draws pen (λ rows. segmentOffers pen rows style a b) im zm 0 r ⌝ }
 {
     let mode = style.mode;
-    match mode {
-        Mode::Zero => dash::dashed(pen, Kind::Line0, true, style, a, b, im, zm),
-        Mode::One => dash::dashed(pen, Kind::Line1, false, style, a, b, im, zm),
-        Mode::Two => shade::shaded(pen, a, b, im, zm),
+    let inside = has_ends(pen, a, b, im.len(), zm.len());
+    if inside & is_open(pen, mode) & is_bare(pen, mode) {
+        return drawn_inside(pen, style, a, b, im, zm);
     }
+    drawn_anywhere(pen, style, a, b, im, zm)
 }

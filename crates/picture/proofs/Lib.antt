@@ -5,6 +5,7 @@ pub mod Spans
 pub mod Cells
 pub mod Offers
 pub mod Rows
+pub mod Near
 pub mod Members
 pub mod Passed
 pub mod Settled

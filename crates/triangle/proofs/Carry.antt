@@ -1,11 +1,12 @@
 -- Numbers carried along a row as 2 ^ 48 times themselves and a part: by a factor f near 2 ^ 48 / 2 D where the triangle is small, by a
--- quotient rounded up where it is not. One law, `near-told`, says that both tell the number. Assumes nothing.
+-- quotient rounded up where it is not. One law, picture's `near-told`, says that both tell the number. Assumes nothing.
 use mathlib.Core.Path.{_≡_, refl, sym, ap, _∙_}
 use mathlib.Core.Bool.{Bool, true, false}
 use Prim.Native.Nat.{ℕ, zero, suc, _+_, _*_, _-_, _/_, _%_, _^_, _≤_, _<_, min}
 use native.Mathlib.Nat.{mul-comm, mul-assoc, mul-left-comm, mul-add, add-mul, suc-mul, mul-le-mul, mul-le-mul-left, mul-le-mul-right, lt-of-mul-lt-mul-right, le-div-iff-mul-le, div-lt-iff-lt-mul, lt-div-mul-add, mul-div-le, mod-eq-of-lt, mod-lt, div-add-mod', zero-mul, add-zero, le-refl, le-of-mul-le-mul-right, le-of-suc-le-suc}
 use native.Mathlib.Omega.{arith}
 use native.Mathlib.Numerals.{add-one}
+use Rattle.picture.proofs.Near.{near-told}
 use Rattle.triangle.specs.declared.Corners.{Corners}
 use Rattle.triangle.specs.declared.Edges.{Edges}
 use Rattle.triangle.specs.Edge.{covers, amount, areaOf}
@@ -15,39 +16,6 @@ use Rattle.triangle.proofs.Plane.{mean-most, right-plus, right-minus}
 use Rattle.triangle.proofs.Covers.{covered-ready, covered-within}
 
 -- ---- bare numbers
-
--- a quotient by a number near: k is 2 ^ 48 times n over d, and less than 2 ^ 48 over d more
-module _ (n d k : ℕ) (pos : 0 < d) (least : n * 281474976710656 ≤ k * d) (most : k * d < n * 281474976710656 + 281474976710656) where
-  low : n / d * 281474976710656 ≤ k
-  low =
-      le-of-mul-le-mul-right {k = d}
-      (omega (
-        arith,
-        least,
-        (le-div-iff-mul-le {k = d} {x = n / d} {y = n} pos) .0 (le-refl _),
-        mul-assoc (n / d) 281474976710656 d,
-        mul-left-comm (n / d) 281474976710656 d,
-      ))
-      pos
-
-  high : k < (n / d + 1) * 281474976710656
-  high =
-      lt-of-mul-lt-mul-right d {m = k} {n = (n / d + 1) * 281474976710656}
-      (omega (
-        arith,
-        most,
-        lt-div-mul-add {a = n} {b = d} pos,
-        add-mul (n / d * 281474976710656) 281474976710656 d,
-        add-mul (n / d) 1 281474976710656,
-        mul-assoc (n / d) 281474976710656 d,
-        mul-left-comm (n / d) 281474976710656 d,
-      ))
-
-  pub near-told : k / 281474976710656 ≡ n / d
-  near-told =
-      let a : n / d ≤ k / 281474976710656 = (le-div-iff-mul-le {k = 281474976710656} {x = n / d} {y = k} (omega arith)) .1 low in
-      let b : k / 281474976710656 < n / d + 1 = (div-lt-iff-lt-mul {k = 281474976710656} {x = k} {y = n / d + 1} (omega arith)) .1 high in
-      omega arith
 
 -- by a product: f is 2 ^ 48 over d, and a little more
 pub told : (n d f : ℕ) → 0 < d → 281474976710656 ≤ f * d → f * d ≤ 281474976710656 + d → n * d < 281474976710656 → n * f / 281474976710656 ≡ n / d

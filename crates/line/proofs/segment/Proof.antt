@@ -1,27 +1,21 @@
--- `segment` meets its contract: each mode has its loop. Assumes nothing.
-use Rattle.line.specs.declared.Mode.the-variants.{Zero, One, Two}
-use Rattle.line.proofs.Walks.{in-mode}
+-- `segment` meets its contract: both ways draw the same. Assumes nothing.
+use Rattle.line.specs.Segment.{kindOf}
+use Rattle.line.proofs.Insides.{inside-of-tests}
 use borrow.Author.Needs.{needs}
 use Rattle.line.proofs.segment.Statement.{statement}
 use Rattle.line.proofs.segment.Tie as tie
 
-enum-told : tie.Need-enum-told
-enum-told c = search needs
+has-ends-requires : tie.Need-has-ends-requires
+has-ends-requires c κs = search needs
 
-dashed-requires : tie.Need-dashed-requires
-dashed-requires c κs = search needs
+is-open-requires : tie.Need-is-open-requires
+is-open-requires c κs = search needs
 
-enum-told-2 : tie.Need-enum-told-2
-enum-told-2 c = search needs
+is-bare-requires : tie.Need-is-bare-requires
+is-bare-requires c κs = search needs
 
-dashed-requires-2 : tie.Need-dashed-requires-2
-dashed-requires-2 c κs = search needs
-
-enum-told-3 : tie.Need-enum-told-3
-enum-told-3 c = search needs
-
-shaded-requires : tie.Need-shaded-requires
-shaded-requires c κs = search needs
+drawn-inside-requires : tie.Need-drawn-inside-requires
+drawn-inside-requires c κs = let a = c .before .before .before .before .before .before .before .before .args in inside-of-tests (a .pen) _ (kindOf (a .style .mode)) (a .a) (a .b) (c .before .before .before .before .before .has-ends .ensures) (c .before .before .before .before .is-open .ensures) (c .before .before .before .is-bare .ensures) (c .before .before .if1 .taken)
 
 same-length : tie.Need-same-length
 same-length c = search needs
@@ -30,7 +24,10 @@ same-length-2 : tie.Need-same-length-2
 same-length-2 c = search needs
 
 returns : tie.Need-returns
-returns c = let a = c .before .before .before .before .before .before .before .before .before .before .before .args in in-mode (a .pen) _ (a .style) (a .a) (a .b) Zero _ (c .before .before .before .before .before .before .before .enum-told .given .1) (c .before .before .before .before .dashed .ensures)
+returns c = search needs
+
+drawn-anywhere-requires : tie.Need-drawn-anywhere-requires
+drawn-anywhere-requires c κs = search needs
 
 same-length-3 : tie.Need-same-length-3
 same-length-3 c = search needs
@@ -39,33 +36,20 @@ same-length-4 : tie.Need-same-length-4
 same-length-4 c = search needs
 
 returns-2 : tie.Need-returns-2
-returns-2 c = let a = c .before .before .before .before .before .before .before .before .before .before .before .args in in-mode (a .pen) _ (a .style) (a .a) (a .b) One _ (c .before .before .before .before .before .before .before .enum-told2 .given .1) (c .before .before .before .before .dashed2 .ensures)
-
-same-length-5 : tie.Need-same-length-5
-same-length-5 c = search needs
-
-same-length-6 : tie.Need-same-length-6
-same-length-6 c = search needs
-
-returns-3 : tie.Need-returns-3
-returns-3 c = let a = c .before .before .before .before .before .before .before .before .before .before .before .args in in-mode (a .pen) _ (a .style) (a .a) (a .b) Two _ (c .before .before .before .before .before .before .before .enum-told3 .given .1) (c .before .before .before .before .shaded .ensures)
+returns-2 c = search needs
 
 pub segment-spec : {M : Type 1} → statement M
 segment-spec =
     tie.close
     (tie.spec
-    enum-told
-    dashed-requires
-    enum-told-2
-    dashed-requires-2
-    enum-told-3
-    shaded-requires
+    has-ends-requires
+    is-open-requires
+    is-bare-requires
+    drawn-inside-requires
     same-length
     same-length-2
     returns
+    drawn-anywhere-requires
     same-length-3
     same-length-4
-    returns-2
-    same-length-5
-    same-length-6
-    returns-3)
+    returns-2)

@@ -1,61 +1,41 @@
 -- `course::place_at` meets its contract. Assumes nothing.
-use native.Mathlib.Omega.{arith}
-use Rattle.line.proofs.Courses.{course-place}
+use mathlib.Core.Path.{sym, ap, _∙_}
+use Rattle.picture.specs.Place.{placeOf}
+use Rattle.line.specs.declared.slope.Pixel.{Pixel}
 use borrow.Author.Needs.{needs}
 use Rattle.line.proofs.course.place_at.Statement.{statement}
 use Rattle.line.proofs.course.place_at.Tie as tie
 
-cast-lead : tie.Need-cast-lead
-cast-lead c = search needs
+whole-requires : tie.Need-whole-requires
+whole-requires c κs = search needs
 
-times-requires : tie.Need-times-requires
-times-requires c κs = search needs
+lies-plain-requires : tie.Need-lies-plain-requires
+lies-plain-requires c κs = search needs
 
-times-requires-2 : tie.Need-times-requires-2
-times-requires-2 c κs = search needs
-
-add-up : tie.Need-add-up
-add-up c = search needs
-
-times-requires-3 : tie.Need-times-requires-3
-times-requires-3 c κs = search needs
-
-times-requires-4 : tie.Need-times-requires-4
-times-requires-4 c κs = search needs
-
-add-down : tie.Need-add-down
-add-down c = search needs
-
-cast-result : tie.Need-cast-result
-cast-result c = search needs
-
-add-result : tie.Need-add-result
-add-result c = search needs
-
-sub-result : tie.Need-sub-result
-sub-result c =
-    let s = c .before .before .before .before .before .before .before in
-    let a = s .args in
-    omega (arith, course-place (a .pen .frame) (a .a) (a .b) (a .s) (a .k) (a .side) (a .c) (s .pre .0) (s .pre .1) (s .pre .2) (s .pre .3), c .before .before .before .before .times .ensures .0, c .before .before .before .times2 .ensures .0, c .before .before .times3 .ensures .0, c .before .times4 .ensures .0)
+place-in-rows-requires : tie.Need-place-in-rows-requires
+place-in-rows-requires c κs = let s = c .before .before .before .before in
+    (s .pre .0, s .pre .1 .on, c .before .before .whole .ensures ∙ s .pre .1 .side, sym (c .before .lies-plain .ensures) ∙ c .if1 .taken)
 
 returns : tie.Need-returns
-returns c =
-    let s = c .before .before .before .before .before .before .before in
-    let a = s .args in
-    omega (arith, course-place (a .pen .frame) (a .a) (a .b) (a .s) (a .k) (a .side) (a .c) (s .pre .0) (s .pre .1) (s .pre .2) (s .pre .3), c .before .before .before .before .times .ensures .0, c .before .before .before .times2 .ensures .0, c .before .before .times3 .ensures .0, c .before .times4 .ensures .0)
+returns c = search needs
+
+pixel-of-requires : tie.Need-pixel-of-requires
+pixel-of-requires c κs = let h = c .before .before .before .before .pre .1 in (h .on, c .before .before .whole .ensures ∙ h .side)
+
+place-requires : tie.Need-place-requires
+place-requires c κs = search needs
+
+returns-2 : tie.Need-returns-2
+returns-2 c = c .place .ensures .0 ∙ ap (λ (q : Pixel). placeOf (c .before .before .before .before .before .before .args .pen .frame) (q .x) (q .y)) (c .before .pixel-of .ensures)
 
 pub place-at-spec : {M : Type 1} → statement M
 place-at-spec =
     tie.close
     (tie.spec
-    cast-lead
-    times-requires
-    times-requires-2
-    add-up
-    times-requires-3
-    times-requires-4
-    add-down
-    cast-result
-    add-result
-    sub-result
-    returns)
+    whole-requires
+    lies-plain-requires
+    place-in-rows-requires
+    returns
+    pixel-of-requires
+    place-requires
+    returns-2)

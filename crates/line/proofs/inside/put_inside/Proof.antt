@@ -1,28 +1,33 @@
 -- `inside::put_inside` meets its contract: the step is offered, so it is drawn at its place. Assumes nothing.
-use mathlib.Core.Path.{refl, _∙_}
+use mathlib.Core.Path.{refl, ap, _∙_}
+use Prim.Native.Nat.{ℕ}
 use native.Mathlib.Omega.{arith}
 use lib.ListN.{length}
-use Rattle.picture.proofs.Offers.{keep-placed}
-use Rattle.line.specs.Segment.{xAt, yAt}
+use Rattle.picture.specs.Place.{rowsOf}
+use Rattle.picture.specs.Picture.{picture, stepAt}
+use Rattle.picture.proofs.Places.{place-below}
+use Rattle.picture.proofs.Offers.{offered-inside, keep-drawn}
+use Rattle.line.specs.Segment.{kindOf, xAt, yAt}
 use Rattle.line.specs.Step.{pixelAt}
-use Rattle.line.proofs.Steps.{side-told}
-use Rattle.line.proofs.Insides.{inside-plain, step-offered}
+use Rattle.line.proofs.Steps.{put-step, no-step}
+use Rattle.line.proofs.Insides.{step-offered}
+use Rattle.line.proofs.Loops.{inked-step, blank-step}
 use borrow.Author.Needs.{needs}
 use Rattle.line.proofs.inside.put_inside.Statement.{statement}
 use Rattle.line.proofs.inside.put_inside.Tie as tie
 
-number-requires : tie.Need-number-requires
-number-requires c κs = search needs
+ink-at-requires : tie.Need-ink-at-requires
+ink-at-requires c κs = search needs
 
 place-at-requires : tie.Need-place-at-requires
-place-at-requires c κs =
-    let s = c .before .before .before in
-    let h = s .pre .0 in
-    let a = s .args in
-    (s .pre .1, h .on, c .number .ensures ∙ side-told _ _ _ _ (h .on) (h .at-side) (omega (arith, s .good)), inside-plain (a .pen) _ (a .kind) (a .a) (a .b) (s .pre .2))
+place-at-requires c κs = (c .before .before .before .before .pre .1, c .before .before .before .before .pre .0)
 
-put-placed-requires : tie.Need-put-placed-requires
-put-placed-requires c κs = search needs
+put-bare-requires : tie.Need-put-bare-requires
+put-bare-requires c κs = let s = c .before .before .before .before .before .before .before in
+    let a = s .args in
+    let below = place-below (a .pen .frame) (length (a .im .now)) (length (a .zm .now)) (xAt (a .a) (a .b) (a .p .k)) (yAt (a .a) (a .b) (a .p .k))
+    (offered-inside (a .pen) (rowsOf (a .pen .frame) (length (a .im .now)) (length (a .zm .now))) (kindOf (a .style .mode)) (xAt (a .a) (a .b) (a .p .k)) (yAt (a .a) (a .b) (a .p .k)) (step-offered (a .pen) (rowsOf (a .pen .frame) (length (a .im .now)) (length (a .zm .now))) (kindOf (a .style .mode)) (a .a) (a .b) (a .s) (a .p .k) (s .pre .0 .on) (s .pre .3))) in
+    (s .pre .4, omega (arith, c .before .before .place-at .ensures, below .0), omega (arith, c .before .before .place-at .ensures, below .1))
 
 same-length : tie.Need-same-length
 same-length c = search needs
@@ -31,21 +36,28 @@ same-length-2 : tie.Need-same-length-2
 same-length-2 c = search needs
 
 returns : tie.Need-returns
-returns c =
-    let s = c .before .before .before .before .before .before .before .before .before .before .before in
+returns c = let s = c .before .before .before .before .before .before .before .before .before .before .before .before in
     let a = s .args in
-    c .before .before .before .before .put-placed .ensures
-    ∙ keep-placed (a .pen) (length (a .im .now)) (length (a .zm .now)) (a .kind) (xAt (a .a) (a .b) (a .k)) (yAt (a .a) (a .b) (a .k)) (a .i) (a .z) _ (a .im .now) (a .zm .now) 0 refl refl
-    (step-offered (a .pen) _ (a .kind) (a .a) (a .b) (a .s) (a .k) (pixelAt (a .a) (a .b) (a .k)) refl (s .pre .0 .on) (s .pre .2))
-    (c .before .before .before .before .before .before .before .place-at .ensures)
+    let ink = c .before .before .before .before .before .before .before .before .before .ink-at .result in
+    put-step (a .pen) (rowsOf (a .pen .frame) (length (a .im .now)) (length (a .zm .now))) _ (a .im .now) (a .zm .now)
+    (inked-step (a .pen) _ (a .style) (a .a) (a .b) (a .s) (a .p) (pixelAt (a .a) (a .b) (a .p .k)) (kindOf (a .style .mode)) ink (s .pre .0) refl refl (s .pre .2) (c .before .before .before .before .before .before .before .before .before .ink-at .ensures) (c .before .before .before .before .before .before .before .before .if1 .taken))
+    (keep-drawn (a .pen) (rowsOf (a .pen .frame) (length (a .im .now)) (length (a .zm .now))) (kindOf (a .style .mode)) (xAt (a .a) (a .b) (a .p .k)) (yAt (a .a) (a .b) (a .p .k)) (ink .i) (ink .z) _ _ (step-offered (a .pen) (rowsOf (a .pen .frame) (length (a .im .now)) (length (a .zm .now))) (kindOf (a .style .mode)) (a .a) (a .b) (a .s) (a .p .k) (s .pre .0 .on) (s .pre .3))
+    (c .before .before .before .before .put-bare .ensures ∙ ap (λ (at : ℕ). stepAt (a .pen) (kindOf (a .style .mode)) at (ink .i) (ink .z) (picture (a .im .now) (a .zm .now) 0)) (c .before .before .before .before .before .before .before .place-at .ensures)))
+
+returns-2 : tie.Need-returns-2
+returns-2 c = let s = c .before .before .before .before in
+    let a = s .args in
+    no-step (a .pen) (a .im .now) (a .zm .now)
+    (blank-step (a .pen) (rowsOf (a .pen .frame) (length (a .im .now)) (length (a .zm .now))) (a .style) (a .a) (a .b) (a .p) _ (s .pre .2) (c .before .ink-at .ensures) (c .if1 .left))
 
 pub put-inside-spec : {M : Type 1} → statement M
 put-inside-spec =
     tie.close
     (tie.spec
-    number-requires
+    ink-at-requires
     place-at-requires
-    put-placed-requires
+    put-bare-requires
     same-length
     same-length-2
-    returns)
+    returns
+    returns-2)

@@ -1,0 +1,74 @@
+-- A line's pixel by a pen that stores whole numbers, and depths where they are tested: the depth alone decides. Assumes nothing.
+use mathlib.Core.Path.{_≡_, refl, sym, ap₂}
+use mathlib.Core.Bool.{Bool, true, false, not, _&&_, _||_}
+use mathlib.Core.List.{List}
+use Prim.Native.Nat.{ℕ, _+_, _≤_, _<_}
+use native.Mathlib.Omega.{arith}
+use lib.ListN.{getD, set}
+use lib.Dec.{ltb, eqb}
+use borrow.Author.Tests.{ltb-true, ltb-false, eqb-true}
+use Rattle.picture.specs.declared.Pen.{Pen}
+use Rattle.picture.specs.declared.Kind.{Kind}
+use Rattle.picture.specs.Picture.{isDeep, isEdge, comparedOf, wins, passes, newI, newZ, picture, stepAt}
+use Rattle.picture.proofs.Places.{both}
+use Rattle.picture.proofs.Offers.{compared-nearer, compared-equal, compared-farther, passes-free, store-i, keep-z}
+use Rattle.picture.proofs.Rows.{in-all-planes}
+use Rattle.line.specs.declared.Mode.{Mode}
+use Rattle.line.specs.declared.Mode.the-variants.{Zero, One, Two}
+use Rattle.line.specs.Segment.{kindOf}
+use Rattle.line.specs.Field.{isBare}
+
+-- lines with depths are edges
+pub deep-edge : (m : Mode) → isDeep (kindOf m) ≡ true → isEdge (kindOf m) ≡ true
+deep-edge Zero e = e
+deep-edge One e = e
+deep-edge Two e = refl
+
+-- an edge wins where it is no farther
+edge-wins : (kind : Kind) (z old : ℕ) → isEdge kind ≡ true → z ≤ old → wins kind (comparedOf z old) ≡ true
+edge-wins kind z old e h = go (ltb z old) refl
+  where
+    go : (t : Bool) → ltb z old ≡ t → wins kind (comparedOf z old) ≡ true
+    go true t = rw (compared-nearer z old (ltb-true z old t))
+    go false t =
+        let u = ltb-false z old t in
+        let s : z ≡ old = omega arith in
+        rw (compared-equal z old s) e
+
+edge-loses : (kind : Kind) (z old : ℕ) → old < z → wins kind (comparedOf z old) ≡ false
+edge-loses kind z old h = rw (compared-farther z old (omega arith) (λ e. absurd (omega arith)))
+
+module _ (pen : Pen) (kind : Kind) (bare : isBare pen kind ≡ true) where
+  -- numbers are stored whole
+  numbers : (pen .ienable ≡ true) × (pen .planes ≡ 65535)
+  numbers =
+      let u = both (not (isDeep kind) || (pen .depth && pen .zenable)) (pen .ienable && eqb (pen .planes) 65535) bare in
+      let v = both (pen .ienable) (eqb (pen .planes) 65535) (u .1) in
+      (v .0, eqb-true _ _ (v .1))
+
+  -- and depths where they are tested
+  depths : isDeep kind ≡ true → (pen .depth ≡ true) × (pen .zenable ≡ true)
+  depths e =
+      let u = both (not (isDeep kind) || (pen .depth && pen .zenable)) (pen .ienable && eqb (pen .planes) 65535) bare in
+      both (pen .depth) (pen .zenable) (rw e at (u .0))
+
+  module _ (at i z : ℕ) (im zm : List ℕ) (n : ℕ) (h : i ≤ 65535) where
+    pub bare-near : isDeep kind ≡ true → isEdge kind ≡ true → z ≤ getD zm at 0
+        → picture (set im at i) (set zm at z) (n + 1) ≡ stepAt pen kind at i z (picture im zm n)
+    unfolding stepAt passes newI newZ
+    bare-near d e l =
+        rw (d, depths d .0, depths d .1, numbers .0, numbers .1, edge-wins kind z (getD zm at 0) e l, in-all-planes (getD im at 0) i h)
+
+    pub bare-far : isDeep kind ≡ true → getD zm at 0 < z → picture im zm n ≡ stepAt pen kind at i z (picture im zm n)
+    unfolding stepAt passes
+    bare-far d l = rw (d, depths d .0, edge-loses kind z (getD zm at 0) l)
+
+    pub bare-ink : isDeep kind ≡ false → picture (set im at i) zm (n + 1) ≡ stepAt pen kind at i z (picture im zm n)
+    unfolding stepAt
+    bare-ink d =
+        rw (passes-free pen kind z (getD zm at 0) (none (pen .depth)))
+        (ap₂ (λ (a b : List ℕ). picture a b (n + 1)) (store-i pen im at i i (numbers .0) (rw (numbers .1) (sym (in-all-planes (getD im at 0) i h)))) (keep-z pen zm at kind z (none (pen .zenable))))
+      where
+        none : (t : Bool) → t && isDeep kind ≡ false
+        none true = d
+        none false = refl

@@ -1,0 +1,53 @@
+-- `anywhere::put_step` meets its contract: by whether the step has ink at all. Assumes nothing.
+use mathlib.Core.Path.{_∙_}
+use lib.ListN.{length}
+use Rattle.picture.specs.Place.{rowsOf}
+use Rattle.line.proofs.Steps.{put-step, no-step}
+use Rattle.line.proofs.Loops.{inked-step, blank-step}
+use borrow.Author.Needs.{needs}
+use Rattle.line.proofs.anywhere.put_step.Statement.{statement}
+use Rattle.line.proofs.anywhere.put_step.Tie as tie
+
+ink-at-requires : tie.Need-ink-at-requires
+ink-at-requires c κs = search needs
+
+whole-requires : tie.Need-whole-requires
+whole-requires c κs = search needs
+
+pixel-of-requires : tie.Need-pixel-of-requires
+pixel-of-requires c κs = let h = c .before .before .before .before .before .pre .0 in (h .on, c .whole .ensures ∙ h .side)
+
+put-pixel-requires : tie.Need-put-pixel-requires
+put-pixel-requires c κs = c .before .before .before .before .before .before .before .before .pre .3
+
+same-length : tie.Need-same-length
+same-length c = search needs
+
+same-length-2 : tie.Need-same-length-2
+same-length-2 c = search needs
+
+returns : tie.Need-returns
+returns c = let s = c .before .before .before .before .before .before .before .before .before .before .before .before .before in
+    let a = s .args in
+    put-step (a .pen) (rowsOf (a .pen .frame) (length (a .im .now)) (length (a .zm .now))) _ (a .im .now) (a .zm .now)
+    (inked-step (a .pen) _ (a .style) (a .a) (a .b) (a .s) (a .p) _ (a .kind) _ (s .pre .0) (c .before .before .before .before .before .before .before .pixel-of .ensures) (s .pre .1) (s .pre .2) (c .before .before .before .before .before .before .before .before .before .before .ink-at .ensures) (c .before .before .before .before .before .before .before .before .before .if1 .taken))
+    (c .before .before .before .before .put-pixel .ensures)
+
+returns-2 : tie.Need-returns-2
+returns-2 c = let s = c .before .before .before .before in
+    let a = s .args in
+    no-step (a .pen) (a .im .now) (a .zm .now)
+    (blank-step (a .pen) (rowsOf (a .pen .frame) (length (a .im .now)) (length (a .zm .now))) (a .style) (a .a) (a .b) (a .p) _ (s .pre .2) (c .before .ink-at .ensures) (c .if1 .left))
+
+pub put-step-spec : {M : Type 1} → statement M
+put-step-spec =
+    tie.close
+    (tie.spec
+    ink-at-requires
+    whole-requires
+    pixel-of-requires
+    put-pixel-requires
+    same-length
+    same-length-2
+    returns
+    returns-2)

@@ -1,0 +1,48 @@
+-- A segment walked from step to step: how far it moves to the side, and its two numbers, each carried as 2 ^ 48 times itself and a part
+-- (picture's `Carried`).
+use mathlib.Core.Path.{_≡_}
+use Prim.Native.Nat.{ℕ, _+_, _*_, _/_, _%_, _^_, _≤_}
+use Rattle.picture.specs.declared.Carried.{Carried}
+use Rattle.picture.specs.declared.Vertex.{Vertex}
+use Rattle.picture.specs.Draw.{carriedTo}
+use Rattle.line.specs.declared.slope.Slope.{Slope}
+use Rattle.line.specs.declared.walk.Walk.{Walk}
+use Rattle.line.specs.declared.walk.Step.{Step}
+use Rattle.line.specs.Segment.{sideAt, numberAt}
+use Rattle.line.specs.Step.{OnStep}
+
+-- what is carried tells the number of each step of n between two numbers
+pub record Tells (n first second : ℕ) (c : Carried) : Type 0 where
+  pub told : (k : ℕ) → k ≤ n → carriedTo c k ≡ numberAt n k first second
+
+-- what a walk along the segment from a to b carries: a number from 0 to m for the side, and the vertices' numbers
+pub record Carries (a b : Vertex) (s : Slope) (w : Walk) : Type 0 where
+  pub side : Tells (s .n) 0 (s .m) (w .side)
+  pub i : Tells (s .n) (a .i) (b .i) (w .i)
+  pub z : Tells (s .n) (a .z) (b .z) (w .z)
+
+-- what is carried at a step is what each step adds, so many times
+pub record Stands (w : Walk) (p : Step) : Type 0 where
+  pub side : p .side ≡ (w .side .first + p .k * w .side .add) % 2 ^ 64
+  pub i : p .i ≡ (w .i .first + p .k * w .i .add) % 2 ^ 64
+  pub z : p .z ≡ (w .z .first + p .k * w .z .add) % 2 ^ 64
+
+-- step 0, and a step on
+abbrev pub startOf : Walk → Step
+startOf w = record { k = 0; side = w .side .first; i = w .i .first; z = w .z .first }
+
+abbrev pub nextOf : Walk → Step → Step
+nextOf w p =
+    record {
+      k = p .k + 1;
+      side = (p .side + w .side .add) % 2 ^ 64;
+      i = (p .i + w .i .add) % 2 ^ 64;
+      z = (p .z + w .z .add) % 2 ^ 64;
+    }
+
+-- a step of the segment from a to b, where what is carried tells its side and its numbers
+pub record OnWalk (a b : Vertex) (s : Slope) (p : Step) : Type 0 where
+  pub on : OnStep a b s (p .k)
+  pub side : p .side / 2 ^ 48 ≡ sideAt (s .n) (s .m) (p .k)
+  pub i : p .i / 2 ^ 48 ≡ numberAt (s .n) (p .k) (a .i) (b .i)
+  pub z : p .z / 2 ^ 48 ≡ numberAt (s .n) (p .k) (a .z) (b .z)

@@ -1,0 +1,98 @@
+// A walk along a segment: how far a step moves to the side, and its two numbers, each carried as 2^48 times itself and a part, with one
+// division at the start and none later.
+ghost use mathlib.Core.Path.{_≡_};
+ghost use Prim.Native.Nat.{_/_, _^_, _≤_};
+ghost use Rattle.line.specs.Segment.{firstOf};
+ghost use Rattle.line.specs.Walk.{Tells, Carries, Stands, nextOf};
+use crate::slope::Slope;
+use picture::Carried;
+use picture::Vertex;
+
+// What stays from step to step.
+pub(crate) struct Walk {
+    pub(crate) side: Carried,
+    pub(crate) i: Carried,
+    pub(crate) z: Carried,
+}
+
+// Step k, and what is carried there.
+pub(crate) struct Step {
+    pub(crate) k: u64,
+    pub(crate) side: u64,
+    pub(crate) i: u64,
+    pub(crate) z: u64,
+}
+
+// A number that goes evenly from one to another in n steps. It starts with a half more, since numbers are rounded to the nearest, and what a
+// step adds is rounded up: in so few steps that makes no number larger.
+fn carried(n: u16, first: u16, second: u16) -> Carried
+    ensures { λ r. ⌜ Tells n first second r ⌝ }
+{
+    if n == 0 {
+        return Carried {
+            first: (second as u64) * 281474976710656,
+            add: 0,
+        };
+    }
+    let steps = n as u64;
+    let start = (first as u64) * 281474976710656 + 140737488355328;
+    if first <= second {
+        let rise = ((second - first) as u64) * 281474976710656;
+        return Carried {
+            first: start,
+            add: (rise + (steps - 1)) / steps,
+        };
+    }
+    let fall = ((first - second) as u64) * 281474976710656;
+    let add = std::num::wrapping_sub_u64(0, fall / steps);
+    Carried { first: start, add }
+}
+
+// The walk from a to b.
+pub(crate) fn walk_of(a: Vertex, b: Vertex, s: Slope) -> Walk
+    ensures { λ r. ⌜ Carries a b s r ⌝ }
+{
+    let side = carried(s.n, 0, s.m);
+    let i = carried(s.n, a.i, b.i);
+    let z = carried(s.n, a.z, b.z);
+    Walk { side, i, z }
+}
+
+// The number of what is carried.
+pub(crate) fn whole(k: u64) -> u16
+    ensures { λ r. ⌜ r ≡ k / 2 ^ 48 ⌝ }
+{
+    (k >> 48) as u16
+}
+
+// A step on.
+pub(crate) fn next(w: Walk, p: Step) -> Step
+    requires { ⌜ p .k ≤ 65535 ⌝ }
+    ensures { λ r. ⌜ r ≡ nextOf w p ⌝ }
+{
+    let side = std::num::wrapping_add_u64(p.side, w.side.add);
+    let i = std::num::wrapping_add_u64(p.i, w.i.add);
+    let z = std::num::wrapping_add_u64(p.z, w.z.add);
+    Step {
+        k: p.k + 1,
+        side,
+        i,
+        z,
+    }
+}
+
+// The first step that is drawn: a segment that is joined to the one before it leaves out step 0.
+pub(crate) fn begin(w: Walk, joined: bool) -> Step
+    ensures { λ r. ⌜ Stands w r × (r .k ≡ firstOf joined) ⌝ }
+{
+    let p = Step {
+        k: 0,
+        side: w.side.first,
+        i: w.i.first,
+        z: w.z.first,
+    };
+    if joined {
+        return next(w, p);
+    }
+    p
+}
