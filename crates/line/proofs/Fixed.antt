@@ -1,9 +1,9 @@
 -- Why what is carried along a segment tells its numbers. With V what is carried but for the half, V times n is 2 ^ 48 times the sum
 -- (n−k)·first + k·second, and less than n more for each step, since what a step adds is rounded up: far less than 2 ^ 48, so that the quotient
 -- is the same. Assumes nothing.
-use mathlib.Core.Path.{_≡_, refl, sym, ap, _∙_}
-use Prim.Native.Nat.{ℕ, zero, suc, _+_, _-_, _*_, _/_, _%_, _^_, _≤_, _<_}
-use native.Mathlib.Nat.{add-mul, mul-add, mul-assoc, mul-comm, mul-left-comm, mul-le-mul, mul-le-mul-left, mul-le-mul-right, div-add-mod', mod-lt, mod-eq-of-lt, div-lt-iff-lt-mul, sub-add-cancel, lt-div-mul-add, le-div-iff-mul-le, le-refl, zero-mul, add-zero, mul-zero}
+use mathlib.Core.Path.{_≡_, sym, ap, _∙_}
+use Prim.Native.Nat.{ℕ, _+_, _-_, _*_, _/_, _%_, _^_, _≤_, _<_}
+use native.Mathlib.Nat.{add-mul, mul-add, mul-assoc, mul-comm, mul-left-comm, mul-le-mul, mul-le-mul-left, mul-le-mul-right, div-add-mod', mod-lt, mod-eq-of-lt, div-lt-iff-lt-mul, sub-add-cancel}
 use native.Mathlib.Omega.{arith}
 use lib.Arith.{digits-mod}
 use borrow.Author.Tests.{ne-eqb}

@@ -3,18 +3,17 @@
 use mathlib.Core.Path.{_≡_, refl, sym, ap, _∙_}
 use mathlib.Core.Bool.{Bool, true, false, cond, true≢false}
 use mathlib.Core.List.{List, []}
-use Prim.Native.Nat.{ℕ, _+_, _*_, _%_, _/_, _^_, _≤_, _<_}
+use Prim.Native.Nat.{ℕ, _+_, _/_, _^_, _≤_, _<_}
 use native.Mathlib.Omega.{arith}
 use lib.ListN.{length}
 use borrow.Author.Tests.{lt-ltb, le-ltb}
-use Rattle.picture.specs.declared.Carried.{Carried}
 use Rattle.picture.specs.declared.Pen.{Pen}
 use Rattle.picture.specs.declared.Kind.{Kind}
 use Rattle.picture.specs.declared.Vertex.{Vertex}
 use Rattle.picture.specs.Place.{rowsOf}
 use Rattle.picture.specs.Offer.{Offer, offer, keep}
-use Rattle.picture.specs.Draw.{spans, carriedTo}
-use Rattle.picture.specs.Picture.{Picture, picture, drawn}
+use Rattle.picture.specs.Draw.{spans}
+use Rattle.picture.specs.Picture.{picture, drawn}
 use Rattle.picture.proofs.Spans.{Reached, reached-start, reached-add, reached-i, reached-z}
 use Rattle.picture.proofs.Rows.{carried-start, carried-next, carried-at}
 use Rattle.line.specs.declared.Mode.{Mode}
@@ -25,7 +24,7 @@ use Rattle.line.specs.declared.walk.Walk.{Walk}
 use Rattle.line.specs.declared.walk.Step.{Step}
 use Rattle.line.specs.declared.pattern.Ink.{Ink}
 use Rattle.line.specs.declared.slope.Pixel.{Pixel}
-use Rattle.line.specs.Segment.{larger, smaller, sideAt, numberAt, xAt, yAt, isSet, firstOf, from, dashOffers, shadeOffers, stepOffers, segmentOffers, kindOf}
+use Rattle.line.specs.Segment.{larger, numberAt, xAt, yAt, isSet, firstOf, from, dashOffers, shadeOffers, stepOffers, kindOf}
 use Rattle.line.specs.Step.{slopeOf, pixelAt, OnStep}
 use Rattle.line.specs.Ink.{inkOf, joinedIn}
 use Rattle.line.specs.Walk.{Carries, Stands, startOf, nextOf, OnWalk}

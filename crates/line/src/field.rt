@@ -1,9 +1,6 @@
 // Where a segment may draw: what is asked of a step's pixel before it is drawn.
 ghost use mathlib.Core.Path.{_≡_};
-ghost use mathlib.Core.Bool.{not, _||_};
-ghost use lib.Dec.{eqb};
 ghost use Rattle.picture.specs.Place.{rowsOf};
-ghost use Rattle.picture.specs.Offer.{isMasked};
 ghost use Rattle.line.specs.Segment.{kindOf};
 ghost use Rattle.line.specs.Field.{within, endsWithin, isOpen, liesWhole, fieldOf, isBare};
 use crate::Mode;

@@ -1,7 +1,7 @@
 -- `anywhere::drawn_anywhere` meets its contract. The invariant of its loop: the steps below that where the walk stands are drawn. The measure
 -- is the steps that are left. Assumes nothing.
 use mathlib.Core.Path.{refl, ap, _∙_}
-use Prim.Native.Nat.{_+_, _-_, _≤_}
+use Prim.Native.Nat.{_+_, _-_}
 use native.Mathlib.Omega.{arith}
 use Rattle.picture.proofs.Spans.{reached-i, reached-z}
 use Rattle.line.specs.declared.walk.Step.{Step}
@@ -47,7 +47,7 @@ loop-holds c = let a = c .before .before .before .before .before .before .before
 
 put-step-requires : tie.Need-put-step-requires Inv-loop μ-loop
 put-step-requires c κs = let h = c .before .before .before .before .loop .inv in
-    (walked-on h (c .before .before .if1 .taken), c .before .before .before .before .before .before .before .kind-of .ensures, h .begun, rw (c .before .before .before .before .before .before .before .kind-of .ensures, walked-rows h) (c .before .before .before .before .before .before .before .before .field-of .ensures))
+    (walked-on h (omega (arith, c .before .before .if1 .taken)), c .before .before .before .before .before .before .before .kind-of .ensures, h .begun, rw (c .before .before .before .before .before .before .before .kind-of .ensures, walked-rows h) (c .before .before .before .before .before .before .before .before .field-of .ensures))
 
 add-passed : tie.Need-add-passed Inv-loop μ-loop
 add-passed c = let h = c .before .before .before .before .before .before .before .before .before .loop .inv in omega (arith, h .count, h .small, c .before .before .before .before .before .before .before .if1 .taken, c .before .before .before .before .put-step .ensures .1)
@@ -59,7 +59,7 @@ loop-less : tie.Need-loop-less Inv-loop μ-loop
 loop-less c = omega (arith, ap (λ (p : Step). p .k) (c .next .ensures), c .before .before .before .before .before .before .before .before .if1 .taken)
 
 loop-again : tie.Need-loop-again Inv-loop μ-loop
-loop-again c = let d = c .before .before .before .before .before .put-step .ensures in walked-next (c .before .before .before .before .before .before .before .before .before .before .loop .inv) (c .before .before .before .before .before .before .before .before .if1 .taken) (d .0) (d .1) (c .next .ensures)
+loop-again c = let d = c .before .before .before .before .before .put-step .ensures in walked-next (c .before .before .before .before .before .before .before .before .before .before .loop .inv) (omega (arith, c .before .before .before .before .before .before .before .before .if1 .taken)) (d .0) (d .1) (c .next .ensures)
 
 same-length : tie.Need-same-length Inv-loop μ-loop
 same-length c = reached-i (c .before .before .loop .inv .so-far)
@@ -69,7 +69,7 @@ same-length-2 c = reached-z (c .before .before .loop .inv .so-far)
 
 returns : tie.Need-returns Inv-loop μ-loop
 unfolding segmentOffers
-returns c = walked-end (c .before .before .loop .inv) (c .if1 .left)
+returns c = walked-end (c .before .before .loop .inv) (omega (arith, c .if1 .left))
 
 pub drawn-anywhere-spec : {M : Type 1} → statement M
 drawn-anywhere-spec =

@@ -45,7 +45,7 @@ loop-holds c = let a = c .before .before .before .before .before .before .before
 put-inside-requires : tie.Need-put-inside-requires Inv-loop μ-loop
 put-inside-requires c κs = let h = c .before .before .before .before .loop .inv in
     let s = c .before .before .before .before .before .before .before .before .before .before .before .before .before in
-    (walked-on h (c .before .before .if1 .taken), c .before .before .before .before .before .before .before .course-of .ensures, h .begun, rw (walked-rows h) (s .pre .0), s .pre .1)
+    (walked-on h (omega (arith, c .before .before .if1 .taken)), c .before .before .before .before .before .before .before .course-of .ensures, h .begun, rw (walked-rows h) (s .pre .0), s .pre .1)
 
 add-passed : tie.Need-add-passed Inv-loop μ-loop
 add-passed c = let h = c .before .before .before .before .before .before .before .before .before .loop .inv in omega (arith, h .count, h .small, c .before .before .before .before .before .before .before .if1 .taken, c .before .before .before .before .put-inside .ensures .1)
@@ -57,7 +57,7 @@ loop-less : tie.Need-loop-less Inv-loop μ-loop
 loop-less c = omega (arith, ap (λ (p : Step). p .k) (c .next .ensures), c .before .before .before .before .before .before .before .before .if1 .taken)
 
 loop-again : tie.Need-loop-again Inv-loop μ-loop
-loop-again c = let d = c .before .before .before .before .before .put-inside .ensures in walked-next (c .before .before .before .before .before .before .before .before .before .before .loop .inv) (c .before .before .before .before .before .before .before .before .if1 .taken) (d .0) (d .1) (c .next .ensures)
+loop-again c = let d = c .before .before .before .before .before .put-inside .ensures in walked-next (c .before .before .before .before .before .before .before .before .before .before .loop .inv) (omega (arith, c .before .before .before .before .before .before .before .before .if1 .taken)) (d .0) (d .1) (c .next .ensures)
 
 same-length : tie.Need-same-length Inv-loop μ-loop
 same-length c = reached-i (c .before .before .loop .inv .so-far)
@@ -67,7 +67,7 @@ same-length-2 c = reached-z (c .before .before .loop .inv .so-far)
 
 returns : tie.Need-returns Inv-loop μ-loop
 unfolding segmentOffers
-returns c = walked-end (c .before .before .loop .inv) (c .if1 .left)
+returns c = walked-end (c .before .before .loop .inv) (omega (arith, c .if1 .left))
 
 pub drawn-inside-spec : {M : Type 1} → statement M
 drawn-inside-spec =
