@@ -1,5 +1,5 @@
 -- What the code of a triangle leans on. No promise of a public call cites anything here.
-use Prim.Native.Nat.{ℕ, _+_, _*_, _/_, _%_, _^_, _≤_, _<_, min, max}
+use Prim.Native.Nat.{ℕ, _+_, _-_, _*_, _/_, _%_, _^_, _≤_, _<_, min, max}
 use mathlib.Core.Path.{_≡_}
 use mathlib.Core.Bool.{Bool, true, false}
 use Rattle.picture.specs.declared.Vertex.{Vertex}
@@ -8,6 +8,7 @@ use Rattle.picture.specs.Draw.{carriedTo}
 use Rattle.triangle.specs.declared.Corners.{Corners}
 use Rattle.triangle.specs.declared.Edges.{Edges}
 use Rattle.triangle.specs.declared.Span.{Span}
+use Rattle.triangle.specs.declared.Height.{Height}
 use Rattle.triangle.specs.declared.Slopes.{Slopes}
 use Rattle.triangle.specs.declared.Shades.{Shades}
 use Rattle.triangle.specs.declared.Shades.the-variants.{Flat, Carried, Divided}
@@ -42,6 +43,12 @@ pub record Ready (t : Corners) (d : ℕ) (e : Edges) : Type 0 where
 abbrev pub short : Bool → ℕ
 short true = 0
 short false = 1
+
+-- h is the height of the edge from a to b, with its reciprocal
+pub record Measures (a b : Vertex) (h : Height) : Type 0 where
+  pub is : h .tall ≡ a .y - b .y + (b .y - a .y)
+  pub least : 0 < h .tall → 281474976710656 ≤ h .inv * h .tall
+  pub most : 0 < h .tall → h .inv * h .tall ≤ 281474976710656 + h .tall
 
 -- the edge from a to b leaves the pixel inside
 pub record Keeps (a b : Vertex) (x y : ℕ) : Type 0 where

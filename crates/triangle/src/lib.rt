@@ -35,6 +35,12 @@ pub(crate) struct Span {
     pub(crate) hi: usize,
 }
 
+// An edge's height, and 2^48 over it and a little more.
+pub(crate) struct Height {
+    pub(crate) tall: usize,
+    pub(crate) inv: usize,
+}
+
 // How the numbers of a triangle are carried along its rows: the factor of a sum, or `long` for sums that want divisions in each row, and what
 // a step to the right adds to I and to Z, modulo 2^64.
 pub(crate) struct Slopes {

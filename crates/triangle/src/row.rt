@@ -2,8 +2,9 @@
 ghost use mathlib.Core.Path.{_≡_};
 ghost use Prim.Native.Nat.{_+_, _*_, _/_, _<_, _≤_};
 ghost use Rattle.triangle.specs.Edge.{closed};
-ghost use Rattle.triangle.specs.Loops.{short, Cuts, Spanned};
+ghost use Rattle.triangle.specs.Loops.{short, Measures, Cuts, Spanned};
 use crate::Corners;
+use crate::Height;
 use crate::Span;
 use crate::cover::edge_at;
 use crate::cover::gap;
@@ -42,9 +43,18 @@ fn over(v: usize, tall: usize, inv: usize) -> usize
     v / tall
 }
 
-// What the edge from a to b keeps of the columns s of row y.
-fn cut(a: Vertex, b: Vertex, y: usize, s: Span) -> Span
-    requires { ⌜ y ≤ 65535 ⌝ }
+// The height of the edge from a to b, with its reciprocal.
+fn height_of(a: Vertex, b: Vertex) -> Height
+    ensures { λ h. ⌜ Measures a b h ⌝ }
+{
+    let tall = gap(a.y as usize, b.y as usize);
+    let inv = inverse(tall);
+    Height { tall, inv }
+}
+
+// What the edge from a to b, of height h, keeps of the columns s of row y.
+fn cut(a: Vertex, b: Vertex, h: Height, y: usize, s: Span) -> Span
+    requires { ⌜ (y ≤ 65535) × (Measures a b h) ⌝ }
     ensures { λ r. ⌜ Cuts a b y s r ⌝ }
 {
     let e = edge_at(a, b, 0, y);
@@ -52,13 +62,11 @@ fn cut(a: Vertex, b: Vertex, y: usize, s: Span) -> Span
     let minus = e.minus + short_of(a, b);
     let ay = a.y as usize;
     let by = b.y as usize;
-    let tall = gap(ay, by);
-    let inv = inverse(tall);
     if by < ay {
         if minus <= plus {
             return s;
         }
-        let first = over(minus - plus - 1, tall, inv) + 1;
+        let first = over(minus - plus - 1, h.tall, h.inv) + 1;
         return Span {
             lo: most(s.lo, first),
             hi: s.hi,
@@ -68,7 +76,7 @@ fn cut(a: Vertex, b: Vertex, y: usize, s: Span) -> Span
         return Span { lo: s.lo, hi: 0 };
     }
     if ay < by {
-        let end = over(plus - minus, tall, inv) + 1;
+        let end = over(plus - minus, h.tall, h.inv) + 1;
         return Span {
             lo: s.lo,
             hi: least(s.hi, end),
@@ -77,19 +85,23 @@ fn cut(a: Vertex, b: Vertex, y: usize, s: Span) -> Span
     s
 }
 
-// The covered columns of row y within the window and the memory.
+// The covered columns of row y within the window and the memory. The heights come first, before anything branches: so the compiler takes their
+// divisions out of the loop over the rows.
 pub(crate) fn spanned(pen: Pen, t: Corners, y: u16) -> Span
     ensures { λ r. ⌜ Spanned pen t y r ⌝ }
 {
     let a = t.a;
     let b = t.b;
     let c = t.c;
+    let ab = height_of(a, b);
+    let bc = height_of(b, c);
+    let ca = height_of(c, a);
     let hi = least(pen.frame.line as usize, pen.right as usize + 1);
     let s = Span {
         lo: pen.left as usize,
         hi,
     };
-    let p = cut(a, b, y as usize, s);
-    let q = cut(b, c, y as usize, p);
-    cut(c, a, y as usize, q)
+    let p = cut(a, b, ab, y as usize, s);
+    let q = cut(b, c, bc, y as usize, p);
+    cut(c, a, ca, y as usize, q)
 }

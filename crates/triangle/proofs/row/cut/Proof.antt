@@ -20,7 +20,7 @@ eqs k =
     (ap (λ (e : Edge). e .plus) e, omega (arith, ap (λ (e : Edge). e .minus) e, k .short-of .ensures .0))
 
 edge-at-requires : tie.Need-edge-at-requires
-edge-at-requires c κs = search needs
+edge-at-requires c κs = (omega arith, c .pre .0)
 
 short-of-requires : tie.Need-short-of-requires
 short-of-requires c κs = search needs
@@ -34,14 +34,8 @@ cast-ay c = search needs
 cast-by : tie.Need-cast-by
 cast-by c = search needs
 
-gap-requires : tie.Need-gap-requires
-gap-requires c κs = search needs
-
-inverse-requires : tie.Need-inverse-requires
-inverse-requires c κs = search needs
-
 returns : tie.Need-returns
-returns c = let k = c .before .before .before .before .before .before .before in let a = k .before .before .args in let e = eqs k in cut-all (a .a) (a .b) (a .y) (a .s) _ _ (e .0) (e .1) (omega (arith, c .before .if1 .taken)) (search needs)
+returns c = let k = c .before .before .before .before .before in let a = k .before .before .args in let e = eqs k in cut-all (a .a) (a .b) (a .y) (a .s) _ _ (e .0) (e .1) (omega (arith, c .before .if1 .taken)) (search needs)
 
 sub-over : tie.Need-sub-over
 sub-over c = search needs
@@ -51,67 +45,65 @@ sub-over-2 c = search needs
 
 over-requires : tie.Need-over-requires
 over-requires c κs =
-    let s = c .before .before .before .before .before .before .before .before .before in
-    let far = c .before .before .before .gap .ensures in
-    let some : 0 < c .before .before .before .gap .result = omega (arith, far, c .before .if1 .taken) in
-    let near = c .before .before .inverse .ensures some in
-    (some, omega (arith, far, s .good .0, s .good .1 .0), near .0, near .1)
+    let s = c .before .before .before .before .before .before .before in
+    let m = s .pre .1 in
+    let some : 0 < s .args .h .tall = omega (arith, m .is, c .before .if1 .taken) in
+    (some, omega (arith, m .is, s .good .0, s .good .1 .0), m .least some, m .most some)
 
 add-first : tie.Need-add-first
 add-first c =
-    let k = c .before .before .before .before .before .before .before .before in
+    let k = c .before .before .before .before .before .before in
     let r = k .before .edge-at .result in
-    omega (arith, c .over .ensures, div-le-self (r .minus + k .short-of .result - r .plus - 1) (c .before .before .before .before .gap .result), k .before .edge-at .ensures .2, k .short-of .ensures .1)
+    omega (arith, c .over .ensures, div-le-self (r .minus + k .short-of .result - r .plus - 1) (k .before .before .args .h .tall), k .before .edge-at .ensures .2, k .short-of .ensures .1)
 
 most-requires : tie.Need-most-requires
 most-requires c κs = search needs
 
 returns-2 : tie.Need-returns-2
 returns-2 c =
-    let k = c .before .before .before .before .before .before .before .before .before in
+    let k = c .before .before .before .before .before .before .before in
     let a = k .before .before .args in
     let r = k .before .edge-at .result in
     let e = eqs k in
     let falls = c .before .before .before .if1 .taken in
-    let tall : c .before .before .before .before .before .gap .result ≡ a .a .y - a .b .y = omega (arith, c .before .before .before .before .before .gap .ensures, falls) in
+    let tall : a .h .tall ≡ a .a .y - a .b .y = omega (arith, k .before .before .pre .1 .is, falls) in
     rw (c .most .ensures)
     (cut-first (a .a) (a .b) (a .y) (a .s) _ _ (e .0) (e .1) _ falls (c .before .before .if2 .left)
     (ap (λ (q : ℕ). q + 1) (c .before .over .ensures ∙ ap (λ (h : ℕ). (r .minus + k .short-of .result - r .plus - 1) / h) tall)))
 
 returns-3 : tie.Need-returns-3
-returns-3 c = let k = c .before .before .before .before .before .before .before in let a = k .before .before .args in let e = eqs k in cut-none (a .a) (a .b) (a .y) (a .s) _ _ (e .0) (e .1) (c .before .if1 .left) (c .if3 .taken)
+returns-3 c = let k = c .before .before .before .before .before in let a = k .before .before .args in let e = eqs k in cut-none (a .a) (a .b) (a .y) (a .s) _ _ (e .0) (e .1) (c .before .if1 .left) (c .if3 .taken)
 
 over-requires-2 : tie.Need-over-requires-2
 over-requires-2 c κs =
-    let s = c .before .before .before .before .before .before .before .before .before .before in
-    let far = c .before .before .before .before .gap .ensures in
-    let some : 0 < c .before .before .before .before .gap .result = omega (arith, far, c .if4 .taken) in
-    let near = c .before .before .before .inverse .ensures some in
-    (some, omega (arith, far, s .good .0, s .good .1 .0), near .0, near .1)
+    let s = c .before .before .before .before .before .before .before .before in
+    let m = s .pre .1 in
+    let some : 0 < s .args .h .tall = omega (arith, m .is, c .if4 .taken) in
+    (some, omega (arith, m .is, s .good .0, s .good .1 .0), m .least some, m .most some)
 
 add-end : tie.Need-add-end
 add-end c =
-    let k = c .before .before .before .before .before .before .before .before .before in
+    let k = c .before .before .before .before .before .before .before in
     let r = k .before .edge-at .result in
-    omega (arith, c .over2 .ensures, div-le-self (r .plus - (r .minus + k .short-of .result)) (c .before .before .before .before .before .gap .result), k .before .edge-at .ensures .1)
+    omega (arith, c .over2 .ensures, div-le-self (r .plus - (r .minus + k .short-of .result)) (k .before .before .args .h .tall), k .before .edge-at .ensures .1)
 
 least-requires : tie.Need-least-requires
 least-requires c κs = search needs
 
 returns-4 : tie.Need-returns-4
 returns-4 c =
-    let k = c .before .before .before .before .before .before .before .before .before .before in
+    let k = c .before .before .before .before .before .before .before .before in
     let a = k .before .before .args in
     let r = k .before .edge-at .result in
     let e = eqs k in
     let rises = c .before .before .if4 .taken in
-    let tall : c .before .before .before .before .before .before .gap .result ≡ a .b .y - a .a .y = omega (arith, c .before .before .before .before .before .before .gap .ensures, rises) in
+    let tall : a .h .tall ≡ a .b .y - a .a .y = omega (arith, k .before .before .pre .1 .is, rises) in
     rw (c .least .ensures)
     (cut-end (a .a) (a .b) (a .y) (a .s) _ _ (e .0) (e .1) _ rises (c .before .before .before .if3 .left)
     (ap (λ (q : ℕ). q + 1) (c .before .over2 .ensures ∙ ap (λ (h : ℕ). (r .plus - (r .minus + k .short-of .result)) / h) tall)))
 
 returns-5 : tie.Need-returns-5
-returns-5 c = let k = c .before .before .before .before .before .before .before .before in let a = k .before .before .args in let e = eqs k in cut-all (a .a) (a .b) (a .y) (a .s) _ _ (e .0) (e .1) (c .if4 .left) (c .before .if3 .left)
+returns-5 c = let k = c .before .before .before .before .before .before in let a = k .before .before .args in let e = eqs k in cut-all (a .a) (a .b) (a .y) (a .s) _ _ (e .0) (e .1) (c .if4 .left) (c .before .if3 .left)
 
 pub cut-spec : {M : Type 1} → statement M
 cut-spec =
@@ -122,8 +114,6 @@ cut-spec =
     add-minus
     cast-ay
     cast-by
-    gap-requires
-    inverse-requires
     returns
     sub-over
     sub-over-2
