@@ -88,17 +88,17 @@ module _ (x y : ℕ) where
     window-aimed a b =
         same-test (inWindow (penOf (aimed x y r)) a b) (inWindow (penOf r) a b && (eqb a x && eqb b y))
         (λ h.
-            let w = window-of (penOf (aimed x y r)) a b h in
-            let column : a ≡ x = omega (arith, w .0, w .1) in
-            let row : b ≡ y = omega (arith, w .2, w .3) in
-            rw (window-in (penOf r) a b (omega (arith, w .0)) (omega (arith, w .1)) (omega (arith, w .2)) (omega (arith, w .3)), eq-eqb a x column, eq-eqb b y row))
+        let w = window-of (penOf (aimed x y r)) a b h in
+        let column : a ≡ x = omega (arith, w .0, w .1) in
+        let row : b ≡ y = omega (arith, w .2, w .3) in
+        rw (window-in (penOf r) a b (omega (arith, w .0)) (omega (arith, w .1)) (omega (arith, w .2)) (omega (arith, w .3)), eq-eqb a x column, eq-eqb b y row))
         (λ h.
-            let k = both (inWindow (penOf r) a b) (eqb a x && eqb b y) h in
-            let e = both (eqb a x) (eqb b y) (k .1) in
-            let w = window-of (penOf r) a b (k .0) in
-            let column = eqb-true a x (e .0) in
-            let row = eqb-true b y (e .1) in
-            window-in (penOf (aimed x y r)) a b (omega (arith, w .0, column)) (omega (arith, w .1, column)) (omega (arith, w .2, row)) (omega (arith, w .3, row)))
+        let k = both (inWindow (penOf r) a b) (eqb a x && eqb b y) h in
+        let e = both (eqb a x) (eqb b y) (k .1) in
+        let w = window-of (penOf r) a b (k .0) in
+        let column = eqb-true a x (e .0) in
+        let row = eqb-true b y (e .1) in
+        window-in (penOf (aimed x y r)) a b (omega (arith, w .0, column)) (omega (arith, w .1, column)) (omega (arith, w .2, row)) (omega (arith, w .3, row)))
 
     module _ (rows : ℕ) where
       keep-aimed : (o : Offer) → keep (penOf (aimed x y r)) rows o ≡ atPixel x y (keep (penOf r) rows o)
@@ -106,7 +106,7 @@ module _ (x y : ℕ) where
       keep-aimed o =
           rw (window-aimed (o .x) (o .y))
           (kept-there o (inWindow (penOf r) (o .x) (o .y)) (eqb (o .x) x && eqb (o .y) y) (inMemory (r .frame) rows (o .x) (o .y))
-              (not (isMasked (o .kind)) || shows (penOf r) (o .x) (o .y)) refl)
+          (not (isMasked (o .kind)) || shows (penOf r) (o .x) (o .y)) refl)
 
       -- ---- triangles
 

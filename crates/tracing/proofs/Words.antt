@@ -71,7 +71,7 @@ module _ (bytes : List ℕ) (a : Told) (i z : List ℕ) {w n p : ℕ} {q : Regis
         ap₂ (λ (v : ℕ) (m : Meaning). record { index = a .index; word = v; meaning = m; refusal = n; passed = p }) word
         (meant ∙ ap (λ (v : ℕ). meaningOf (a .registers) (decode (v / 65536) (v % 65536))) word)
         ∙ ap (λ (o : Outcome Registers Memories).
-            record { index = a .index; word = wordAt bytes (a .index); meaning = meaningOf (a .registers) (wordOf (wordAt bytes (a .index))); refusal = o .refusal; passed = o .passed }) here;
+        record { index = a .index; word = wordAt bytes (a .index); meaning = meaningOf (a .registers) (wordOf (wordAt bytes (a .index))); refusal = o .refusal; passed = o .passed }) here;
     run = moved-taken a (wordOf (wordAt bytes (a .index))) i z here moves;
     left = ap (λ (o : Outcome Registers Memories). o .memories) here;
   }
