@@ -35,6 +35,7 @@ mod starts;
 mod stream;
 mod strobes;
 mod surface;
+mod trace;
 mod transfers;
 mod vectors;
 
@@ -43,7 +44,7 @@ use std::process::ExitCode;
 
 const USAGE: &str = "usage: second draw | receive | pack | unpack | generate SEED | seeds FIRST COUNT DIR | cuts FIRST COUNT DIR | vectors DIR | \
     shares FIRST COUNT | mend | damages FIRST COUNT DIR | squares FIRST COUNT DIR | answer | scripts FIRST COUNT DIR | boards FIRST COUNT DIR | \
-    overdraw | directories FIRST COUNT DIR | surface | image PLACES";
+    overdraw | directories FIRST COUNT DIR | surface | image PLACES | trace [X Y] | traces FIRST COUNT DIR";
 
 fn main() -> ExitCode {
     let arguments: Vec<String> = std::env::args().skip(1).collect();
@@ -78,6 +79,9 @@ fn dispatch(arguments: &[&str]) -> Result<(), String> {
         ["directories", first, count, directory] => directories::write(number(first)?, number(count)?, directory),
         ["surface"] => write_out(&surface::recording()),
         ["image", places] => write_out(&printing::image(&read_all()?, number(places)? as usize)?),
+        ["trace"] => write_out(trace::trace(&recording()?).as_bytes()),
+        ["trace", x, y] => write_out(trace::watch(&recording()?, number(x)? as i64, number(y)? as i64).as_bytes()),
+        ["traces", first, count, directory] => trace::write(number(first)?, number(count)?, directory),
         _ => Err(USAGE.to_string()),
     }
 }
@@ -106,6 +110,15 @@ fn write_out(bytes: &[u8]) -> Result<(), String> {
 fn draw() -> Result<(), String> {
     let bytes = read_at_most(printing::LONGEST_STREAM as u64 + 1)?;
     write_out(printing::drawing(&bytes).as_bytes())
+}
+
+/// A recording that is traced.
+fn recording() -> Result<Vec<u8>, String> {
+    let bytes = read_at_most(trace::LONGEST_RECORDING as u64 + 1)?;
+    if bytes.len() > trace::LONGEST_RECORDING {
+        return Err("too long".to_string());
+    }
+    Ok(bytes)
 }
 
 /// The new stream goes to standard output, what is said of it to standard

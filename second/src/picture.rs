@@ -88,6 +88,22 @@ impl Picture {
             .collect()
     }
 
+    /// Whether a figure offers pixel (x, y) and it would pass over what stands.
+    pub fn passes_at(&self, figure: &Figure, registers: &Registers, x: i64, y: i64) -> bool {
+        let Some(place) = self.place(x, y, registers) else { return false };
+        offered(figure, registers, x, y).is_some_and(|numbers| passes(figure, numbers, registers, self.z[place]))
+    }
+
+    /// Whether a pixel is inside the memory.
+    pub fn has(&self, x: i64, y: i64, registers: &Registers) -> bool {
+        self.place(x, y, registers).is_some()
+    }
+
+    /// I and Z at a pixel; both 0 outside the memory.
+    pub fn numbers(&self, x: i64, y: i64, registers: &Registers) -> (i64, i64) {
+        self.place(x, y, registers).map_or((0, 0), |place| (self.i[place], self.z[place]))
+    }
+
     /// What an accepted word does to the picture: it draws the figure that it
     /// completes, or stores a pixel. Tells how many pixels passed.
     pub fn take(&mut self, accepted: &Accepted) -> u64 {

@@ -1,10 +1,10 @@
 // usage: node asked.js DIR RECORDING..: what the page asks of the card beside drawing, held to what the programs print. DIR has for each recording
-// NAME.rec the files NAME.rec.list, what `list` prints of it; DAMAGED.rec with DAMAGED.good and DAMAGED.said, what `mend` makes of them; and
+// NAME.rec the files NAME.rec.list and NAME.rec.trace, what `list` and `trace` print of it, and NAME.rec.X.Y.watch, what `trace X Y` does; DAMAGED.rec with DAMAGED.good and DAMAGED.said, what `mend` makes of them; and
 // `overdraw`, what that program prints where the files 000, 001 and on stand in `overdrawn/`.
 import fs from 'node:fs';
 import path from 'node:path';
 import { newCard, read, expect, stepped, goOn, chance, PLACES } from './kit.js';
-import { digits, commandOf, NAMES, PTRN } from '../decode.js';
+import { digits, commandOf, meaning, NAMES, PTRN, INIT } from '../decode.js';
 import { Replay, wordsOf, placesFor } from '../replay.js';
 import { watch, tally, differences, partingOf, course } from '../questions.js';
 
@@ -28,6 +28,42 @@ for (const recording of recordings) {
     const text = Array.from(words, line).join('');
     expect(text === fs.readFileSync(path.join(dir, `${path.basename(recording)}.list`), 'latin1'), recording, 'has other words than list prints');
 }
+
+// ---- what words mean, their numbers and counts, and the words that have a pixel, as `trace` prints them
+
+// What the page says of a word that `trace` gives this meaning; which of how many parameters it is, the page says in its own way.
+const SAID = {
+    gouraud: /^completes a Gouraud triangle/, constant: /^completes a constant triangle/, line0: /^completes a line mode 0 segment/,
+    line1: /^completes a line mode 1 segment/, line2: /^completes a line mode 2 segment/, strip: /^opens a strip/, fan: /^opens a fan/, line: /^opens a line/,
+    start: /^(line length \d+,|a start that)/, intensity: /^intensity/, depth: /^depth/, row: /^row/, pixelI: /^a pixel of the picture, I/,
+    pixelZ: /^a pixel of the picture, Z/, load: /^(opens a region to memory|IMG: (first|second) corner [xy])/,
+    save: /^(opens a region from memory|IMG: (first|second) corner [xy])/, reserved: /^reserved/, unmodelled: /not modelled/,
+    nothing: /^(second vertex of|moves the line on unseen|a parameter that nothing awaits|no subcommand)/,
+};
+const TRACED = 1048576; // the places that trace has
+let meant = 0, hits = 0;
+for (const recording of recordings) {
+    const { replay } = await replayOf(read(recording), { places: TRACED }), { card, words } = replay, { fields, walk } = card, base = path.basename(recording);
+    const lines = fs.readFileSync(path.join(dir, `${base}.trace`), 'latin1').split('\n').slice(0, -1);
+    expect(lines.length === words.length, recording, 'is traced to another word');
+    card.reset(card.walkAt);
+    lines.forEach((l, k) => {
+        const [, , , , , name, share, refusal, passed] = l.split(/ +/), before = walk.slice();
+        card.walkOn(words[k]);
+        const said = meaning(words[k], before, fields, commandOf(words[k]) === INIT ? walk[fields.line] : 0).text;
+        const named = SAID[name] ? SAID[name].test(said) : said.startsWith(`${name}${share.startsWith('0/') ? ', with ' + share[2] : ': '}`);
+        expect(named && Number(refusal) === replay.refusal[k] && Number(passed) === replay.passed[k], recording, 'word', k, 'is', l, 'and the page says', said);
+        meant++;
+    });
+    for (const f of fs.readdirSync(dir).filter(name => name.startsWith(`${base}.`) && name.endsWith('.watch'))) {
+        const [x, y] = f.slice(base.length + 1).split('.').map(Number), told = fs.readFileSync(path.join(dir, f), 'latin1').split('\n').slice(0, -1);
+        const found = await watch(replay, y * replay.line + x, goOn);
+        const text = found.map(hit => `${digits(words[hit.word])} ${hit.word} ${[...hit.was, ...hit.now].join(' ')}`).join('\n');
+        expect(text === told.map(l => l.split(/ +/)).map(w => [w[0], Number(w[2]), ...w.slice(9).map(Number)].join(' ')).join('\n'), recording, 'pixel', x, y, 'has other words');
+        hits += found.length;
+    }
+}
+expect(meant > 200 && hits > 20, 'too few words are traced:', meant, 'and', hits, 'at pixels');
 
 // ---- any position, by the states that are kept, is the picture that so many words draw from reset
 
@@ -162,4 +198,5 @@ expect(mended > 20, 'too few damaged recordings');
 }
 
 console.log(`web: ${positions} positions are as run from reset; ${drawing} words passed ${total} pixels, each told at its place, and ${stores} were stored`);
+console.log(`web: ${meant} words mean what trace says, and ${hits} have the pixels that it says`);
 console.log(`web: ${reported} recordings are counted as overdraw counts, ${mended} are mended as mend does`);

@@ -1,4 +1,5 @@
 pub mod Lines
+pub mod Traces
 pub mod Turns
 pub mod Kept
 pub mod Settled

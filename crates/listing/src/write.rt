@@ -19,7 +19,7 @@ fn character(d: u64) -> u8
 
 // Puts the last `count` digits of a number at a place, and tells the place after them. They come from the last to the first, so that one
 // division finds each.
-fn put_digits(n: u64, base: u64, count: usize, out: &mut [u8], at: usize) -> usize
+pub(crate) fn put_digits(n: u64, base: u64, count: usize, out: &mut [u8], at: usize) -> usize
     requires { ⌜ 0 < base ⌝ }
     requires { ⌜ base ≤ 16 ⌝ }
     requires { ⌜ at + count ≤ length (now out) ⌝ }
@@ -36,7 +36,7 @@ fn put_digits(n: u64, base: u64, count: usize, out: &mut [u8], at: usize) -> usi
 }
 
 // Puts `count` bytes of a text, from `from` on, at a place, and tells the place after them.
-fn put_part(text: &[u8], from: usize, count: usize, out: &mut [u8], at: usize) -> usize
+pub(crate) fn put_part(text: &[u8], from: usize, count: usize, out: &mut [u8], at: usize) -> usize
     requires { ⌜ from + count ≤ length (now text) ⌝ }
     requires { ⌜ at + count ≤ length (now out) ⌝ }
     ensures { λ r. ⌜ Put (take count (drop from (now (text .entry)))) (now (out .entry)) at (now (out .exit)) r ⌝ }
@@ -50,7 +50,7 @@ fn put_part(text: &[u8], from: usize, count: usize, out: &mut [u8], at: usize) -
 }
 
 // Puts a command's name, in six columns.
-fn put_name(command: usize, out: &mut [u8], at: usize) -> usize
+pub(crate) fn put_name(command: usize, out: &mut [u8], at: usize) -> usize
     requires { ⌜ command < 16 ⌝ }
     requires { ⌜ at + 6 ≤ length (now out) ⌝ }
     ensures { λ r. ⌜ Put (nameOf command) (now (out .entry)) at (now (out .exit)) r ⌝ }
@@ -65,7 +65,7 @@ fn put_name(command: usize, out: &mut [u8], at: usize) -> usize
 }
 
 // Puts a word, and the index that its remark begins with.
-fn put_word(index: u64, word: u32, out: &mut [u8], at: usize) -> usize
+pub(crate) fn put_word(index: u64, word: u32, out: &mut [u8], at: usize) -> usize
     requires { ⌜ at + 15 ≤ length (now out) ⌝ }
     ensures { λ r. ⌜ Put (placed index word) (now (out .entry)) at (now (out .exit)) r ⌝ }
 {

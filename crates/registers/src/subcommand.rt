@@ -22,7 +22,7 @@ pub enum Subcommand {
 }
 
 // The subcommand of an AUX number; nothing for one that is not modelled, and for 13.
-pub(crate) fn subcommand_of(number: u16) -> Subcommand
+pub fn subcommand_of(number: u16) -> Subcommand
     ensures { λ r. ⌜ r ≡ subcommandOf number ⌝ }
 {
     match number {
@@ -47,7 +47,7 @@ pub(crate) fn subcommand_of(number: u16) -> Subcommand
 }
 
 // How many parameters a subcommand takes.
-pub(crate) fn wanted(s: Subcommand) -> u16
+pub fn wanted(s: Subcommand) -> u16
     ensures { λ r. ⌜ r ≡ wants s ⌝ }
 {
     match s {

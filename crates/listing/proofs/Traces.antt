@@ -1,0 +1,141 @@
+-- How long the lines of a trace and their parts are, and what laying one comes to. Assumes nothing.
+use mathlib.Core.Path.{_≡_, refl, sym, ap, _∙_}
+use mathlib.Core.Bool.{Bool, true, false, cond, not}
+use mathlib.Core.List.{List, [], _∷_, _++_}
+use Prim.Native.Nat.{ℕ, _+_, _-_, _*_, _/_, _%_, _≤_}
+use native.Mathlib.Omega.{arith}
+use lib.Dec.{leb, eqb}
+use lib.ListN.{length, length-append}
+use lib.Seq.{sets}
+use borrow.Author.Tests.{leb-true, leb-false, le-leb, lt-leb, not-true, not-false}
+use Rattle.report.specs.Calls.{Put}
+use Rattle.report.proofs.Choice.{either}
+use Rattle.listing.specs.declared.trace.Meaning.{Meaning}
+use Rattle.listing.specs.declared.trace.Traced.{Traced}
+use Rattle.listing.specs.declared.trace.Numbers.{Numbers}
+use Rattle.listing.specs.Text.{digits, nameOf, placed}
+use Rattle.listing.specs.Trace.{meanings, meaningName, share, meaningText, numberText, answerText, tracedText, numbersText, traceLine, watchLine, fits, Laid}
+use Rattle.listing.proofs.Lines.{length-digits, length-part, length-placed, length-name}
+
+-- ---- lengths
+
+pub length-row : (row : ℕ) → length (meaningName row) ≡ 12
+unfolding meaningName meanings
+length-row row = length-part meanings (12 * (row % 32)) 12 (omega arith)
+
+length-some : (came wanted : ℕ) → length (digits 10 1 came ++ (47 ∷ []) ++ digits 10 1 wanted) ≡ 3
+length-some came wanted =
+    omega (
+      arith,
+      length-append (digits 10 1 came) (47 ∷ []),
+      length-append (digits 10 1 came ++ (47 ∷ [])) (digits 10 1 wanted),
+      length-digits 10 1 came,
+      length-digits 10 1 wanted,
+    )
+
+pub length-share : (came wanted : ℕ) → length (share came wanted) ≡ 3
+unfolding share
+length-share came wanted = either (λ (text : List ℕ). length text ≡ 3) (eqb wanted 0) (λ _. refl) (λ _. length-some came wanted)
+
+pub length-meaning : (m : Meaning) → length (meaningText m) ≡ 15
+unfolding meaningText
+length-meaning m =
+    omega (arith, length-append (meaningName (m .row)) (share (m .came) (m .wanted)), length-row (m .row), length-share (m .came) (m .wanted))
+
+pub length-number : (count n : ℕ) → length (numberText count n) ≡ 1 + count
+unfolding numberText
+length-number count n = omega (arith, length-append (32 ∷ []) (digits 10 count n), length-digits 10 count n)
+
+pub length-answer : (refusal passed : ℕ) → length (answerText refusal passed) ≡ 11
+unfolding answerText
+length-answer refusal passed =
+    omega (arith, length-append (numberText 2 refusal) (numberText 7 passed), length-number 2 refusal, length-number 7 passed)
+
+pub length-traced : (t : Traced) → length (tracedText t) ≡ 51
+unfolding tracedText
+length-traced t =
+    let name = nameOf (t .word / 65536 % 16) in
+    let named = placed (t .index) (t .word) ++ name in
+    let listed = named ++ digits 16 4 (t .word) in
+    let meant = listed ++ meaningText (t .meaning) in
+    omega (
+      arith,
+      length-append (placed (t .index) (t .word)) name,
+      length-append named (digits 16 4 (t .word)),
+      length-append listed (meaningText (t .meaning)),
+      length-append meant (answerText (t .refusal) (t .passed)),
+      length-placed (t .index) (t .word),
+      length-name (t .word),
+      length-digits 16 4 (t .word),
+      length-meaning (t .meaning),
+      length-answer (t .refusal) (t .passed),
+    )
+
+pub length-numbers : (n : Numbers) → length (numbersText n) ≡ 12
+unfolding numbersText
+length-numbers n = omega (arith, length-append (numberText 5 (n .i)) (numberText 5 (n .z)), length-number 5 (n .i), length-number 5 (n .z))
+
+pub length-trace : (t : Traced) → length (traceLine t) ≡ 52
+unfolding traceLine
+length-trace t = omega (arith, length-append (tracedText t) (10 ∷ []), length-traced t)
+
+pub length-watch : (t : Traced) (before after : Numbers) → length (watchLine t before after) ≡ 76
+unfolding watchLine
+length-watch t before after =
+    let first = tracedText t ++ numbersText before in
+    omega (
+      arith,
+      length-append (tracedText t) (numbersText before),
+      length-append first (numbersText after),
+      length-append (first ++ numbersText after) (10 ∷ []),
+      length-traced t,
+      length-numbers before,
+      length-numbers after,
+    )
+
+-- ---- laying
+
+-- a test without a sum that could wrap
+pub room-same : (room size at : ℕ) → size ≤ room → leb at (room - size) ≡ leb (at + size) room
+room-same room size at h = go (leb at (room - size)) refl
+  where
+    go : (b : Bool) → leb at (room - size) ≡ b → leb at (room - size) ≡ leb (at + size) room
+    go true e = e ∙ sym (le-leb (at + size) room (omega (arith, h, leb-true at (room - size) e)))
+    go false e = e ∙ sym (lt-leb (at + size) room (omega (arith, h, leb-false at (room - size) e)))
+
+-- the test's answer is that there is room
+pub roomy : (room size at : ℕ) {r : Bool} → r ≡ leb (at + size) room → not r ≡ false → at + size ≤ room
+roomy room size at {r} e n = leb-true (at + size) room (sym e ∙ not-false r n)
+
+module _ (text old : List ℕ) (at : ℕ) {size : ℕ} {r : Bool} (long : length text ≡ size) (e : r ≡ leb (at + size) (length old)) where
+  -- a text without room is left out
+  pub laid-none : not r ≡ true → Laid text old at old at
+  laid-none n =
+      let no : fits text old at ≡ false = ap (λ (k : ℕ). leb (at + k) (length old)) long ∙ sym e ∙ not-true r n in
+      record { left = rw no; end = rw no }
+
+  -- one with room is put
+  pub laid-put : {new : List ℕ} {next : ℕ} → not r ≡ false → Put text old at new next → Laid text old at new next
+  laid-put n p =
+      let yes : fits text old at ≡ true = ap (λ (k : ℕ). leb (at + k) (length old)) long ∙ sym e ∙ not-false r n in
+      record { left = rw yes (p .stands); end = rw yes (p .ends) }
+
+-- no text leaves all as it is
+pub laid-nothing : (old : List ℕ) (at : ℕ) → Laid [] old at old at
+laid-nothing old at = record { left = go (fits [] old at); end = so (fits [] old at) }
+  where
+    go : (b : Bool) → old ≡ cond b (sets old at []) old
+    go true = refl
+    go false = refl
+
+    so : (b : Bool) → at ≡ cond b (at + 0) at
+    so true = omega arith
+    so false = refl
+
+-- what is laid ends inside, if it begins there, and keeps the length
+pub laid-within : {text old new : List ℕ} {at next : ℕ} → Laid text old at new next → at ≤ length old → next ≤ length old
+laid-within {text} {old} {new} {at} {next} p h = rw (p .end) (go (fits text old at) refl)
+  where
+    go : (b : Bool) → fits text old at ≡ b → cond b (at + length text) at ≤ length old
+    go true e = leb-true (at + length text) (length old) e
+    go false e = h

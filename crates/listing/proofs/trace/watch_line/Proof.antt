@@ -1,0 +1,51 @@
+-- `trace::watch_line` meets its contract: it is put where the test finds room. Assumes nothing.
+use borrow.Author.Needs.{needs}
+use native.Mathlib.Omega.{arith}
+use lib.ListN.{length}
+use Rattle.report.proofs.Putting.{put-append}
+use Rattle.listing.specs.Trace.{watchLine}
+use Rattle.listing.proofs.Traces.{length-traced, length-numbers, length-watch, roomy, laid-none, laid-put}
+use Rattle.listing.proofs.trace.watch_line.Statement.{statement}
+use Rattle.listing.proofs.trace.watch_line.Tie as tie
+
+has-room-requires : tie.Need-has-room-requires
+has-room-requires c κs = search needs
+
+returns : tie.Need-returns
+returns c = laid-none _ _ _ (length-watch (c .before .before .before .args .t) (c .before .before .before .args .before) (c .before .before .before .args .after)) (c .before .has-room .ensures) (c .if1 .taken)
+
+put-traced-requires : tie.Need-put-traced-requires
+put-traced-requires c κs = omega (arith, roomy (length (c .before .before .before .before .args .out .now)) 76 (c .before .before .before .before .args .at) (c .before .before .has-room .ensures) (c .before .if1 .left))
+
+put-numbers-requires : tie.Need-put-numbers-requires
+put-numbers-requires c κs = omega (arith, roomy (length (c .before .before .before .before .before .before .before .before .args .out .now)) 76 (c .before .before .before .before .before .before .before .before .args .at) (c .before .before .before .before .before .before .has-room .ensures) (c .before .before .before .before .before .if1 .left), length-traced (c .before .before .before .before .before .before .before .before .args .t))
+
+put-numbers-requires-2 : tie.Need-put-numbers-requires-2
+put-numbers-requires-2 c κs = omega (arith, roomy (length (c .before .before .before .before .before .before .before .before .before .before .before .before .args .out .now)) 76 (c .before .before .before .before .before .before .before .before .before .before .before .before .args .at) (c .before .before .before .before .before .before .before .before .before .before .has-room .ensures) (c .before .before .before .before .before .before .before .before .before .if1 .left), length-traced (c .before .before .before .before .before .before .before .before .before .before .before .before .args .t), length-numbers (c .before .before .before .before .before .before .before .before .before .before .before .before .args .before))
+
+slice-aggregate-put-part : tie.Need-slice-aggregate-put-part
+slice-aggregate-put-part c = search needs
+
+put-part-requires : tie.Need-put-part-requires
+put-part-requires c κs = (omega arith, omega (arith, roomy (length (c .before .before .before .before .before .before .before .before .before .before .before .before .before .before .before .before .before .args .out .now)) 76 (c .before .before .before .before .before .before .before .before .before .before .before .before .before .before .before .before .before .args .at) (c .before .before .before .before .before .before .before .before .before .before .before .before .before .before .before .has-room .ensures) (c .before .before .before .before .before .before .before .before .before .before .before .before .before .before .if1 .left), length-traced (c .before .before .before .before .before .before .before .before .before .before .before .before .before .before .before .before .before .args .t), length-numbers (c .before .before .before .before .before .before .before .before .before .before .before .before .before .before .before .before .before .args .before), length-numbers (c .before .before .before .before .before .before .before .before .before .before .before .before .before .before .before .before .before .args .after)))
+
+same-length : tie.Need-same-length
+same-length c = search needs
+
+returns-2 : tie.Need-returns-2
+unfolding watchLine
+returns-2 c = let a = c .before .before .before .before .before .before .before .before .before .before .before .before .before .before .before .before .before .before .before .before .args in laid-put _ _ _ (length-watch (a .t) (a .before) (a .after)) (c .before .before .before .before .before .before .before .before .before .before .before .before .before .before .before .before .before .before .has-room .ensures) (c .before .before .before .before .before .before .before .before .before .before .before .before .before .before .before .before .before .if1 .left) (put-append (put-append (put-append (c .before .before .before .before .before .before .before .before .before .before .before .before .before .before .before .put-traced .ensures) (c .before .before .before .before .before .before .before .before .before .before .before .put-numbers .ensures)) (c .before .before .before .before .before .before .before .put-numbers2 .ensures)) (c .before .before .put-part .ensures))
+
+pub watch-line-spec : {M : Type 1} → statement M
+watch-line-spec =
+    tie.close
+    (tie.spec
+    has-room-requires
+    returns
+    put-traced-requires
+    put-numbers-requires
+    put-numbers-requires-2
+    slice-aggregate-put-part
+    put-part-requires
+    same-length
+    returns-2)

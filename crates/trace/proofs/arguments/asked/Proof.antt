@@ -1,0 +1,52 @@
+-- `arguments::asked` meets its contract: the tests decide. Assumes nothing.
+use borrow.Author.Needs.{needs}
+use borrow.Author.Tests.{lt-ltb, le-ltb, eq-eqb, ne-eqb}
+use Rattle.trace.specs.Arguments.{askedOf}
+use Rattle.trace.proofs.arguments.asked.Statement.{statement}
+use Rattle.trace.proofs.arguments.asked.Tie as tie
+
+returns : tie.Need-returns
+unfolding askedOf
+returns c = rw (lt-ltb (c .before .before .before .args .count) 2 (c .if1 .taken))
+
+returns-2 : tie.Need-returns-2
+unfolding askedOf
+returns-2 c = rw (le-ltb (c .before .before .before .before .args .count) 2 (c .before .if1 .left), ne-eqb (c .before .before .before .before .args .count) 3 (c .if2 .taken))
+
+coordinate-requires : tie.Need-coordinate-requires
+coordinate-requires c κs = search needs
+
+coordinate-requires-2 : tie.Need-coordinate-requires-2
+coordinate-requires-2 c κs = search needs
+
+returns-3 : tie.Need-returns-3
+unfolding askedOf
+returns-3 c = rw (le-ltb (c .before .before .before .before .before .before .before .args .count) 2 (c .before .before .before .before .if1 .left), eq-eqb (c .before .before .before .before .before .before .before .args .count) 3 (c .before .before .before .if2 .left), ← c .before .before .coordinate .ensures, lt-ltb 16383 (c .before .before .coordinate .result) (c .if3 .taken))
+
+returns-4 : tie.Need-returns-4
+unfolding askedOf
+returns-4 c = rw (le-ltb (c .before .before .before .before .before .before .before .before .args .count) 2 (c .before .before .before .before .before .if1 .left), eq-eqb (c .before .before .before .before .before .before .before .before .args .count) 3 (c .before .before .before .before .if2 .left), ← c .before .before .before .coordinate .ensures, ← c .before .before .coordinate2 .ensures, le-ltb 16383 (c .before .before .before .coordinate .result) (c .before .if3 .left), lt-ltb 16383 (c .before .before .coordinate2 .result) (c .if4 .taken))
+
+cast-t7 : tie.Need-cast-t7
+cast-t7 c = search needs
+
+cast-t8 : tie.Need-cast-t8
+cast-t8 c = search needs
+
+returns-5 : tie.Need-returns-5
+unfolding askedOf
+returns-5 c = rw (le-ltb (c .before .before .before .before .before .before .before .before .args .count) 2 (c .before .before .before .before .before .if1 .left), eq-eqb (c .before .before .before .before .before .before .before .before .args .count) 3 (c .before .before .before .before .if2 .left), ← c .before .before .before .coordinate .ensures, ← c .before .before .coordinate2 .ensures, le-ltb 16383 (c .before .before .before .coordinate .result) (c .before .if3 .left), le-ltb 16383 (c .before .before .coordinate2 .result) (c .if4 .left))
+
+pub asked-spec : {M : Type 1} → statement M
+asked-spec =
+    tie.close
+    (tie.spec
+    returns
+    returns-2
+    coordinate-requires
+    coordinate-requires-2
+    returns-3
+    returns-4
+    cast-t7
+    cast-t8
+    returns-5)

@@ -1,0 +1,44 @@
+-- `print::turn` meets its contract: what is laid ends on the page, and keeps its length. Assumes nothing.
+use borrow.Author.Needs.{needs}
+use native.Mathlib.Omega.{arith}
+use Rattle.listing.proofs.Traces.{laid-within}
+use Rattle.trace.proofs.Laying.{laid-length}
+use Rattle.trace.proofs.print.turn.Statement.{statement}
+use Rattle.trace.proofs.print.turn.Tie as tie
+
+watch-requires : tie.Need-watch-requires
+watch-requires c κs = search needs
+
+same-length : tie.Need-same-length
+same-length c = search needs
+
+same-length-2 : tie.Need-same-length-2
+same-length-2 c = search needs
+
+returns : tie.Need-returns
+returns c = let g = c .before .before .before .before .before .before .before .before .before .before .before .before .good .1 .1 .1 .1 .1 .1 .1 in (omega (arith, laid-within (c .before .before .before .before .watch .ensures .text) (omega (arith, g, c .before .before .before .before .before .before .before .before .before .before .before .before .pre)), g), omega (arith, laid-length (c .before .before .before .before .watch .ensures .text), g))
+
+trace-requires : tie.Need-trace-requires
+trace-requires c κs = search needs
+
+same-length-3 : tie.Need-same-length-3
+same-length-3 c = search needs
+
+same-length-4 : tie.Need-same-length-4
+same-length-4 c = search needs
+
+returns-2 : tie.Need-returns-2
+returns-2 c = let g = c .before .before .before .before .before .before .before .before .before .before .before .before .good .1 .1 .1 .1 .1 .1 .1 in (omega (arith, laid-within (c .before .before .before .before .trace .ensures .text) (omega (arith, g, c .before .before .before .before .before .before .before .before .before .before .before .before .pre)), g), omega (arith, laid-length (c .before .before .before .before .trace .ensures .text), g))
+
+pub turn-spec : {M : Type 1} → statement M
+turn-spec =
+    tie.close
+    (tie.spec
+    watch-requires
+    same-length
+    same-length-2
+    returns
+    trace-requires
+    same-length-3
+    same-length-4
+    returns-2)

@@ -1,0 +1,66 @@
+-- `read` meets its contract: the bytes taken stand at the start of the buffer. Assumes nothing.
+use mathlib.Core.Path.{sym}
+use native.Mathlib.Omega.{arith}
+use borrow.Author.Needs.{needs}
+use lib.Seq.{length-take-le}
+use Rattle.trace.proofs.read.Statement.{statement}
+use Rattle.trace.proofs.read.Tie as tie
+
+recording-requires : tie.Need-recording-requires
+recording-requires c κs = search needs
+
+slice-aggregate-take : tie.Need-slice-aggregate-take
+slice-aggregate-take c = search needs
+
+take-requires : tie.Need-take-requires
+take-requires c κs = search needs
+
+enum-known-taken : tie.Need-enum-known-taken
+enum-known-taken c = search needs
+
+array-share-prefix-bytes : tie.Need-array-share-prefix-bytes
+array-share-prefix-bytes c =
+    let t = c .before .before .before .before in
+    let n = rw (c .before .taken .given .1) at (t .take .ensures) in
+    omega (arith, n, t .take .kept .0)
+
+slice-aggregate-trace : tie.Need-slice-aggregate-trace
+slice-aggregate-trace c =
+    let t = c .before .before .before .before .before in
+    let n = rw (c .before .before .taken .given .1) at (t .take .ensures) in
+    sym (length-take-le _ _ (omega (arith, n, t .take .kept .0)))
+
+trace-requires : tie.Need-trace-requires
+trace-requires c κs = search needs
+
+enum-told : tie.Need-enum-told
+enum-told c = search needs
+
+slice-aggregate-fail : tie.Need-slice-aggregate-fail
+slice-aggregate-fail c = search needs
+
+fail-requires : tie.Need-fail-requires
+fail-requires c κs = search needs
+
+returns : tie.Need-returns
+returns c = search needs
+
+returns-2 : tie.Need-returns-2
+returns-2 c = search needs
+
+pub read-spec : {M : Type 1} → statement M
+read-spec =
+    tie.close
+    (tie.spec
+    recording-requires
+    slice-aggregate-take
+    take-requires
+    enum-known-taken
+    array-share-prefix-bytes
+    slice-aggregate-trace
+    trace-requires
+    enum-told
+    slice-aggregate-fail
+    fail-requires
+    returns
+    returns-2)

@@ -1,0 +1,3 @@
+pub mod Meaning
+pub mod Trace
+pub mod Watch
