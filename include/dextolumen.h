@@ -20,7 +20,8 @@
  * The picture. Pixel (x, y) lies in both memories at place y * line + x, with the line length of the last accepted INIT, which is
  * `frame.line` of the record. x goes to the right and y upward: row 0 is the lowest. I is the intensity; z goes away from the observer, so that
  * less is nearer. Rows in use are the whole rows that both memories have room for, DEXTOLUMEN_MOST_ROWS at most. Pixels above them, or at or behind
- * the line length, are not drawn, and places above them are never touched. So it is from dextolumen_reset on; from dextolumen_reset_tiled on pixels
+ * the line length, are not drawn, and places above them are never touched. (At a pixel that is offered and does not pass, a call may store the number that
+ * stands there already.) So it is from dextolumen_reset on; from dextolumen_reset_tiled on pixels
  * lie in tiles of four by four, at place (y / 4 * (line / 4) + x / 4) * 16 + y % 4 * 4 + x % 4, and rows in use are those of whole bands of four.
  *
  * What to lend at the start. Two memories of one length, I all 0 and Z all 65535, the farthest depth: INIT clears neither. Line lengths go from
