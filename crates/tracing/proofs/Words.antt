@@ -28,7 +28,7 @@ use Rattle.tracing.specs.Trace.{Run, standing, isOver, answerTo, tracedO
 use Rattle.tracing.specs.Watch.{hitsOf, numbersAt, hitLine, watchAt}
 
 -- where something is left, no word was refused, and the next one is there
-left-neither : (b c : Bool) → not b || c ≡ false → (b ≡ true) × (c ≡ false)
+pub left-neither : (b c : Bool) → not b || c ≡ false → (b ≡ true) × (c ≡ false)
 left-neither true c e = (refl, e)
 left-neither false c e = (sym e, ap (λ (t : Bool). cond t c false) e)
 
