@@ -13,7 +13,7 @@ use Rattle.picture.specs.declared.Vertex.{Vertex}
 use Rattle.picture.specs.Place.{rowsOf, inMemory}
 use Rattle.picture.specs.declared.Kind.{Kind}
 use Rattle.picture.specs.declared.Kind.the-variants.{Line0, Line1, Line2}
-use Rattle.picture.specs.Offer.{Offer, offer, isMasked, inWindow, shows, offered, keep}
+use Rattle.picture.specs.Offer.{Offer, offer, isMasked, inWindow, shows, offered, keep, onPixel}
 use Rattle.picture.specs.Picture.{Picture, picture, drawn}
 use Rattle.picture.specs.Draw.{spans}
 use Rattle.picture.proofs.Offers.{window-in, window-of}
@@ -22,7 +22,6 @@ use Rattle.picture.proofs.Places.{both, same-test}
 use Rattle.picture.proofs.Spans.{spans-zero, spans-suc, spans-same}
 use Rattle.triangle.specs.Edge.{covers, edgeAt}
 use Rattle.triangle.specs.Offers.{pixelAt, offersAt, rowOffers, turnedOffers, cornersOf, triangleOffers}
-use Rattle.triangle.specs.Shared.{atPixel}
 use Rattle.line.specs.declared.Mode.{Mode}
 use Rattle.line.specs.declared.Mode.the-variants.{Zero, One, Two}
 use Rattle.line.specs.declared.Style.{Style}
@@ -35,36 +34,36 @@ use Rattle.chip.specs.Chip.{modeOf, isConstant, styleOf, wholeOffers, isCut, fi
 use Rattle.tracing.specs.Watch.{narrowed, aimed, passesAt}
 
 module _ (x y : ℕ) where
-  at-nil : atPixel x y [] ≡ []
-  unfolding atPixel
+  at-nil : onPixel x y [] ≡ []
+  unfolding onPixel
   at-nil = refl
 
-  at-append : (os ps : List Offer) → atPixel x y (os ++ ps) ≡ atPixel x y os ++ atPixel x y ps
-  unfolding atPixel
+  at-append : (os ps : List Offer) → onPixel x y (os ++ ps) ≡ onPixel x y os ++ onPixel x y ps
+  unfolding onPixel
   at-append [] ps = refl
-  at-append (o ∷ os) ps = rw (at-append os ps) (go (eqb (o .x) x && eqb (o .y) y) (atPixel x y os) (atPixel x y ps))
+  at-append (o ∷ os) ps = rw (at-append os ps) (go (eqb (o .x) x && eqb (o .y) y) (onPixel x y os) (onPixel x y ps))
     where
       go : (b : Bool) (l r : List Offer) → cond b (o ∷ (l ++ r)) (l ++ r) ≡ cond b (o ∷ l) l ++ r
       go true l r = refl
       go false l r = refl
 
-  at-spans : (f : ℕ → List Offer) (n : ℕ) → atPixel x y (spans f n) ≡ spans (λ k. atPixel x y (f k)) n
-  at-spans f zero = ap (atPixel x y) (spans-zero f) ∙ at-nil ∙ sym (spans-zero (λ k. atPixel x y (f k)))
+  at-spans : (f : ℕ → List Offer) (n : ℕ) → onPixel x y (spans f n) ≡ spans (λ k. onPixel x y (f k)) n
+  at-spans f zero = ap (onPixel x y) (spans-zero f) ∙ at-nil ∙ sym (spans-zero (λ k. onPixel x y (f k)))
   at-spans f (suc n) =
-      ap (atPixel x y) (spans-suc f n)
+      ap (onPixel x y) (spans-suc f n)
       ∙ at-append (spans f n) (f n)
-      ∙ ap (λ (os : List Offer). os ++ atPixel x y (f n)) (at-spans f n)
-      ∙ sym (spans-suc (λ k. atPixel x y (f k)) n)
+      ∙ ap (λ (os : List Offer). os ++ onPixel x y (f n)) (at-spans f n)
+      ∙ sym (spans-suc (λ k. onPixel x y (f k)) n)
 
   -- one of two lists, or none
-  at-cond : (b : Bool) (os′ ps′ : List Offer) {os ps : List Offer} → os ≡ atPixel x y os′ → ps ≡ atPixel x y ps′ → cond b os ps ≡ atPixel x y (cond b os′ ps′)
+  at-cond : (b : Bool) (os′ ps′ : List Offer) {os ps : List Offer} → os ≡ onPixel x y os′ → ps ≡ onPixel x y ps′ → cond b os ps ≡ onPixel x y (cond b os′ ps′)
   at-cond true os′ ps′ e f = e
   at-cond false os′ ps′ e f = f
 
   -- a pixel that the window, the memory and the pattern let through is at (x, y), or is none
   kept-there : (o : Offer) (w a m s : Bool) → eqb (o .x) x && eqb (o .y) y ≡ a
-      → cond (w && a && m && s) (o ∷ []) [] ≡ atPixel x y (cond (w && m && s) (o ∷ []) [])
-  unfolding atPixel
+      → cond (w && a && m && s) (o ∷ []) [] ≡ onPixel x y (cond (w && m && s) (o ∷ []) [])
+  unfolding onPixel
   kept-there o true true true true e = rw e
   kept-there o true true true false e = refl
   kept-there o true true false true e = refl
@@ -101,7 +100,7 @@ module _ (x y : ℕ) where
         window-in (penOf (aimed x y r)) a b (omega (arith, w .0, column)) (omega (arith, w .1, column)) (omega (arith, w .2, row)) (omega (arith, w .3, row)))
 
     module _ (rows : ℕ) where
-      keep-aimed : (o : Offer) → keep (penOf (aimed x y r)) rows o ≡ atPixel x y (keep (penOf r) rows o)
+      keep-aimed : (o : Offer) → keep (penOf (aimed x y r)) rows o ≡ onPixel x y (keep (penOf r) rows o)
       unfolding keep offered shows
       keep-aimed o =
           rw (window-aimed (o .x) (o .y))
@@ -111,26 +110,26 @@ module _ (x y : ℕ) where
       -- ---- triangles
 
       pixel-aimed : (constant : Bool) (p q s u : Vertex) (a b : ℕ)
-          → offersAt (penOf (aimed x y r)) rows constant (cornersOf p q s u) a b ≡ atPixel x y (offersAt (penOf r) rows constant (cornersOf p q s u) a b)
+          → offersAt (penOf (aimed x y r)) rows constant (cornersOf p q s u) a b ≡ onPixel x y (offersAt (penOf r) rows constant (cornersOf p q s u) a b)
       unfolding offersAt
       pixel-aimed constant p q s u a b = at-cond (covers (cornersOf p q s u) a b) (keep (penOf r) rows (pixelAt constant (cornersOf p q s u) a b)) [] (keep-aimed (pixelAt constant (cornersOf p q s u) a b)) (sym at-nil)
 
       row-aimed : (constant : Bool) (p q s u : Vertex) (b : ℕ)
-          → rowOffers (penOf (aimed x y r)) rows constant (cornersOf p q s u) b ≡ atPixel x y (rowOffers (penOf r) rows constant (cornersOf p q s u) b)
+          → rowOffers (penOf (aimed x y r)) rows constant (cornersOf p q s u) b ≡ onPixel x y (rowOffers (penOf r) rows constant (cornersOf p q s u) b)
       row-aimed constant p q s u b =
-          spans-same (λ a. offersAt (penOf (aimed x y r)) rows constant (cornersOf p q s u) a b) (λ a. atPixel x y (offersAt (penOf r) rows constant (cornersOf p q s u) a b)) (r .frame .line)
+          spans-same (λ a. offersAt (penOf (aimed x y r)) rows constant (cornersOf p q s u) a b) (λ a. onPixel x y (offersAt (penOf r) rows constant (cornersOf p q s u) a b)) (r .frame .line)
           (λ a h. pixel-aimed constant p q s u a b)
           ∙ sym (at-spans (λ a. offersAt (penOf r) rows constant (cornersOf p q s u) a b) (r .frame .line))
 
       turned-aimed : (constant : Bool) (p q s u : Vertex)
-          → turnedOffers (penOf (aimed x y r)) rows constant (cornersOf p q s u) ≡ atPixel x y (turnedOffers (penOf r) rows constant (cornersOf p q s u))
+          → turnedOffers (penOf (aimed x y r)) rows constant (cornersOf p q s u) ≡ onPixel x y (turnedOffers (penOf r) rows constant (cornersOf p q s u))
       turned-aimed constant p q s u =
-          spans-same (rowOffers (penOf (aimed x y r)) rows constant (cornersOf p q s u)) (λ b. atPixel x y (rowOffers (penOf r) rows constant (cornersOf p q s u) b)) rows
+          spans-same (rowOffers (penOf (aimed x y r)) rows constant (cornersOf p q s u)) (λ b. onPixel x y (rowOffers (penOf r) rows constant (cornersOf p q s u) b)) rows
           (λ b h. row-aimed constant p q s u b)
           ∙ sym (at-spans (rowOffers (penOf r) rows constant (cornersOf p q s u)) rows)
 
       triangle-aimed : (constant : Bool) (a b c : Vertex)
-          → triangleOffers (penOf (aimed x y r)) rows constant a b c ≡ atPixel x y (triangleOffers (penOf r) rows constant a b c)
+          → triangleOffers (penOf (aimed x y r)) rows constant a b c ≡ onPixel x y (triangleOffers (penOf r) rows constant a b c)
       unfolding triangleOffers
       triangle-aimed constant a b c =
           let left = ltb (edgeAt a b (c .x) (c .y) .minus) (edgeAt a b (c .x) (c .y) .plus) in
@@ -142,7 +141,7 @@ module _ (x y : ℕ) where
       -- ---- lines
 
       dash-aimed : (kind : Kind) (ground : Bool) (style : Style) (a b : Vertex) (k : ℕ)
-          → dashOffers (penOf (aimed x y r)) rows kind ground style a b k ≡ atPixel x y (dashOffers (penOf r) rows kind ground style a b k)
+          → dashOffers (penOf (aimed x y r)) rows kind ground style a b k ≡ onPixel x y (dashOffers (penOf r) rows kind ground style a b k)
       unfolding dashOffers
       dash-aimed kind ground style a b k =
           let fore = offer kind (xAt a b k) (yAt a b k) (style .foreground) 0 in
@@ -150,12 +149,12 @@ module _ (x y : ℕ) where
           at-cond (isSet style k) (keep (penOf r) rows fore) (cond ground (keep (penOf r) rows back) []) (keep-aimed fore)
           (at-cond ground (keep (penOf r) rows back) [] (keep-aimed back) (sym at-nil))
 
-      from-aimed : (first : ℕ) (f g : ℕ → List Offer) (k : ℕ) → f k ≡ atPixel x y (g k) → from first f k ≡ atPixel x y (from first g k)
+      from-aimed : (first : ℕ) (f g : ℕ → List Offer) (k : ℕ) → f k ≡ onPixel x y (g k) → from first f k ≡ onPixel x y (from first g k)
       unfolding from
       from-aimed first f g k e = at-cond (ltb k first) [] (g k) (sym at-nil) e
 
       step-aimed : (style : Style) (mode : Mode) (a b : Vertex) (k : ℕ)
-          → stepOffers (penOf (aimed x y r)) rows style mode a b k ≡ atPixel x y (stepOffers (penOf r) rows style mode a b k)
+          → stepOffers (penOf (aimed x y r)) rows style mode a b k ≡ onPixel x y (stepOffers (penOf r) rows style mode a b k)
       unfolding shadeOffers
       step-aimed style Zero a b k =
           from-aimed (firstOf (style .joined)) (dashOffers (penOf (aimed x y r)) rows Line0 true style a b) (dashOffers (penOf r) rows Line0 true style a b) k (dash-aimed Line0 true style a b k)
@@ -164,16 +163,16 @@ module _ (x y : ℕ) where
       step-aimed style Two a b k = keep-aimed (offer Line2 (xAt a b k) (yAt a b k) (numberAt (larger a b) k (a .i) (b .i)) (numberAt (larger a b) k (a .z) (b .z)))
 
       segment-aimed : (style : Style) (a b : Vertex)
-          → segmentOffers (penOf (aimed x y r)) rows style a b ≡ atPixel x y (segmentOffers (penOf r) rows style a b)
+          → segmentOffers (penOf (aimed x y r)) rows style a b ≡ onPixel x y (segmentOffers (penOf r) rows style a b)
       unfolding segmentOffers
       segment-aimed style a b =
-          spans-same (stepOffers (penOf (aimed x y r)) rows style (style .mode) a b) (λ k. atPixel x y (stepOffers (penOf r) rows style (style .mode) a b k)) (larger a b + 1)
+          spans-same (stepOffers (penOf (aimed x y r)) rows style (style .mode) a b) (λ k. onPixel x y (stepOffers (penOf r) rows style (style .mode) a b k)) (larger a b + 1)
           (λ k h. step-aimed style (style .mode) a b k)
           ∙ sym (at-spans (stepOffers (penOf r) rows style (style .mode) a b) (larger a b + 1))
 
       -- ---- figures
 
-      whole-aimed : (f : Completed) → wholeOffers rows (aimed x y r) f ≡ atPixel x y (wholeOffers rows r f)
+      whole-aimed : (f : Completed) → wholeOffers rows (aimed x y r) f ≡ onPixel x y (wholeOffers rows r f)
       unfolding wholeOffers
       whole-aimed Nothing = sym at-nil
       whole-aimed (Triangle a b c) = triangle-aimed (isConstant r) a b c
@@ -186,14 +185,14 @@ module _ (x y : ℕ) where
       cut-aimed (Segment a b) = refl
 
       -- what a figure offers with the window narrowed is what it offers at (x, y)
-      pub offers-aimed : (f : Completed) → figureOffers rows (aimed x y r) f ≡ atPixel x y (figureOffers rows r f)
+      pub offers-aimed : (f : Completed) → figureOffers rows (aimed x y r) f ≡ onPixel x y (figureOffers rows r f)
       unfolding figureOffers
       offers-aimed f = rw (cut-aimed f) (at-cond (isCut r f) [] (wholeOffers rows r f) (sym at-nil) (whole-aimed f))
 
     module _ (f : Completed) (i z : List ℕ) where
       -- so what is counted are those of a figure's offers at (x, y) that pass
       pub passes-there : passesAt x y r f i z
-          ≡ drawn (penOf (aimed x y r)) (atPixel x y (figureOffers (rowsOf (r .frame) (length i) (length z)) r f)) (picture i z 0) .passed
+          ≡ drawn (penOf (aimed x y r)) (onPixel x y (figureOffers (rowsOf (r .frame) (length i) (length z)) r f)) (picture i z 0) .passed
       unfolding passesAt
       passes-there =
           ap (λ (os : List Offer). drawn (penOf (aimed x y r)) os (picture i z 0) .passed) (offers-aimed (rowsOf (r .frame) (length i) (length z)) f)
