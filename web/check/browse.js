@@ -95,7 +95,7 @@ async function theReplay() {
     }
 }
 
-// The words that passed a pixel: the last with the numbers that draw has there, each from what the one before left; as trace says, where it is built.
+// The words that passed a pixel: the last with the numbers that draw has there, each from what the one before left; as trace says.
 async function aClick(x, y) {
     const want = scene.places.get(`${x} ${y}`), { said, passes } = await page.clicked(x, y), last = passes[passes.length - 1];
     await expect(said === `At x ${x}, y ${y}: ${passes.length} ${passes.length === 1 ? 'word' : 'words'} passed.`, 'the page says', said);
@@ -105,11 +105,10 @@ async function aClick(x, y) {
         await expect(i === before[0] && z === before[1], 'numbers change between words, at word', n);
         before = [nextI, nextZ];
     }
-    if (fs.existsSync(at(`trace-${x}-${y}`))) {
-        const lines = text(`trace-${x}-${y}`).split('\n').map(line => line.match(/^(\d+) .* I +(\d+) -> +(\d+) Z +(\d+) -> +(\d+)$/)).filter(Boolean);
-        const told = JSON.stringify(lines.map(m => m.slice(1).map(Number)));
-        await expect(told === JSON.stringify(passes), 'trace says', told, 'of', x, y, 'and the page', JSON.stringify(passes));
-    }
+    // a line has the word's index behind `#`, and last I and Z before the word and after it
+    const lines = text(`trace-${x}-${y}`).split('\n').filter(Boolean).map(line => line.split(/ +/));
+    const told = JSON.stringify(lines.map(f => [f[2], f.at(-4), f.at(-2), f.at(-3), f.at(-1)].map(Number)));
+    await expect(told === JSON.stringify(passes), 'trace says', told, 'of', x, y, 'and the page', JSON.stringify(passes));
     // a jump: after the word the place is as it left it, before the word as it was
     const [n, , i, , z] = passes[0];
     await page.click('#passes .word');
