@@ -8,10 +8,10 @@ use native.Mathlib.Omega.{arith}
 use native.Mathlib.Numerals.{add-one}
 use Rattle.picture.proofs.Near.{near-told}
 use Rattle.triangle.specs.declared.Corners.{Corners}
-use Rattle.triangle.specs.declared.Edges.{Edges}
+use Rattle.triangle.specs.declared.Slopes.{Slopes}
 use Rattle.triangle.specs.Edge.{covers, amount, areaOf}
 use Rattle.triangle.specs.Number.{massOf, mixed, shade}
-use Rattle.triangle.specs.Loops.{edgesAt, Turned, Ready, massBy, scaled, Paces, Near, Drifts, Runs}
+use Rattle.triangle.specs.Loops.{edgesAt, Turned, Ready, massBy, scaled, Paces, Near, Drifts, Runs, Begun}
 use Rattle.triangle.proofs.Plane.{mean-most, right-plus, right-minus}
 use Rattle.triangle.proofs.Covers.{covered-ready, covered-within}
 
@@ -295,24 +295,20 @@ runs-short t k f few least most p q r hp hq hr lo hi y a g cov low n h =
     at (suc j) l =
         rw (run-suc a g j, run-next lo j, at j (omega arith)) (h .go (lo + j) y (cov j (omega arith)) (rw (run-next lo j) at (cov (suc j) l)))
 
-pub scaled-of : (t : Corners) (f p q r x y d : ℕ) (e : Edges) → d ≡ areaOf t → e ≡ edgesAt t x y
-    → massOf (amount (e .bc)) (amount (e .ca)) (amount (e .ab)) d p q r * f ≡ scaled t f p q r x y
-unfolding scaled
-scaled-of t f p q r x y d e hd he = rw (hd, he)
-
 -- ---- either way
 
-pub runs-of : (t : Corners) → Turned t → areaOf t ≤ 2147483648 → (p q r : ℕ) → p ≤ 65535 → q ≤ 65535 → r ≤ 65535 → (f g lo hi y a d : ℕ) (e : Edges) (long : Bool)
-    → (long ≡ false → (2 * areaOf t ≤ 65536) × (281474976710656 ≤ f * (2 * areaOf t)) × (f * (2 * areaOf t) ≤ 281474976710656 + 2 * areaOf t) × (Paces t f p q r g))
-    → (long ≡ true → Drifts t p q r g)
+pub runs-of : (t : Corners) → Turned t → areaOf t ≤ 2147483648 → (p q r : ℕ) → p ≤ 65535 → q ≤ 65535 → r ≤ 65535 → (g : Slopes) (add lo hi y a d n : ℕ)
+    → (g .long ≡ false → (2 * areaOf t ≤ 65536) × (281474976710656 ≤ g .f * (2 * areaOf t)) × (g .f * (2 * areaOf t) ≤ 281474976710656 + 2 * areaOf t) × (Paces t (g .f) p q r add))
+    → (g .long ≡ true → Drifts t p q r add)
     → ((j : ℕ) → lo + j < hi → covers t (lo + j) y ≡ true) → hi ≤ 65535 → a < 18446744073709551616
-    → d ≡ areaOf t → e ≡ edgesAt t lo y
-    → (long ≡ false → a ≡ massOf (amount (e .bc)) (amount (e .ca)) (amount (e .ab)) d p q r * f)
-    → (long ≡ true → (massOf (amount (e .bc)) (amount (e .ca)) (amount (e .ab)) d p q r * 281474976710656 ≤ a * (2 * d)) × (a * (2 * d) ≤ massOf (amount (e .bc)) (amount (e .ca)) (amount (e .ab)) d p q r * 281474976710656 + 1 * (2 * d)))
-    → Runs t p q r lo hi y a g
-runs-of t k fits p q r hp hq hr f g lo hi y a d e false s l cov wide low hd he ss ll =
-    let b = s refl in
-    runs-short t k f (b .0) (b .1) (b .2) p q r hp hq hr lo hi y a g cov low (ss refl ∙ scaled-of t f p q r lo y d e hd he) (b .3)
-runs-of t k fits p q r hp hq hr f g lo hi y a d e true s l cov wide low hd he ss ll =
-    let b = rw (hd, he) at (ll refl) in
-    runs-long t k fits p q r hp hq hr lo hi y a g cov wide low (record { low = b .0; high = b .1 }) (l refl)
+    → d ≡ areaOf t → n ≡ massBy t p q r lo y → Begun d g n a → Runs t p q r lo hi y a add
+unfolding scaled
+runs-of t k fits p q r hp hq hr g add lo hi y a d n s l cov wide low hd hn b = go (g .long) refl
+  where
+    go : (long : Bool) → g .long ≡ long → Runs t p q r lo hi y a add
+    go false e =
+        let m = s e in
+        runs-short t k (g .f) (m .0) (m .1) (m .2) p q r hp hq hr lo hi y a add cov low (b .short e ∙ ap (λ (k : ℕ). k * g .f) hn) (m .3)
+    go true e =
+        let m = rw (hd, hn) at (b .long e) in
+        runs-long t k fits p q r hp hq hr lo hi y a add cov wide low (record { low = m .0; high = m .1 }) (l e)

@@ -1,22 +1,20 @@
--- Which pixels corners that turn anticlockwise cover: what a covered pixel is good for, and the columns that an edge keeps of a row.
+-- Which pixels corners that turn anticlockwise cover, and what a covered pixel is good for.
 -- Assumes nothing.
 use mathlib.Core.Path.{_≡_, refl, sym}
 use mathlib.Core.Bool.{Bool, true, false, _&&_, _||_, true≢false}
-use Prim.Native.Nat.{ℕ, _+_, _*_, _-_, _/_, _≤_, _<_, zero-le, min, max}
+use Prim.Native.Nat.{ℕ, _+_, _*_, _-_, _≤_, _<_, min, max}
 use borrow.Author.Tests.{ltb-true, ltb-false, eqb-true, lt-ltb, eq-eqb}
 use native.Mathlib.Omega.{arith}
-use native.Mathlib.Nat.{le-refl, min-le-left, mul-le-mul-right}
 use lib.Dec.{ltb, eqb}
-use Rattle.picture.specs.declared.Vertex.{Vertex}
 use Rattle.picture.specs.declared.Pen.{Pen}
 use Rattle.picture.proofs.Places.{both}
 use Rattle.triangle.specs.declared.Corners.{Corners}
 use Rattle.triangle.specs.declared.Edge.{Edge}
 use Rattle.triangle.specs.declared.Edges.{Edges}
 use Rattle.triangle.specs.declared.Span.{Span}
-use Rattle.triangle.specs.Edge.{plusOf, minusOf, edgeAt, closed, inside, within, covers, areaOf}
+use Rattle.triangle.specs.Edge.{edgeAt, inside, within, covers, areaOf}
 use Rattle.triangle.specs.Loops.{edgesAt, Turned, Ready, short, Keeps, Cuts, Spanned}
-use Rattle.triangle.proofs.Plane.{weights, across, upward, plus-from, minus-from, first-in, first-out, end-in, end-out, max-le, max-le-r, lt-min, lt-min-r, le-of-not, lt-of-not}
+use Rattle.triangle.proofs.Plane.{weights, across, upward}
 
 -- ---- the test of an edge
 
@@ -97,49 +95,7 @@ module _ (t : Corners) (k : Turned t) (x y : ℕ) (h : covers t x y ≡ true) wh
   pub covered-across : (min (t .a .x) (min (t .b .x) (t .c .x)) ≤ x) × (x ≤ max (t .a .x) (max (t .b .x) (t .c .x)))
   covered-across = across (t .a .x) (t .a .y) (t .b .x) (t .b .y) (t .c .x) (t .c .y) x y (k .turns) (w .ab) (w .bc) (w .ca)
 
--- ---- the columns that an edge keeps of a row
-
--- one edge's part
-module _ (a b : Vertex) (y : ℕ) (s : Span) (p m : ℕ)
-    (hp : p ≡ plusOf (a .x) (a .y) (b .x) (b .y) 0 y)
-    (hm : m ≡ minusOf (a .x) (a .y) (b .x) (b .y) 0 y + short (closed a b)) where
-  to : (x : ℕ) → m + b .y * x ≤ p + a .y * x → Keeps a b x y
-  to x h = record { so = omega (arith, hp, hm, plus-from (a .x) (a .y) (b .x) (b .y) x y, minus-from (a .x) (a .y) (b .x) (b .y) x y) }
-
-  of : (x : ℕ) → Keeps a b x y → m + b .y * x ≤ p + a .y * x
-  of x h = omega (arith, h .so, hp, hm, plus-from (a .x) (a .y) (b .x) (b .y) x y, minus-from (a .x) (a .y) (b .x) (b .y) x y)
-
-  pub cut-all : b .y ≤ a .y → m ≤ p → Cuts a b y s s
-  cut-all h l =
-      record {
-        shrinks = le-refl _;
-        inner = λ x u v. (u, v, to x (omega (arith, mul-le-mul-right x h)));
-        outer = λ x u v k. (u, v);
-      }
-
-  pub cut-first : (f : ℕ) → b .y < a .y → p < m → f ≡ (m - p - 1) / (a .y - b .y) + 1 → Cuts a b y s (record { lo = max (s .lo) f; hi = s .hi })
-  cut-first f h l e =
-      record {
-        shrinks = le-refl _;
-        inner = λ x u v. (omega arith, v, to x (first-in p m (a .y) (b .y) x h l (rw e at (max-le-r (s .lo) f x u))));
-        outer = λ x u v k. (max-le (s .lo) f x u (le-of-not (λ g. first-out p m (a .y) (b .y) x h l (rw e at g) (of x k))), v);
-      }
-
-  pub cut-none : a .y ≤ b .y → p < m → Cuts a b y s (record { lo = s .lo; hi = 0 })
-  cut-none h l =
-      record {
-        shrinks = zero-le;
-        inner = λ x u v. absurd (omega arith);
-        outer = λ x u v k. absurd (omega (arith, of x k, mul-le-mul-right x h));
-      }
-
-  pub cut-end : (f : ℕ) → a .y < b .y → m ≤ p → f ≡ (p - m) / (b .y - a .y) + 1 → Cuts a b y s (record { lo = s .lo; hi = min (s .hi) f })
-  cut-end f h l e =
-      record {
-        shrinks = min-le-left _ _;
-        inner = λ x u v. (u, omega arith, to x (end-in p m (a .y) (b .y) x h l (rw e at (lt-min-r (s .hi) f x v))));
-        outer = λ x u v k. (u, lt-min (s .hi) f x v (lt-of-not (λ g. end-out p m (a .y) (b .y) x h l (rw e at g) (of x k))));
-      }
+-- ---- the columns of a row
 
 -- three cuts of the window's and the memory's columns leave the covered ones
 pub spanned-of : (pen : Pen) (t : Corners) (y hi : ℕ) (p q r : Span) → hi ≡ min (pen .frame .line) (pen .right + 1)

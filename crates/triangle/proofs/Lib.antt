@@ -1,5 +1,7 @@
 pub mod Plane
 pub mod Covers
+pub mod Sides
+pub mod Sums
 pub mod Carry
 pub mod Rows
 pub mod Turning

@@ -160,6 +160,16 @@ pub right-minus : (ax ay bx by x y : ℕ) → minusOf ax ay bx by (x + 1) y ≡ 
 unfolding minusOf
 right-minus ax ay bx by x y = omega (arith, mul-add by x 1)
 
+-- ---- one row up
+
+pub up-plus : (ax ay bx by x y : ℕ) → plusOf ax ay bx by x (y + 1) ≡ plusOf ax ay bx by x y + bx
+unfolding plusOf
+up-plus ax ay bx by x y = omega (arith, mul-add bx y 1)
+
+pub up-minus : (ax ay bx by x y : ℕ) → minusOf ax ay bx by x (y + 1) ≡ minusOf ax ay bx by x y + ax
+unfolding minusOf
+up-minus ax ay bx by x y = omega (arith, mul-add ax y 1)
+
 -- ---- the columns that an edge keeps of a row
 
 pub plus-from : (ax ay bx by x y : ℕ) → plusOf ax ay bx by x y ≡ plusOf ax ay bx by 0 y + ay * x

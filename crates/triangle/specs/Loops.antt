@@ -2,6 +2,7 @@
 use Prim.Native.Nat.{ℕ, _+_, _-_, _*_, _/_, _%_, _^_, _≤_, _<_, min, max}
 use mathlib.Core.Path.{_≡_}
 use mathlib.Core.Bool.{Bool, true, false}
+use lib.Dec.{ltb}
 use Rattle.picture.specs.declared.Vertex.{Vertex}
 use Rattle.picture.specs.declared.Pen.{Pen}
 use Rattle.picture.specs.Draw.{carriedTo}
@@ -9,6 +10,9 @@ use Rattle.triangle.specs.declared.Corners.{Corners}
 use Rattle.triangle.specs.declared.Edges.{Edges}
 use Rattle.triangle.specs.declared.Span.{Span}
 use Rattle.triangle.specs.declared.Height.{Height}
+use Rattle.triangle.specs.declared.Side.{Side}
+use Rattle.triangle.specs.declared.Sum.{Sum}
+use Rattle.triangle.specs.declared.Rising.{Rising}
 use Rattle.triangle.specs.declared.Slopes.{Slopes}
 use Rattle.triangle.specs.declared.Shades.{Shades}
 use Rattle.triangle.specs.declared.Shades.the-variants.{Flat, Carried, Divided}
@@ -54,6 +58,23 @@ pub record Measures (a b : Vertex) (h : Height) : Type 0 where
 pub record Keeps (a b : Vertex) (x y : ℕ) : Type 0 where
   pub so : minusOf (a .x) (a .y) (b .x) (b .y) x y + short (closed a b) ≤ plusOf (a .x) (a .y) (b .x) (b .y) x y
 
+-- the number of a side whose edge just keeps column 0
+abbrev pub middle : ℕ
+middle = 68719476736
+
+-- s is the edge from a to b in row y: one that falls bounds the columns from the left, any other from the right, and its number is as far above `middle` as
+-- the edge is from keeping column 0, or from leaving it outside
+pub record Stands (a b : Vertex) (y : ℕ) (s : Side) : Type 0 where
+  pub left : s .left ≡ ltb (b .y) (a .y)
+  pub falls : b .y < a .y → (s .at + plusOf (a .x) (a .y) (b .x) (b .y) 0 y + 1 ≡ middle + (minusOf (a .x) (a .y) (b .x) (b .y) 0 y + short (closed a b))) × (s .up ≡ a .x) × (s .down ≡ b .x)
+  pub rises : a .y ≤ b .y → (s .at + (minusOf (a .x) (a .y) (b .x) (b .y) 0 y + short (closed a b)) ≡ middle + plusOf (a .x) (a .y) (b .x) (b .y) 0 y) × (s .up ≡ b .x) × (s .down ≡ a .x)
+  pub height : Measures a b (s .height)
+
+-- r bounds the columns that the edge keeps of row y: those from r on where it falls, and those below r where it does not
+pub record Bounds (a b : Vertex) (y r : ℕ) : Type 0 where
+  pub falls : b .y < a .y → (x : ℕ) → x < 65536 → (r ≤ x → Keeps a b x y) × (Keeps a b x y → r ≤ x)
+  pub rises : a .y ≤ b .y → (x : ℕ) → x < 65536 → (x < r → Keeps a b x y) × (Keeps a b x y → x < r)
+
 -- r is what the edge keeps of s
 pub record Cuts (a b : Vertex) (y : ℕ) (s r : Span) : Type 0 where
   pub shrinks : r .hi ≤ s .hi
@@ -79,6 +100,51 @@ startOf limit a b c = max limit (min a (min b c))
 
 abbrev pub massBy : Corners → ℕ → ℕ → ℕ → ℕ → ℕ → ℕ
 massBy t p q r x y = massOf (amount (edgeAt (t .b) (t .c) x y)) (amount (edgeAt (t .c) (t .a) x y)) (amount (edgeAt (t .a) (t .b) x y)) (areaOf t) p q r
+
+-- the corner numbers p, q, r times the coordinate of the next corner, and times that of the one before
+abbrev pub ahead : ℕ → ℕ → ℕ → ℕ → ℕ → ℕ → ℕ
+ahead u v w p q r = p * v + q * w + r * u
+
+abbrev pub behind : ℕ → ℕ → ℕ → ℕ → ℕ → ℕ → ℕ
+behind u v w p q r = p * w + q * u + r * v
+
+-- s is half the sum of the corner numbers p, q, r at column 0 of row y, with what a pixel to the right and a row up change
+pub record Sums (t : Corners) (p q r y : ℕ) (s : Sum) : Type 0 where
+  pub plus : s .plus ≡ p * edgeAt (t .b) (t .c) 0 y .plus + q * edgeAt (t .c) (t .a) 0 y .plus + r * edgeAt (t .a) (t .b) 0 y .plus
+  pub minus : s .minus ≡ p * edgeAt (t .b) (t .c) 0 y .minus + q * edgeAt (t .c) (t .a) 0 y .minus + r * edgeAt (t .a) (t .b) 0 y .minus
+  pub right-rise : s .right .rise ≡ ahead (t .a .y) (t .b .y) (t .c .y) p q r
+  pub right-fall : s .right .fall ≡ behind (t .a .y) (t .b .y) (t .c .y) p q r
+  pub up-rise : s .up .rise ≡ behind (t .a .x) (t .b .x) (t .c .x) p q r
+  pub up-fall : s .up .fall ≡ ahead (t .a .x) (t .b .x) (t .c .x) p q r
+
+-- what is carried from row to row, in row y
+pub record Rises (t : Corners) (y : ℕ) (w : Rising) : Type 0 where
+  pub ab : Stands (t .a) (t .b) y (w .ab)
+  pub bc : Stands (t .b) (t .c) y (w .bc)
+  pub ca : Stands (t .c) (t .a) y (w .ca)
+  pub i : Sums t (t .a .i) (t .b .i) (t .c .i) y (w .i)
+  pub z : Sums t (t .a .z) (t .b .z) (t .c .z) y (w .z)
+
+-- pixel (x, y) is one of the memory's columns and covered by corners of doubled area d
+pub record Covered (t : Corners) (d x y : ℕ) : Type 0 where
+  pub turned : Turned t
+  pub area : d ≡ areaOf t
+  pub fits : d ≤ 2147483648
+  pub column : x ≤ 65535
+  pub row : y ≤ 65535
+  pub covered : covers t x y ≡ true
+
+-- a sum that can be carried: not too large, and with a factor that fits
+pub record Begins (d : ℕ) (g : Slopes) (n : ℕ) : Type 0 where
+  pub some : 0 < d
+  pub fits : d ≤ 2147483648
+  pub low : n ≤ 131071 * d
+  pub factor : g .long ≡ false → (2 * d ≤ 65536) × (g .f * (2 * d) ≤ 281474976710656 + 2 * d)
+
+-- k is the sum n as it is carried: times the factor, or 2 ^ 48 times its quotient, rounded up
+pub record Begun (d : ℕ) (g : Slopes) (n k : ℕ) : Type 0 where
+  pub short : g .long ≡ false → k ≡ n * g .f
+  pub long : g .long ≡ true → (n * 281474976710656 ≤ k * (2 * d)) × (k * (2 * d) ≤ n * 281474976710656 + 1 * (2 * d))
 
 -- a corner number's sum times f: 2 ^ 48 times the number, and less than 2 ^ 48 more
 unfoldable pub scaled : Corners → ℕ → ℕ → ℕ → ℕ → ℕ → ℕ → ℕ

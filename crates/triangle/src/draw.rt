@@ -6,11 +6,12 @@ ghost use Prim.Native.Nat.{ℕ, _+_, _≤_, _<_};
 ghost use Rattle.picture.specs.Draw.{carriedTo};
 ghost use Rattle.picture.specs.Picture.{picture};
 ghost use Rattle.triangle.specs.Edge.{covers, areaOf};
-ghost use Rattle.triangle.specs.Loops.{endOf, startOf, Turned, Spanned, Carries, Shaded, Told, Serves, InRows, Large};
+ghost use Rattle.triangle.specs.Loops.{endOf, startOf, Turned, Spanned, Carries, Shaded, Told, Serves, InRows, Rises, Large};
 ghost use Rattle.triangle.specs.Offers.{kindOf, offersAt, rowOffers, turnedOffers, cornersOf, triangleOffers};
 ghost use Rattle.picture.specs.Lent.{Draws};
 use crate::Corners;
 use crate::Edge;
+use crate::Rising;
 use crate::Run;
 use crate::Shades;
 use crate::Slopes;
@@ -22,6 +23,11 @@ use crate::cover::gap;
 use crate::number::begin;
 use crate::number::number;
 use crate::number::slopes_of;
+use crate::number::sum_at;
+use crate::number::sum_of;
+use crate::number::summed_up;
+use crate::row::raised;
+use crate::row::side_of;
 use crate::row::spanned;
 use picture::Carried;
 use picture::Kind;
@@ -53,13 +59,16 @@ fn flat_run(t: Corners, s: Span, y: u16) -> Run
 }
 
 // A row's numbers in a Gouraud triangle, carried.
-fn carried_run(pen: Pen, t: Corners, d: usize, g: Slopes, s: Span, y: u16) -> Run
-    requires { ⌜ (Turned t) × (d ≡ areaOf t) × (Carries t g) × (Spanned pen t y s) × (s .lo < s .hi) ⌝ }
+fn carried_run(pen: Pen, t: Corners, d: usize, g: Slopes, w: Rising, s: Span, y: u16) -> Run
+    requires { ⌜ (Turned t) × (d ≡ areaOf t) × (Carries t g) × (Rises t y w) × (Spanned pen t y s) × (s .lo < s .hi) ⌝ }
     ensures { λ r. ⌜ Told false t y s r ⌝ }
 {
-    let f = edges_at(t, s.lo, y as usize);
-    let ki = begin(t, d, g, f, t.a.i, t.b.i, t.c.i);
-    let kz = begin(t, d, g, f, t.a.z, t.b.z, t.c.z);
+    let sum_i = w.i;
+    let sum_z = w.z;
+    let ni = sum_at(t, d, s.lo, y as usize, t.a.i, t.b.i, t.c.i, sum_i);
+    let nz = sum_at(t, d, s.lo, y as usize, t.a.z, t.b.z, t.c.z, sum_z);
+    let ki = begin(d, g, ni);
+    let kz = begin(d, g, nz);
     let i = Carried {
         first: ki as u64,
         add: g.i as u64,
@@ -72,13 +81,22 @@ fn carried_run(pen: Pen, t: Corners, d: usize, g: Slopes, s: Span, y: u16) -> Ru
 }
 
 // How a row with covered pixels is drawn.
-fn way_of(pen: Pen, constant: bool, t: Corners, d: usize, shades: Shades, s: Span, y: u16) -> Way
-    requires { ⌜ (Turned t) × (d ≡ areaOf t) × (Shaded constant t shades) × (Spanned pen t y s) × (s .lo < s .hi) ⌝ }
+fn way_of(
+    pen: Pen,
+    constant: bool,
+    t: Corners,
+    d: usize,
+    shades: Shades,
+    w: Rising,
+    s: Span,
+    y: u16,
+) -> Way
+    requires { ⌜ (Turned t) × (d ≡ areaOf t) × (Shaded constant t shades) × (Rises t y w) × (Spanned pen t y s) × (s .lo < s .hi) ⌝ }
     ensures { λ r. ⌜ Serves constant t y s r ⌝ }
 {
     match shades {
         Shades::Flat => return Way::Along(flat_run(t, s, y)),
-        Shades::Carried(g) => return Way::Along(carried_run(pen, t, d, g, s, y)),
+        Shades::Carried(g) => return Way::Along(carried_run(pen, t, d, g, w, s, y)),
         Shades::Divided => return Way::Each,
     }
 }
@@ -162,16 +180,17 @@ fn draw_row(
     t: Corners,
     d: usize,
     shades: Shades,
+    w: Rising,
     y: u16,
     im: &mut [u16],
     zm: &mut [u16],
 ) -> u64
-    requires { ⌜ (Turned t) × (d ≡ areaOf t) × (d ≤ 12884508675) × (Shaded constant t shades) × (InRows pen y) ⌝ }
+    requires { ⌜ (Turned t) × (d ≡ areaOf t) × (d ≤ 12884508675) × (Shaded constant t shades) × (Rises t y w) × (InRows pen y) ⌝ }
     ensures { λ r. ⌜ Draws pen (λ rows. rowOffers pen rows constant t y) im zm 0 r ⌝ }
 {
-    let s = spanned(pen, t, y);
+    let s = spanned(pen, t, w, y);
     if s.lo < s.hi {
-        let way = way_of(pen, constant, t, d, shades, s, y);
+        let way = way_of(pen, constant, t, d, shades, w, s, y);
         match way {
             Way::Along(r) => return run_row(pen, constant, t, s, r, y, im, zm),
             Way::Each => return divided_row(pen, t, d, s, y, im, zm),
@@ -192,6 +211,43 @@ fn shades_of(constant: bool, t: Corners, d: usize) -> Shades
         return Shades::Carried(slopes_of(t, d));
     }
     Shades::Divided
+}
+
+// What is carried from row to row, in row y.
+fn rising_of(t: Corners, y: usize) -> Rising
+    requires { ⌜ y ≤ 65535 ⌝ }
+    ensures { λ w. ⌜ Rises t y w ⌝ }
+{
+    let a = t.a;
+    let b = t.b;
+    let c = t.c;
+    let ab = side_of(a, b, y);
+    let bc = side_of(b, c, y);
+    let ca = side_of(c, a, y);
+    let i = sum_of(t, y, a.i, b.i, c.i);
+    let z = sum_of(t, y, a.z, b.z, c.z);
+    Rising { ab, bc, ca, i, z }
+}
+
+// The same a row on.
+fn risen(t: Corners, y: usize, w: Rising) -> Rising
+    requires { ⌜ (y ≤ 65535) × (Rises t y w) ⌝ }
+    ensures { λ r. ⌜ Rises t (y + 1) r ⌝ }
+{
+    let a = t.a;
+    let b = t.b;
+    let c = t.c;
+    let side_ab = w.ab;
+    let side_bc = w.bc;
+    let side_ca = w.ca;
+    let sum_i = w.i;
+    let sum_z = w.z;
+    let ab = raised(a, b, y, side_ab);
+    let bc = raised(b, c, y, side_bc);
+    let ca = raised(c, a, y, side_ca);
+    let i = summed_up(t, y, a.i, b.i, c.i, sum_i);
+    let z = summed_up(t, y, a.z, b.z, c.z, sum_z);
+    Rising { ab, bc, ca, i, z }
 }
 
 // The first row of the corners and the window.
@@ -229,9 +285,11 @@ fn draw_turned(
     let top = end_of(rows, pen.top, t.a.y, t.c.y, t.b.y);
     let shades = shades_of(constant, t, d);
     let mut y = least(start_of(pen.bottom, t.a.y, t.c.y, t.b.y), top);
+    let mut w = rising_of(t, y);
     let mut n: u64 = 0;
     while y < top {
-        n += draw_row(pen, constant, t, d, shades, y as u16, im, zm);
+        n += draw_row(pen, constant, t, d, shades, w, y as u16, im, zm);
+        w = risen(t, y, w);
         y += 1;
     }
     n

@@ -41,6 +41,39 @@ pub(crate) struct Height {
     pub(crate) inv: usize,
 }
 
+// An edge in a row: whether it bounds the covered columns from the left, by a number that tells how far it is from keeping column 0, what the next row
+// adds to that number and takes from it, and the edge's height.
+pub(crate) struct Side {
+    pub(crate) left: bool,
+    pub(crate) at: usize,
+    pub(crate) up: u16,
+    pub(crate) down: u16,
+    pub(crate) height: Height,
+}
+
+// What a step adds to half a sum, and takes from it.
+pub(crate) struct Change {
+    pub(crate) rise: usize,
+    pub(crate) fall: usize,
+}
+
+// Half the sum of three corner numbers at column 0 of a row: what is added and what is taken away, and what a pixel to the right and a row up change.
+pub(crate) struct Sum {
+    pub(crate) plus: usize,
+    pub(crate) minus: usize,
+    pub(crate) right: Change,
+    pub(crate) up: Change,
+}
+
+// What is carried from row to row: the three edges, and the sums of I and Z.
+pub(crate) struct Rising {
+    pub(crate) ab: Side,
+    pub(crate) bc: Side,
+    pub(crate) ca: Side,
+    pub(crate) i: Sum,
+    pub(crate) z: Sum,
+}
+
 // How the numbers of a triangle are carried along its rows: the factor of a sum, or `long` for sums that want divisions in each row, and what
 // a step to the right adds to I and to Z, modulo 2^64.
 pub(crate) struct Slopes {

@@ -6,10 +6,13 @@ ghost use mathlib.Core.Bool.{true, false};
 ghost use Prim.Native.Nat.{_+_, _*_, _<_, _≤_};
 ghost use Rattle.triangle.specs.Edge.{amount, areaOf};
 ghost use Rattle.triangle.specs.Number.{massOf, mixed};
-ghost use Rattle.triangle.specs.Loops.{Turned, Ready, Paces, Drifts, Carries};
+ghost use Rattle.triangle.specs.Loops.{Turned, Ready, ahead, behind, massBy, Covered, Sums, Begins, Begun, Paces, Drifts, Carries};
+use crate::Change;
 use crate::Corners;
 use crate::Edges;
 use crate::Slopes;
+use crate::Sum;
+use crate::cover::edge_at;
 use crate::cover::times;
 use picture::place::least;
 
@@ -51,37 +54,97 @@ fn fixed(n: usize, m: usize) -> usize
     (n / m) * 281474976710656 + part(n % m, m)
 }
 
-// The sum at a covered pixel to be carried along its row.
-pub(crate) fn begin(t: Corners, d: usize, g: Slopes, e: Edges, p: u16, q: u16, r: u16) -> usize
-    requires { ⌜ (Ready t d e) × (d ≤ 2147483648) × (g .long ≡ false → (2 * d ≤ 65536) × (g .f * (2 * d) ≤ 281474976710656 + 2 * d)) ⌝ }
-    ensures { λ k. ⌜ (g .long ≡ false → k ≡ massOf (amount (e .bc)) (amount (e .ca)) (amount (e .ab)) d p q r * g .f) × (g .long ≡ true → (massOf (amount (e .bc)) (amount (e .ca)) (amount (e .ab)) d p q r * 281474976710656 ≤ k * (2 * d)) × (k * (2 * d) ≤ massOf (amount (e .bc)) (amount (e .ca)) (amount (e .ab)) d p q r * 281474976710656 + 1 * (2 * d))) ⌝ }
+// A sum at a covered pixel, to be carried along its row.
+pub(crate) fn begin(d: usize, g: Slopes, n: usize) -> usize
+    requires { ⌜ Begins d g n ⌝ }
+    ensures { λ k. ⌜ Begun d g n k ⌝ }
 {
-    let n = mass(t, d, e, p, q, r);
     if g.long {
         return fixed(n, 2 * d) + 1;
     }
     n * g.f
 }
 
-// What one pixel to the right adds to half a sum, and takes from it.
-struct Change {
-    rise: usize,
-    fall: usize,
-}
-
-// The change of the corner numbers p, q, r.
-fn change_of(t: Corners, p: u16, q: u16, r: u16) -> Change
-    ensures { λ k. ⌜ (k .rise ≡ p * t .b .y + q * t .c .y + r * t .a .y) × (k .fall ≡ p * t .c .y + q * t .a .y + r * t .b .y) ⌝ }
+// What a step along an axis changes, from the corners' coordinates u, v, w along the other.
+fn change_of(u: u16, v: u16, w: u16, p: u16, q: u16, r: u16) -> Change
+    ensures { λ k. ⌜ (k .rise ≡ ahead u v w p q r) × (k .fall ≡ behind u v w p q r) × (k .rise ≤ 12884508675) × (k .fall ≤ 12884508675) ⌝ }
 {
-    let ay = t.a.y as usize;
-    let by = t.b.y as usize;
-    let cy = t.c.y as usize;
+    let u = u as usize;
+    let v = v as usize;
+    let w = w as usize;
     let p = p as usize;
     let q = q as usize;
     let r = r as usize;
-    let rise = times(p, by) + times(q, cy) + times(r, ay);
-    let fall = times(p, cy) + times(q, ay) + times(r, by);
+    let rise = times(p, v) + times(q, w) + times(r, u);
+    let fall = times(p, w) + times(q, u) + times(r, v);
     Change { rise, fall }
+}
+
+// The corner numbers p, q, r times as much each.
+fn weighed(p: u16, q: u16, r: u16, u: usize, v: usize, w: usize) -> usize
+    requires { ⌜ (u ≤ 12884508675) × (v ≤ 12884508675) × (w ≤ 12884508675) ⌝ }
+    ensures { λ n. ⌜ n ≡ p * u + q * v + r * w ⌝ }
+{
+    (p as usize) * u + (q as usize) * v + (r as usize) * w
+}
+
+// The sum of the corner numbers p, q, r in row y.
+pub(crate) fn sum_of(t: Corners, y: usize, p: u16, q: u16, r: u16) -> Sum
+    requires { ⌜ y ≤ 65535 ⌝ }
+    ensures { λ s. ⌜ Sums t p q r y s ⌝ }
+{
+    let a = t.a;
+    let b = t.b;
+    let c = t.c;
+    let ab = edge_at(a, b, 0, y);
+    let bc = edge_at(b, c, 0, y);
+    let ca = edge_at(c, a, 0, y);
+    let right = change_of(a.y, b.y, c.y, p, q, r);
+    let across = change_of(a.x, b.x, c.x, p, q, r);
+    let up = Change {
+        rise: across.fall,
+        fall: across.rise,
+    };
+    Sum {
+        plus: weighed(p, q, r, bc.plus, ca.plus, ab.plus),
+        minus: weighed(p, q, r, bc.minus, ca.minus, ab.minus),
+        right,
+        up,
+    }
+}
+
+// The same sum a row on.
+pub(crate) fn summed_up(t: Corners, y: usize, p: u16, q: u16, r: u16, s: Sum) -> Sum
+    requires { ⌜ (y ≤ 65535) × (Sums t p q r y s) ⌝ }
+    ensures { λ n. ⌜ Sums t p q r (y + 1) n ⌝ }
+{
+    let right = s.right;
+    let up = s.up;
+    Sum {
+        plus: s.plus + up.rise,
+        minus: s.minus + up.fall,
+        right,
+        up,
+    }
+}
+
+// The sum at a covered pixel of row y.
+pub(crate) fn sum_at(
+    t: Corners,
+    d: usize,
+    x: usize,
+    y: usize,
+    p: u16,
+    q: u16,
+    r: u16,
+    s: Sum,
+) -> usize
+    requires { ⌜ (Covered t d x y) × (Sums t p q r y s) ⌝ }
+    ensures { λ n. ⌜ (n ≡ massBy t p q r x y) × (n ≤ 131071 * d) ⌝ }
+{
+    let plus = s.plus + x * s.right.rise;
+    let minus = s.minus + x * s.right.fall;
+    2 * (plus - minus) + d
 }
 
 // What one pixel to the right adds to a scaled sum, modulo 2^64.
@@ -89,7 +152,7 @@ fn pace_of(t: Corners, d: usize, f: usize, p: u16, q: u16, r: u16) -> usize
     requires { ⌜ (Turned t) × (d ≡ areaOf t) × (2 * d ≤ 65536) × (f * (2 * d) ≤ 281474976710656 + 2 * d) ⌝ }
     ensures { λ g. ⌜ Paces t f p q r g ⌝ }
 {
-    let c = change_of(t, p, q, r);
+    let c = change_of(t.a.y, t.b.y, t.c.y, p, q, r);
     let rise = c.rise;
     let fall = c.fall;
     if fall <= rise {
@@ -103,7 +166,7 @@ fn drift_of(t: Corners, d: usize, p: u16, q: u16, r: u16) -> usize
     requires { ⌜ (Turned t) × (d ≡ areaOf t) × (d ≤ 2147483648) ⌝ }
     ensures { λ g. ⌜ Drifts t p q r g ⌝ }
 {
-    let c = change_of(t, p, q, r);
+    let c = change_of(t.a.y, t.b.y, t.c.y, p, q, r);
     let rise = c.rise;
     let fall = c.fall;
     if fall <= rise {

@@ -1,10 +1,13 @@
-// The covered columns of a row: an edge's quotient is a product with its reciprocal, which the compiler takes out of the loop over the rows.
+// The covered columns of a row. What an edge keeps of it is told by one number, which is carried from row to row, and by a product with the edge's
+// reciprocal: no row divides.
 ghost use mathlib.Core.Path.{_≡_};
-ghost use Prim.Native.Nat.{_+_, _*_, _/_, _<_, _≤_};
+ghost use Prim.Native.Nat.{_+_, _*_, _≤_, _<_};
 ghost use Rattle.triangle.specs.Edge.{closed};
-ghost use Rattle.triangle.specs.Loops.{short, Measures, Cuts, Spanned};
+ghost use Rattle.triangle.specs.Loops.{short, Measures, Stands, Bounds, Cuts, Spanned, Rises};
 use crate::Corners;
 use crate::Height;
+use crate::Rising;
+use crate::Side;
 use crate::Span;
 use crate::cover::edge_at;
 use crate::cover::gap;
@@ -13,6 +16,9 @@ use picture::Pen;
 use picture::Vertex;
 use picture::place::least;
 use picture::place::most;
+
+// The number of a side whose edge just keeps column 0, so large that none falls below 0.
+const MIDDLE: usize = 68719476736;
 
 // What an edge must exceed the other side by.
 fn short_of(a: Vertex, b: Vertex) -> usize
@@ -24,23 +30,11 @@ fn short_of(a: Vertex, b: Vertex) -> usize
     1
 }
 
-// 2^48 over an edge's height, and a little more. An edge without height has no quotient: the divisor is at least 1, so that the compiler may
-// divide before it knows.
+// 2^48 over an edge's height, and a little more. An edge without height has no quotient, and its divisor is 1.
 fn inverse(tall: usize) -> usize
     ensures { λ r. ⌜ (0 < tall → (281474976710656 ≤ r * tall) × (r * tall ≤ 281474976710656 + tall)) ⌝ }
 {
     281474976710656 / most(tall, 1) + 1
-}
-
-// v over an edge's height, by its reciprocal where the quotient is below 65,536. Beyond that no picture has columns.
-fn over(v: usize, tall: usize, inv: usize) -> usize
-    requires { ⌜ (0 < tall) × (tall ≤ 65535) × (281474976710656 ≤ inv * tall) × (inv * tall ≤ 281474976710656 + tall) ⌝ }
-    ensures { λ r. ⌜ r ≡ v / tall ⌝ }
-{
-    if v < 65536 * tall {
-        return v * inv / 281474976710656;
-    }
-    v / tall
 }
 
 // The height of the edge from a to b, with its reciprocal.
@@ -52,56 +46,99 @@ fn height_of(a: Vertex, b: Vertex) -> Height
     Height { tall, inv }
 }
 
-// What the edge from a to b, of height h, keeps of the columns s of row y.
-fn cut(a: Vertex, b: Vertex, h: Height, y: usize, s: Span) -> Span
-    requires { ⌜ (y ≤ 65535) × (Measures a b h) ⌝ }
-    ensures { λ r. ⌜ Cuts a b y s r ⌝ }
+// The edge from a to b in row y.
+pub(crate) fn side_of(a: Vertex, b: Vertex, y: usize) -> Side
+    requires { ⌜ y ≤ 65535 ⌝ }
+    ensures { λ s. ⌜ Stands a b y s ⌝ }
 {
     let e = edge_at(a, b, 0, y);
     let plus = e.plus;
     let minus = e.minus + short_of(a, b);
-    let ay = a.y as usize;
-    let by = b.y as usize;
-    if by < ay {
-        if minus <= plus {
-            return s;
-        }
-        let first = over(minus - plus - 1, h.tall, h.inv) + 1;
-        return Span {
-            lo: most(s.lo, first),
-            hi: s.hi,
+    let height = height_of(a, b);
+    if b.y < a.y {
+        return Side {
+            left: true,
+            at: MIDDLE + minus - plus - 1,
+            up: a.x,
+            down: b.x,
+            height,
         };
     }
-    if plus < minus {
-        return Span { lo: s.lo, hi: 0 };
+    Side {
+        left: false,
+        at: MIDDLE + plus - minus,
+        up: b.x,
+        down: a.x,
+        height,
     }
-    if ay < by {
-        let end = over(plus - minus, h.tall, h.inv) + 1;
-        return Span {
-            lo: s.lo,
-            hi: least(s.hi, end),
-        };
-    }
-    s
 }
 
-// The covered columns of row y within the window and the memory. The heights come first, before anything branches: so the compiler takes their
-// divisions out of the loop over the rows.
-pub(crate) fn spanned(pen: Pen, t: Corners, y: u16) -> Span
+// The same edge a row on.
+pub(crate) fn raised(a: Vertex, b: Vertex, y: usize, s: Side) -> Side
+    requires { ⌜ (y ≤ 65535) × (Stands a b y s) ⌝ }
+    ensures { λ r. ⌜ Stands a b (y + 1) r ⌝ }
+{
+    let height = s.height;
+    Side {
+        left: s.left,
+        at: s.at + (s.up as usize) - (s.down as usize),
+        up: s.up,
+        down: s.down,
+        height,
+    }
+}
+
+// The first column that an edge keeps of row y, where it bounds from the left, and one past the last, where it bounds from the right. No picture has
+// columns from 65,536 on.
+fn bound(a: Vertex, b: Vertex, y: usize, s: Side) -> usize
+    requires { ⌜ (y ≤ 65535) × (Stands a b y s) ⌝ }
+    ensures { λ r. ⌜ Bounds a b y r ⌝ }
+{
+    if s.at < MIDDLE {
+        return 0;
+    }
+    let v = s.at - MIDDLE;
+    if v < 65536 * s.height.tall {
+        return v * s.height.inv / 281474976710656 + 1;
+    }
+    65536
+}
+
+// What the edge from a to b keeps of the columns k of row y.
+fn cut(a: Vertex, b: Vertex, y: usize, s: Side, k: Span) -> Span
+    requires { ⌜ (y ≤ 65535) × (Stands a b y s) × (k .hi ≤ 65536) ⌝ }
+    ensures { λ r. ⌜ Cuts a b y k r ⌝ }
+{
+    let limit = bound(a, b, y, s);
+    if s.left {
+        return Span {
+            lo: most(k.lo, limit),
+            hi: k.hi,
+        };
+    }
+    Span {
+        lo: k.lo,
+        hi: least(k.hi, limit),
+    }
+}
+
+// The covered columns of row y within the window and the memory.
+pub(crate) fn spanned(pen: Pen, t: Corners, w: Rising, y: u16) -> Span
+    requires { ⌜ Rises t y w ⌝ }
     ensures { λ r. ⌜ Spanned pen t y r ⌝ }
 {
     let a = t.a;
     let b = t.b;
     let c = t.c;
-    let ab = height_of(a, b);
-    let bc = height_of(b, c);
-    let ca = height_of(c, a);
+    let ab = w.ab;
+    let bc = w.bc;
+    let ca = w.ca;
     let hi = least(pen.frame.line as usize, pen.right as usize + 1);
-    let s = Span {
+    let all = Span {
         lo: pen.left as usize,
         hi,
     };
-    let p = cut(a, b, ab, y as usize, s);
-    let q = cut(b, c, bc, y as usize, p);
-    cut(c, a, ca, y as usize, q)
+    let first = cut(a, b, y as usize, ab, all);
+    let second = cut(b, c, y as usize, bc, first);
+    cut(c, a, y as usize, ca, second)
 }

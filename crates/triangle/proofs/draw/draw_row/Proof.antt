@@ -20,7 +20,7 @@ enum-known-way c = search needs
 run-row-requires : tie.Need-run-row-requires
 run-row-requires c κs =
     let s = c .before .before .before .before .before .before .before .before .before .before .before in
-    (c .before .before .before .before .before .before .before .before .spanned .ensures, s .pre .4, c .before .before .before .before .before .before .if1 .taken, rw (c .before .before .before .way .given .1) at (c .before .before .before .before .before .way-of .ensures))
+    (c .before .before .before .before .before .before .before .before .spanned .ensures, s .pre .5, c .before .before .before .before .before .before .if1 .taken, rw (c .before .before .before .way .given .1) at (c .before .before .before .before .before .way-of .ensures))
 
 same-length : tie.Need-same-length
 same-length c = search needs
@@ -38,7 +38,7 @@ divided-row-requires : tie.Need-divided-row-requires
 divided-row-requires c κs =
     let s = c .before .before .before .before .before .before .before .before .before .before in
     let w = rw (c .before .before .enum-told .given .1) at (c .before .before .before .before .way-of .ensures) in
-    (s .pre .0, s .pre .1, s .pre .2, c .before .before .before .before .before .before .before .spanned .ensures, s .pre .4, c .before .before .before .before .before .if1 .taken, w .1)
+    (s .pre .0, s .pre .1, s .pre .2, c .before .before .before .before .before .before .before .spanned .ensures, s .pre .5, c .before .before .before .before .before .if1 .taken, w .1)
 
 same-length-3 : tie.Need-same-length-3
 same-length-3 c = search needs

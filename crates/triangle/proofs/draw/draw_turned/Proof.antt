@@ -1,33 +1,47 @@
--- `draw::draw_turned` meets its contract. The invariant of its loop: the rows below y are drawn. The measure is the number of rows left.
--- Assumes nothing.
-use native.Mathlib.Nat.{mul-le-mul}
+-- `draw::draw_turned` meets its contract. The invariant of its loop: the rows below y are drawn, and what is carried from row to row is that of row y. The
+-- measure is the number of rows left. Assumes nothing.
+use native.Mathlib.Nat.{mul-le-mul, le-refl, min-le-left, min-le-right}
 use mathlib.Core.Path.{_≡_, sym, ap, ap₂, _∙_}
+use mathlib.Core.Bool.{Bool}
+use mathlib.Core.List.{List}
 use native.Mathlib.Omega.{arith}
 use lib.ListN.{length}
-use Prim.Native.Nat.{ℕ, _+_, _-_, _≤_}
+use Prim.Native.Nat.{ℕ, _+_, _-_, _≤_, min}
+use Rattle.picture.specs.declared.Pen.{Pen}
 use Rattle.picture.specs.Limits.{mostRows}
 use Rattle.picture.specs.Place.{rowsOf}
 use Rattle.picture.specs.Picture.{picture, drawn}
-use Prim.Native.Nat.{min}
-use borrow.Author.Needs.{needs}
-use native.Mathlib.Nat.{le-refl, min-le-left, min-le-right}
-use Rattle.triangle.specs.Offers.{rowOffers}
-use Rattle.triangle.specs.Loops.{endOf, startOf, Shaded}
 use Rattle.picture.proofs.Places.{rows-low}
 use Rattle.picture.proofs.Spans.{Reached, reached-start, reached-add, reached-end, reached-count, reached-i, reached-z}
+use Rattle.triangle.specs.declared.Corners.{Corners}
+use Rattle.triangle.specs.declared.Rising.{Rising}
+use Rattle.triangle.specs.declared.Shades.{Shades}
+use Rattle.triangle.specs.Offers.{rowOffers}
+use Rattle.triangle.specs.Loops.{endOf, startOf, Shaded, Rises}
 use Rattle.triangle.proofs.Rows.{row-length, row-below, row-above, row-within}
+use borrow.Author.Needs.{needs}
 use Rattle.triangle.proofs.draw.draw_turned.Statement.{statement}
 use Rattle.triangle.proofs.draw.draw_turned.Tie as tie
 
+-- how far the triangle is drawn before row y
+pub record Going (pen : Pen) (constant : Bool) (t : Corners) (im₀ zm₀ : List ℕ) (rows top : ℕ) (shades : Shades) (y₀ : ℕ) (im zm : List ℕ) (y : ℕ) (w : Rising) (n : ℕ) : Type 0 where
+  pub in-use : rows ≡ rowsOf (pen .frame) (length im₀) (length zm₀)
+  pub end : top ≡ endOf rows (pen .top) (t .a .y) (t .c .y) (t .b .y)
+  pub start : y₀ ≡ min (startOf (pen .bottom) (t .a .y) (t .c .y) (t .b .y)) (endOf rows (pen .top) (t .a .y) (t .c .y) (t .b .y))
+  pub shaded : Shaded constant t shades
+  pub line : pen .frame .line ≤ 65535
+  pub since : y₀ ≤ y
+  pub until : y ≤ top
+  pub below : top ≤ rows
+  pub few : rows ≤ mostRows
+  pub carried : Rises t y w
+  pub so-far : Reached pen (rowOffers pen rows constant t) im₀ zm₀ im zm n y
+
 abbrev Inv-loop : tie.InvT-loop
-Inv-loop pen constant t d im₀ zm₀ rows top shades y₀ n₀ im zm y n =
-    (rows ≡ rowsOf (pen .frame) (length im₀) (length zm₀)) × (top ≡ endOf rows (pen .top) (t .a .y) (t .c .y) (t .b .y))
-    × (y₀ ≡ min (startOf (pen .bottom) (t .a .y) (t .c .y) (t .b .y)) (endOf rows (pen .top) (t .a .y) (t .c .y) (t .b .y)))
-    × (Shaded constant t shades) × (pen .frame .line ≤ 65535) × (y₀ ≤ y) × (y ≤ top) × (top ≤ rows) × (rows ≤ mostRows)
-    × (Reached pen (rowOffers pen rows constant t) im₀ zm₀ im zm n y)
+Inv-loop pen constant t d im₀ zm₀ rows top shades y₀ w₀ n₀ im zm y w n = Going pen constant t im₀ zm₀ rows top shades y₀ im zm y w n
 
 abbrev μ-loop : tie.MeasureT-loop
-μ-loop pen constant t d im₀ zm₀ rows top shades y₀ n₀ im zm y n = top - y
+μ-loop pen constant t d im₀ zm₀ rows top shades y₀ w₀ n₀ im zm y w n = top - y
 
 rows-of-requires : tie.Need-rows-of-requires Inv-loop μ-loop
 rows-of-requires c κs = search needs
@@ -44,88 +58,114 @@ start-of-requires c κs = search needs
 least-requires : tie.Need-least-requires Inv-loop μ-loop
 least-requires c κs = search needs
 
-loop-holds : tie.Need-loop-holds Inv-loop μ-loop
-loop-holds c =
-    let s = c .before .before .before .before .before .before .before .before in
-    let a = s .args in
-    let r = c .before .before .before .before .rows-of in
-    let e = c .before .before .before .end-of .ensures in
-    let y₀ = c .least .ensures ∙ ap₂ (λ (p q : ℕ). min p q) (c .before .start-of .ensures) e in (
-      r .ensures,
-      e,
-      y₀,
-      c .before .before .shades-of .ensures,
-      omega (arith, s .good .0),
-      le-refl _,
-      rw (c .least .ensures) (min-le-right _ _),
-      rw e (min-le-left _ _),
-      rw (r .ensures) (rows-low (a .pen .frame) (length (a .im .now)) (length (a .zm .now))),
-      reached-start (λ y h. row-below (a .pen) (r .result) (a .constant) (a .t) (s .pre .0) y (rw y₀ at h)),
+-- the first row is at most the last, which is in use
+first-row : (k : tie.After-least Inv-loop μ-loop) → let top = k .before .before .before .end-of .result in (k .least .result ≤ top) × (top ≤ k .before .before .before .before .rows-of .result) × (k .before .before .before .before .rows-of .result ≤ mostRows)
+first-row k =
+    let a = k .before .before .before .before .before .before .before .before .args in (
+      rw (k .least .ensures) (min-le-right _ _),
+      rw (k .before .before .before .end-of .ensures) (min-le-left _ _),
+      rw (k .before .before .before .before .rows-of .ensures) (rows-low (a .pen .frame) (length (a .im .now)) (length (a .zm .now))),
     )
 
+rising-of-requires : tie.Need-rising-of-requires Inv-loop μ-loop
+rising-of-requires c κs = let f = first-row c in omega (arith, f .0, f .1, f .2)
+
+loop-holds : tie.Need-loop-holds Inv-loop μ-loop
+loop-holds c =
+    let k = c .before in
+    let s = c .before .before .before .before .before .before .before .before .before in
+    let a = s .args in
+    let rows = c .before .before .before .before .before .rows-of in
+    let end = c .before .before .before .before .end-of .ensures in
+    let start = k .least .ensures ∙ ap₂ (λ (p q : ℕ). min p q) (k .before .start-of .ensures) end in
+    let f = first-row k in
+    record {
+      in-use = rows .ensures;
+      end = end;
+      start = start;
+      shaded = c .before .before .before .shades-of .ensures;
+      line = omega (arith, s .good .0);
+      since = le-refl _;
+      until = f .0;
+      below = f .1;
+      few = f .2;
+      carried = c .rising-of .ensures;
+      so-far = reached-start (λ y h. row-below (a .pen) (rows .result) (a .constant) (a .t) (s .pre .0) y (rw start at h));
+    }
+
 cast-draw-row : tie.Need-cast-draw-row Inv-loop μ-loop
-cast-draw-row c = let k = c .before .loop .inv in omega (arith, c .loop-test .taken, k .7, k .8)
+cast-draw-row c = let k = c .before .loop .inv in omega (arith, c .loop-test .taken, k .below, k .few)
 
 draw-row-requires : tie.Need-draw-row-requires Inv-loop μ-loop
 draw-row-requires c κs =
-    let l = c .before .before .before in
-    let s = l .before .before .before .before .before .before .before .before .before in
+    let at-loop = c .before .before .before in
+    let s = at-loop .before .before .before .before .before .before .before .before .before .before in
     let a = s .args in
-    let k = l .loop .inv in
+    let k = at-loop .loop .inv in
     let h = c .before .before .loop-test .taken in
-    (s .pre .0, s .pre .1, s .pre .2, k .3, row-within (a .pen) _ (a .constant) (a .t) (s .pre .0) (l .loop .y) (rw (k .2) at (k .5)) (rw (k .1) at h))
+    (s .pre .0, s .pre .1, s .pre .2, k .shaded, k .carried, row-within (a .pen) _ (a .constant) (a .t) (s .pre .0) (at-loop .loop .y) (rw (k .start) at (k .since)) (rw (k .end) at h))
+
+-- the rows in use stay, whatever is drawn
+row-same : (l : tie.At-loop Inv-loop μ-loop) → let a = l .before .before .before .before .before .before .before .before .before .before .args in let k = l .loop in let p = picture (k .im) (k .zm) 0 in
+    drawn (a .pen) (rowOffers (a .pen) (rowsOf (a .pen .frame) (length (k .im)) (length (k .zm))) (a .constant) (a .t) (k .y)) p
+    ≡ drawn (a .pen) (rowOffers (a .pen) (l .before .before .before .before .before .before .rows-of .result) (a .constant) (a .t) (k .y)) p
+row-same l =
+    let a = l .before .before .before .before .before .before .before .before .before .before .args in
+    let k = l .loop in
+    ap (λ (r : ℕ). drawn (a .pen) (rowOffers (a .pen) r (a .constant) (a .t) (k .y)) (picture (k .im) (k .zm) 0))
+    (ap₂ (λ (i z : ℕ). rowsOf (a .pen .frame) i z) (reached-i (k .inv .so-far)) (reached-z (k .inv .so-far)) ∙ sym (k .inv .in-use))
 
 add-n : tie.Need-add-n Inv-loop μ-loop
 add-n c =
     let l = c .before .before .before .before .before .before .before .before in
-    let a = l .before .before .before .before .before .before .before .before .before .args in
+    let a = l .before .before .before .before .before .before .before .before .before .before .args in
     let k = l .loop in
-    let rows = ap₂ (λ (i z : ℕ). rowsOf (a .pen .frame) i z) (reached-i (k .inv .9)) (reached-z (k .inv .9)) ∙ sym (k .inv .0) in
-    let turn = ap (λ (r : ℕ). drawn (a .pen) (rowOffers (a .pen) r (a .constant) (a .t) (k .y)) (picture (k .im) (k .zm) 0)) rows in
     omega (
       arith,
-      reached-count (a .pen .frame .line) (reached-add (k .inv .9) (c .before .before .before .before .draw-row .ensures ∙ turn)) (λ y. row-length (a .pen) _ (a .constant) (a .t) y),
-      mul-le-mul {n₁ = k .y + 1} {m₁ = a .pen .frame .line} {n₂ = mostRows} {m₂ = 65535} (omega (arith, c .before .before .before .before .before .before .before .loop-test .taken, k .inv .7, k .inv .8)) (k .inv .4),
+      reached-count (a .pen .frame .line) (reached-add (k .inv .so-far) (c .before .before .before .before .draw-row .ensures ∙ row-same l)) (λ y. row-length (a .pen) _ (a .constant) (a .t) y),
+      mul-le-mul {n₁ = k .y + 1} {m₁ = a .pen .frame .line} {n₂ = mostRows} {m₂ = 65535} (omega (arith, c .before .before .before .before .before .before .before .loop-test .taken, k .inv .below, k .inv .few)) (k .inv .line),
     )
 
+risen-requires : tie.Need-risen-requires Inv-loop μ-loop
+risen-requires c κs = let k = c .before .before .before .before .before .before .before .before .loop .inv in (omega (arith, c .before .before .before .before .before .before .before .loop-test .taken, k .below, k .few), k .carried)
+
 add-y : tie.Need-add-y Inv-loop μ-loop
-add-y c = let k = c .before .before .before .before .before .before .before .before .loop .inv in omega (arith, c .before .before .before .before .before .before .before .loop-test .taken, k .7, k .8)
+add-y c = let k = c .before .before .before .before .before .before .before .before .before .loop .inv in omega (arith, c .before .before .before .before .before .before .before .before .loop-test .taken, k .below, k .few)
 
 loop-less : tie.Need-loop-less Inv-loop μ-loop
-loop-less c = omega (arith, c .before .before .before .before .before .before .before .loop-test .taken)
+loop-less c = omega (arith, c .before .before .before .before .before .before .before .before .loop-test .taken)
 
 loop-again : tie.Need-loop-again Inv-loop μ-loop
 loop-again c =
-    let l = c .before .before .before .before .before .before .before .before in
-    let a = l .before .before .before .before .before .before .before .before .before .args in
-    let k = l .loop in
-    let rows = ap₂ (λ (i z : ℕ). rowsOf (a .pen .frame) i z) (reached-i (k .inv .9)) (reached-z (k .inv .9)) ∙ sym (k .inv .0) in
-    let turn = ap (λ (r : ℕ). drawn (a .pen) (rowOffers (a .pen) r (a .constant) (a .t) (k .y)) (picture (k .im) (k .zm) 0)) rows in (
-      k .inv .0,
-      k .inv .1,
-      k .inv .2,
-      k .inv .3,
-      k .inv .4,
-      omega (arith, k .inv .5),
-      omega (arith, c .before .before .before .before .before .before .before .loop-test .taken),
-      k .inv .7,
-      k .inv .8,
-      reached-add (k .inv .9) (c .before .before .before .before .draw-row .ensures ∙ turn),
-    )
+    let l = c .before .before .before .before .before .before .before .before .before in
+    let k = l .loop .inv in
+    record {
+      in-use = k .in-use;
+      end = k .end;
+      start = k .start;
+      shaded = k .shaded;
+      line = k .line;
+      since = omega (arith, k .since);
+      until = omega (arith, c .before .before .before .before .before .before .before .before .loop-test .taken);
+      below = k .below;
+      few = k .few;
+      carried = c .risen .ensures;
+      so-far = reached-add (k .so-far) (c .before .before .before .before .before .draw-row .ensures ∙ row-same l);
+    }
 
 same-length : tie.Need-same-length Inv-loop μ-loop
-same-length c = reached-i (c .before .loop .inv .9)
+same-length c = reached-i (c .before .loop .inv .so-far)
 
 same-length-2 : tie.Need-same-length-2 Inv-loop μ-loop
-same-length-2 c = reached-z (c .before .loop .inv .9)
+same-length-2 c = reached-z (c .before .loop .inv .so-far)
 
 returns : tie.Need-returns Inv-loop μ-loop
 returns c =
-    let s = c .before .before .before .before .before .before .before .before .before .before in
+    let s = c .before .before .before .before .before .before .before .before .before .before .before in
     let a = s .args in
     let k = c .before .loop .inv in
-    let e = reached-end _ (k .9) (omega (arith, k .6, k .7)) (λ y h l. row-above (a .pen) _ (a .constant) (a .t) (s .pre .0) y (omega (arith, k .1, c .loop-test .left)) l) in
-    rw (k .0) at e
+    let e = reached-end _ (k .so-far) (omega (arith, k .until, k .below)) (λ y h l. row-above (a .pen) _ (a .constant) (a .t) (s .pre .0) y (omega (arith, k .end, c .loop-test .left)) l) in
+    rw (k .in-use) at e
 
 pub draw-turned-spec : {M : Type 1} → statement M
 draw-turned-spec =
@@ -138,10 +178,12 @@ draw-turned-spec =
     shades-of-requires
     start-of-requires
     least-requires
+    rising-of-requires
     loop-holds
     cast-draw-row
     draw-row-requires
     add-n
+    risen-requires
     add-y
     loop-less
     loop-again

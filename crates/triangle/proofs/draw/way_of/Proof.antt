@@ -19,7 +19,7 @@ carried-run-requires : tie.Need-carried-run-requires
 carried-run-requires c κs =
     let s = c .before .before .before in
     let w = rw (c .before .shades .given .1) at (s .pre .2) in
-    (s .pre .0, s .pre .1, w .1, s .pre .3, s .pre .4)
+    (s .pre .0, s .pre .1, w .1, s .pre .3, s .pre .4, s .pre .5)
 
 returns-2 : tie.Need-returns-2
 returns-2 c =

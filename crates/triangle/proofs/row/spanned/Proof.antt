@@ -5,15 +5,6 @@ use borrow.Author.Needs.{needs}
 use Rattle.triangle.proofs.row.spanned.Statement.{statement}
 use Rattle.triangle.proofs.row.spanned.Tie as tie
 
-height-of-requires : tie.Need-height-of-requires
-height-of-requires c κs = search needs
-
-height-of-requires-2 : tie.Need-height-of-requires-2
-height-of-requires-2 c κs = search needs
-
-height-of-requires-3 : tie.Need-height-of-requires-3
-height-of-requires-3 c κs = search needs
-
 cast-least : tie.Need-cast-least
 cast-least c = search needs
 
@@ -30,24 +21,23 @@ cast-cut : tie.Need-cast-cut
 cast-cut c = search needs
 
 cut-requires : tie.Need-cut-requires
-cut-requires c κs = (search needs, c .before .before .before .before .before .before .height-of .ensures)
+cut-requires c κs = let s = c .before .before .before .before .before .before .before .before .before .before in (omega (arith, s .fits), s .pre .ab, omega (arith, c .before .least .ensures, s .good .0))
 
 cut-requires-2 : tie.Need-cut-requires-2
-cut-requires-2 c κs = (omega (arith, c .before .before .before .before .before .before .before .before .before .before .before .fits), c .before .before .before .before .before .before .height-of2 .ensures)
+cut-requires-2 c κs = let s = c .before .before .before .before .before .before .before .before .before .before .before in (omega (arith, s .fits), s .pre .bc, omega (arith, c .cut .ensures .shrinks, c .before .before .least .ensures, s .good .0))
 
 cut-requires-3 : tie.Need-cut-requires-3
-cut-requires-3 c κs = (omega (arith, c .before .before .before .before .before .before .before .before .before .before .before .before .fits), c .before .before .before .before .before .before .height-of3 .ensures)
+cut-requires-3 c κs = let s = c .before .before .before .before .before .before .before .before .before .before .before .before in (omega (arith, s .fits), s .pre .ca, omega (arith, c .cut2 .ensures .shrinks, c .before .cut .ensures .shrinks, c .before .before .before .least .ensures, s .good .0))
 
 returns : tie.Need-returns
-returns c = let a = c .before .before .before .before .before .before .before .before .before .before .before .before .before .args in spanned-of (a .pen) (a .t) (a .y) _ _ _ _ (c .before .before .before .before .least .ensures) (c .before .before .cut .ensures) (c .before .cut2 .ensures) (c .cut3 .ensures)
+returns c =
+    let a = c .before .before .before .before .before .before .before .before .before .before .before .before .before .args in
+    spanned-of (a .pen) (a .t) (a .y) _ _ _ _ (c .before .before .before .before .least .ensures) (c .before .before .cut .ensures) (c .before .cut2 .ensures) (c .cut3 .ensures)
 
 pub spanned-spec : {M : Type 1} → statement M
 spanned-spec =
     tie.close
     (tie.spec
-    height-of-requires
-    height-of-requires-2
-    height-of-requires-3
     cast-least
     cast-least-2
     add-least
