@@ -11,18 +11,21 @@ use lib.ListN.{getD, set}
 use lib.Seq.{set-getD}
 use lib.Dec.{ltb, eqb}
 use borrow.Author.Tests.{lt-ltb, le-ltb, ltb-true, ltb-false, eqb-true}
+use Rattle.picture.specs.declared.Frame.{Frame}
 use Rattle.picture.specs.declared.Pen.{Pen}
 use Rattle.picture.specs.declared.Kind.{Kind}
+use Rattle.picture.specs.declared.Kind.the-variants.{Gouraud}
 use Rattle.picture.specs.declared.Compared.{Compared}
 use Rattle.picture.specs.declared.Compared.the-variants.{Nearer, Equal, Farther}
 use Rattle.picture.specs.declared.Carried.{Carried}
 use Rattle.picture.specs.Place.{layoutOf, placeOf, mine, inMemory}
 use Rattle.picture.specs.Offer.{Offer, offer, isMasked, shows}
 use Rattle.picture.specs.Picture.{isDeep, comparedOf, isEdge, wins, passes, inPlanes, newI, newZ, Picture, picture, stepAt, step, drawn}
-use Rattle.picture.specs.Draw.{shown, seen, carriedTo, spanPixel, spanOffers}
+use Rattle.picture.specs.Draw.{shown, seen, carriedTo, spanPixel, spanOffers, isPlain, nearerPen}
 use Rattle.picture.specs.Loops.{Plain, isNearer, nearerAt}
 use Rattle.picture.proofs.Places.{both}
-use Rattle.picture.proofs.Spans.{spans-stop, spans-none}
+use Rattle.picture.proofs.Fold.{drawn-nil}
+use Rattle.picture.proofs.Spans.{spans-stop, spans-none, spans-alike}
 
 -- ---- one pixel
 
@@ -129,9 +132,8 @@ pub shows-all : (pen : Pen) (x y : ℕ) → pen .transparency ≡ 65535 → show
 unfolding shows
 shows-all pen x y e = rw e (ones-show (4 * (y % 4) + x % 4) (omega arith))
 
-pub plain-of : (pen : Pen) (kind : Kind)
-    → (not (isMasked kind) || eqb (pen .transparency) 65535) && isDeep kind && not (isEdge kind) && pen .depth && pen .ienable && pen .zenable && eqb (pen .planes) 65535 ≡ true
-    → Plain pen kind
+-- what is tested of a pen and a kind is that nothing but a nearer depth decides
+pub plain-of : (pen : Pen) (kind : Kind) → isPlain pen kind ≡ true → Plain pen kind
 plain-of pen kind e =
     let f = both _ (eqb (pen .planes) 65535) e in
     let d = both _ (pen .zenable) (f .0) in
@@ -193,6 +195,43 @@ module _ (pen : Pen) (rows : ℕ) (kind : Kind) (lo y : ℕ) (i z : Carried) whe
   pub span-empty : (hi : ℕ) → hi ≤ lo → spanOffers pen rows kind lo hi y i z ≡ []
   unfolding spanOffers
   span-empty hi h = spans-none _ (hi - lo) (λ j k. absurd (omega arith))
+
+-- ---- a run of which nothing but a nearer depth decides
+
+-- a carried number has 16 bits
+pub carried-low : (c : Carried) (j : ℕ) → carriedTo c j ≤ 65535
+unfolding carriedTo
+carried-low c j = omega arith
+
+-- the pen that is such by its making
+pub nearer-plain : (frame : Frame) → Plain (nearerPen frame) Gouraud
+nearer-plain frame =
+    record { shows-all = λ x y. refl; deep = refl; strict = refl; depth = refl; ienable = refl; zenable = refl; planes = refl }
+
+-- a pixel inside the memory is one step of that sort at its place
+pub seen-nearer : (pen : Pen) (kind : Kind) → Plain pen kind → (rows x y i z : ℕ) → i ≤ 65535 → (p : Picture)
+    → drawn pen (seen pen rows (offer kind x y i z)) p ≡ cond (inMemory (pen .frame) rows x y) (nearerAt (placeOf (pen .frame) x y) i z p) p
+unfolding seen
+seen-nearer pen kind plain rows x y i z low p = go (inMemory (pen .frame) rows x y)
+  where
+    at : ℕ
+    at = placeOf (pen .frame) x y
+
+    go : (b : Bool) → drawn pen (cond b (shown pen (offer kind x y i z)) []) p ≡ cond b (nearerAt at i z p) p
+    go true = sym (shown-drawn pen kind x y i z p _ (plain .shows-all x y) (sym (step-nearer pen kind plain at i z low p)))
+    go false = drawn-nil pen p
+
+-- so a pen of that sort draws what any other of its frame does
+pub plain-span : (pen : Pen) (kind : Kind) → isPlain pen kind ≡ true → (rows lo hi y : ℕ) (i z : Carried) (p : Picture)
+    → drawn pen (spanOffers pen rows kind lo hi y i z) p
+    ≡ drawn (nearerPen (pen .frame)) (spanOffers (nearerPen (pen .frame)) rows Gouraud lo hi y i z) p
+unfolding spanOffers
+plain-span pen kind e rows lo hi y i z p =
+    spans-alike pen (nearerPen (pen .frame)) _ _ (hi - lo)
+    (λ j q.
+    seen-nearer pen kind (plain-of pen kind e) rows (lo + j) y (carriedTo i j) (carriedTo z j) (carried-low i j) q
+    ∙ sym (seen-nearer (nearerPen (pen .frame)) Gouraud (nearer-plain (pen .frame)) rows (lo + j) y (carriedTo i j) (carriedTo z j) (carried-low i j) q))
+    p
 
 -- ---- a number carried, modulo 2 ^ 64
 

@@ -41,6 +41,12 @@ pub spans-same : (f g : ℕ → List Offer) (n : ℕ) → ((k : ℕ) → k < n �
 spans-same f g zero h = spans-zero f ∙ sym (spans-zero g)
 spans-same f g (suc n) h = rw (spans-suc, spans-suc) (ap₂ (λ (a b : List Offer). a ++ b) (spans-same f g n (λ k l. h k (omega arith))) (h n (omega arith)))
 
+-- two pens that draw the same at each place draw the same
+pub spans-alike : (pen other : Pen) (f g : ℕ → List Offer) (n : ℕ) → ((k : ℕ) (p : Picture) → drawn pen (f k) p ≡ drawn other (g k) p) → (p : Picture)
+    → drawn pen (spans f n) p ≡ drawn other (spans g n) p
+spans-alike pen other f g zero h p = rw (spans-zero, spans-zero, drawn-nil, drawn-nil)
+spans-alike pen other f g (suc n) h p = rw (spans-suc, spans-suc, drawn-append, drawn-append, spans-alike pen other f g n h p) (h n (drawn other (spans g n) p))
+
 -- offers that begin at lo
 pub spans-from : (f : ℕ → List Offer) (lo k : ℕ) → spans f (lo + k) ≡ spans f lo ++ spans (λ j. f (lo + j)) k
 spans-from f lo zero = rw (add-zero, spans-zero (λ j. f (lo + j))) (sym (append-nil (spans f lo)))

@@ -1,14 +1,15 @@
 -- What the calls of this crate draw.
 use Prim.Native.Nat.{ℕ, zero, suc, _+_, _-_, _*_, _/_, _%_, _^_}
-use mathlib.Core.Bool.{cond, not, _&&_, _||_}
+use mathlib.Core.Bool.{Bool, true, cond, not, _&&_, _||_}
 use mathlib.Core.List.{List, [], _∷_, _++_}
 use lib.ListN.{length}
-use lib.Dec.{ltb}
+use lib.Dec.{ltb, eqb}
+use Rattle.picture.specs.declared.Frame.{Frame}
 use Rattle.picture.specs.declared.Pen.{Pen}
 use Rattle.picture.specs.declared.Kind.{Kind}
 use Rattle.picture.specs.declared.Carried.{Carried}
 use Rattle.picture.specs.Place.{inMemory}
-use Rattle.picture.specs.Picture.{Picture, stepAt}
+use Rattle.picture.specs.Picture.{isDeep, isEdge, Picture, stepAt}
 use Rattle.picture.specs.Offer.{Offer, offer, isMasked, shows}
 
 -- the offers of f 0, then those of f 1, up to and without f n
@@ -39,3 +40,25 @@ spanPixel kind lo y i z j = offer kind (lo + j) y (carriedTo i j) (carriedTo z j
 -- the pixels of row y from column lo up to and without hi
 unfoldable pub spanOffers : Pen → ℕ → Kind → ℕ → ℕ → ℕ → Carried → Carried → List Offer
 spanOffers pen rows kind lo hi y i z = spans (λ j. seen pen rows (spanPixel kind lo y i z j)) (hi - lo)
+
+-- nothing but a nearer depth decides of a figure's pixels, and both numbers are stored whole
+abbrev pub isPlain : Pen → Kind → Bool
+isPlain pen kind =
+    (not (isMasked kind) || eqb (pen .transparency) 65535) && isDeep kind && not (isEdge kind) && pen .depth && pen .ienable && pen .zenable
+    && eqb (pen .planes) 65535
+
+-- the pen of a frame with the depth test, both enables, all planes, a pattern that hides nothing and the widest window
+abbrev pub nearerPen : Frame → Pen
+nearerPen frame =
+    record {
+      frame = frame;
+      left = 0;
+      right = 65535;
+      bottom = 0;
+      top = 65535;
+      transparency = 65535;
+      planes = 65535;
+      depth = true;
+      ienable = true;
+      zenable = true;
+    }

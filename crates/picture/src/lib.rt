@@ -2,6 +2,7 @@
 // passes and is stored (Picture), and what pictures store (Store).
 pub mod draw;
 pub mod limits;
+pub mod nearer;
 mod pixel;
 pub mod place;
 pub mod transfer;

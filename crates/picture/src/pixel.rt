@@ -5,7 +5,7 @@ ghost use Prim.Native.Nat.{_+_, _<_, _≤_};
 ghost use lib.ListN.{length, set, getD};
 ghost use Rattle.picture.specs.Offer.{isMasked, inWindow, shows, offered, offer};
 ghost use Rattle.picture.specs.Place.{rowsOf};
-ghost use Rattle.picture.specs.Loops.{Plain, isNearer, nearerAt};
+ghost use Rattle.picture.specs.Loops.{isNearer, nearerAt};
 ghost use Rattle.picture.specs.Picture.{isDeep, inPlanes, comparedOf, isEdge, wins, passes, newI, newZ, picture, stepAt};
 use crate::Compared;
 use crate::Kind;
@@ -39,7 +39,7 @@ pub(crate) fn is_deep(kind: Kind) -> bool
 }
 
 // Whether figures of this kind pass at equal depth.
-fn is_edge(kind: Kind) -> bool
+pub(crate) fn is_edge(kind: Kind) -> bool
     ensures { λ r. ⌜ r ≡ isEdge kind ⌝ }
 {
     match kind {
@@ -167,20 +167,6 @@ pub(crate) fn put_at(
         return n + 1;
     }
     n
-}
-
-// Whether nothing but a nearer depth decides of a figure's pixels, and both numbers are stored whole.
-pub(crate) fn is_plain(pen: Pen, kind: Kind) -> bool
-    ensures { λ r. ⌜ (r ≡ true → Plain pen kind) ⌝ }
-{
-    let open = !is_masked(kind) | (pen.transparency == 65535);
-    open
-        & is_deep(kind)
-        & !is_edge(kind)
-        & pen.depth
-        & pen.ienable
-        & pen.zenable
-        & (pen.planes == 65535)
 }
 
 // One offer at a place, of the sort that `is_plain` finds.

@@ -1,4 +1,6 @@
 -- `draw::fill_beside` meets its contract: both loops draw the same. Assumes nothing.
+use mathlib.Core.Path.{sym, _∙_}
+use Rattle.picture.proofs.Rows.{plain-of}
 use borrow.Author.Needs.{needs}
 use Rattle.picture.proofs.draw.fill_beside.Statement.{statement}
 use Rattle.picture.proofs.draw.fill_beside.Tie as tie
@@ -9,7 +11,7 @@ is-plain-requires c κs = search needs
 fill-nearer-requires : tie.Need-fill-nearer-requires
 fill-nearer-requires c κs =
     let p = c .before .before .before .before .before .before .pre in
-    (p .0, p .1, p .2, p .3, c .before .before .before .is-plain .ensures (c .before .before .if1 .taken))
+    (p .0, p .1, p .2, p .3, plain-of _ _ (sym (c .before .before .before .is-plain .ensures) ∙ c .before .before .if1 .taken))
 
 same-length : tie.Need-same-length
 same-length c = search needs

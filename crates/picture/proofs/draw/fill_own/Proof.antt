@@ -1,6 +1,6 @@
 -- `draw::fill_own` meets its contract. The invariant of its loop: j pixels are drawn, and the carried numbers are those of pixel j.
 -- The measure is the number of pixels left. Assumes nothing.
-use mathlib.Core.Path.{_≡_, ap, _∙_}
+use mathlib.Core.Path.{_≡_, sym, ap, _∙_}
 use native.Mathlib.Omega.{arith}
 use Prim.Native.Nat.{ℕ, _+_, _-_, _*_, _%_, _^_, _≤_}
 use mathlib.Core.Bool.{true}
@@ -13,7 +13,7 @@ use Rattle.picture.specs.Draw.{shown, carriedTo}
 use Rattle.picture.specs.Loops.{Plain, ownOffers}
 use Rattle.picture.proofs.Places.{place-below, inside-of}
 use Rattle.picture.proofs.Spans.{Reached, reached-start, reached-more, reached-i, reached-z}
-use Rattle.picture.proofs.Rows.{carried-start, carried-next, carried-at}
+use Rattle.picture.proofs.Rows.{carried-start, carried-next, carried-at, plain-of}
 use Rattle.picture.proofs.Strides.{stride-mine, stride-place, stride-low, own-turn}
 use Rattle.picture.proofs.draw.fill_own.Statement.{statement}
 use Rattle.picture.proofs.draw.fill_own.Tie as tie
@@ -37,7 +37,7 @@ loop-holds : tie.Need-loop-holds Inv-loop μ-loop
 loop-holds c =
     let a = c .before .before .before .before .before .args in (
       omega arith,
-      c .before .before .is-plain .ensures,
+      (λ e. plain-of (a .pen) (a .kind) (sym (c .before .before .is-plain .ensures) ∙ e)),
       c .place .ensures .0,
       omega arith,
       carried-start (a .i) (omega arith),

@@ -1,6 +1,6 @@
 -- `draw::fill_tiled` meets its contract. The invariant of its loop: j pixels are drawn, and the carried numbers are those of pixel j.
 -- The measure is the number of pixels left. Assumes nothing.
-use mathlib.Core.Path.{_≡_, refl, ap₂, _∙_}
+use mathlib.Core.Path.{_≡_, refl, sym, ap₂, _∙_}
 use native.Mathlib.Omega.{arith}
 use Prim.Native.Nat.{ℕ, _<_, _+_, _-_, _*_, _%_, _^_, _≤_}
 use mathlib.Core.Bool.{true}
@@ -12,7 +12,7 @@ use Rattle.picture.specs.Draw.{seen, spanPixel, spanOffers}
 use Rattle.picture.specs.Loops.{Plain}
 use Rattle.picture.proofs.Places.{place-below, place-along, inside-of, tiled-mine}
 use Rattle.picture.proofs.Spans.{Reached, reached-start, reached-more, reached-i, reached-z}
-use Rattle.picture.proofs.Rows.{carried-start, carried-next, carried-at, row-turn}
+use Rattle.picture.proofs.Rows.{carried-start, carried-next, carried-at, row-turn, plain-of}
 use Rattle.picture.proofs.draw.fill_tiled.Statement.{statement}
 use Rattle.picture.proofs.draw.fill_tiled.Tie as tie
 
@@ -39,7 +39,7 @@ loop-holds c =
     let a = c .before .before .before .before .before .args in (
       omega arith,
       refl,
-      c .before .before .is-plain .ensures,
+      (λ e. plain-of (a .pen) (a .kind) (sym (c .before .before .is-plain .ensures) ∙ e)),
       c .place .ensures .0,
       omega arith,
       carried-start (a .i) (omega arith),
