@@ -3,7 +3,7 @@ ghost use mathlib.Core.Path.{_≡_};
 ghost use mathlib.Core.Bool.{true, false, cond};
 ghost use lib.Dec.{ltb};
 ghost use Prim.Native.Nat.{ℕ, _+_, _≤_, _<_};
-ghost use Rattle.picture.specs.Draw.{carriedTo};
+ghost use Rattle.picture.specs.Draw.{carriedTo, isPlain};
 ghost use Rattle.picture.specs.Picture.{picture};
 ghost use Rattle.triangle.specs.Edge.{covers, areaOf};
 ghost use Rattle.triangle.specs.Loops.{endOf, startOf, Turned, Spanned, Carries, Shaded, Told, Serves, InRows, Rises, Large};
@@ -35,6 +35,8 @@ use picture::Pen;
 use picture::Vertex;
 use picture::draw::put;
 use picture::draw::span;
+use picture::nearer::is_plain;
+use picture::nearer::span_nearer;
 use picture::place::least;
 use picture::place::most;
 use picture::place::rows_of;
@@ -111,11 +113,12 @@ fn kind_of(constant: bool) -> Kind
     Kind::Gouraud
 }
 
-// A row drawn as one run. Constant and Gouraud rows share this one call of `span`: called once, it is compiled in place, and the numbers
-// stay in registers.
+// A row drawn as one run. Constant and Gouraud rows share the one call of `span_nearer` for pens of which nothing but a nearer depth decides, and the one of
+// `span` for others: called once, it is compiled in place, and the numbers stay in registers.
 fn run_row(
     pen: Pen,
     constant: bool,
+    plain: bool,
     t: Corners,
     s: Span,
     r: Run,
@@ -123,9 +126,13 @@ fn run_row(
     im: &mut [u16],
     zm: &mut [u16],
 ) -> u64
-    requires { ⌜ (Spanned pen t y s) × (InRows pen y) × (s .lo < s .hi) × (Told constant t y s r) ⌝ }
+    requires { ⌜ (plain ≡ isPlain pen (kindOf constant)) × (Spanned pen t y s) × (InRows pen y) × (s .lo < s .hi) × (Told constant t y s r) ⌝ }
     ensures { λ n. ⌜ Draws pen (λ rows. rowOffers pen rows constant t y) im zm 0 n ⌝ }
 {
+    if plain {
+        let frame = pen.frame;
+        return span_nearer(frame, s.lo as u16, s.hi as u16, y, r.i, r.z, im, zm);
+    }
     let kind = kind_of(constant);
     span(pen, kind, s.lo as u16, s.hi as u16, y, r.i, r.z, im, zm)
 }
@@ -177,6 +184,7 @@ fn divided_row(
 fn draw_row(
     pen: Pen,
     constant: bool,
+    plain: bool,
     t: Corners,
     d: usize,
     shades: Shades,
@@ -185,14 +193,14 @@ fn draw_row(
     im: &mut [u16],
     zm: &mut [u16],
 ) -> u64
-    requires { ⌜ (Turned t) × (d ≡ areaOf t) × (d ≤ 12884508675) × (Shaded constant t shades) × (Rises t y w) × (InRows pen y) ⌝ }
+    requires { ⌜ (Turned t) × (d ≡ areaOf t) × (d ≤ 12884508675) × (Shaded constant t shades) × (Rises t y w) × (InRows pen y) × (plain ≡ isPlain pen (kindOf constant)) ⌝ }
     ensures { λ r. ⌜ Draws pen (λ rows. rowOffers pen rows constant t y) im zm 0 r ⌝ }
 {
     let s = spanned(pen, t, w, y);
     if s.lo < s.hi {
         let way = way_of(pen, constant, t, d, shades, w, s, y);
         match way {
-            Way::Along(r) => return run_row(pen, constant, t, s, r, y, im, zm),
+            Way::Along(r) => return run_row(pen, constant, plain, t, s, r, y, im, zm),
             Way::Each => return divided_row(pen, t, d, s, y, im, zm),
         }
     }
@@ -284,11 +292,12 @@ fn draw_turned(
     let rows = rows_of(frame, im.len(), zm.len());
     let top = end_of(rows, pen.top, t.a.y, t.c.y, t.b.y);
     let shades = shades_of(constant, t, d);
+    let plain = is_plain(pen, kind_of(constant));
     let mut y = least(start_of(pen.bottom, t.a.y, t.c.y, t.b.y), top);
     let mut w = rising_of(t, y);
     let mut n: u64 = 0;
     while y < top {
-        n += draw_row(pen, constant, t, d, shades, w, y as u16, im, zm);
+        n += draw_row(pen, constant, plain, t, d, shades, w, y as u16, im, zm);
         w = risen(t, y, w);
         y += 1;
     }

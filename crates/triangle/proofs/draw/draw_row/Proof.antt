@@ -20,7 +20,7 @@ enum-known-way c = search needs
 run-row-requires : tie.Need-run-row-requires
 run-row-requires c κs =
     let s = c .before .before .before .before .before .before .before .before .before .before .before in
-    (c .before .before .before .before .before .before .before .before .spanned .ensures, s .pre .5, c .before .before .before .before .before .before .if1 .taken, rw (c .before .before .before .way .given .1) at (c .before .before .before .before .before .way-of .ensures))
+    (s .pre .6, c .before .before .before .before .before .before .before .before .spanned .ensures, s .pre .5, c .before .before .before .before .before .before .if1 .taken, rw (c .before .before .before .way .given .1) at (c .before .before .before .before .before .way-of .ensures))
 
 same-length : tie.Need-same-length
 same-length c = search needs

@@ -8,6 +8,8 @@ use native.Mathlib.Omega.{arith}
 use lib.ListN.{length}
 use Prim.Native.Nat.{ℕ, _+_, _-_, _≤_, min}
 use Rattle.picture.specs.declared.Pen.{Pen}
+use Rattle.picture.specs.declared.Kind.{Kind}
+use Rattle.picture.specs.Draw.{isPlain}
 use Rattle.picture.specs.Limits.{mostRows}
 use Rattle.picture.specs.Place.{rowsOf}
 use Rattle.picture.specs.Picture.{picture, drawn}
@@ -16,7 +18,7 @@ use Rattle.picture.proofs.Spans.{Reached, reached-start, reached-add, reached-e
 use Rattle.triangle.specs.declared.Corners.{Corners}
 use Rattle.triangle.specs.declared.Rising.{Rising}
 use Rattle.triangle.specs.declared.Shades.{Shades}
-use Rattle.triangle.specs.Offers.{rowOffers}
+use Rattle.triangle.specs.Offers.{kindOf, rowOffers}
 use Rattle.triangle.specs.Loops.{endOf, startOf, Shaded, Rises}
 use Rattle.triangle.proofs.Rows.{row-length, row-below, row-above, row-within}
 use borrow.Author.Needs.{needs}
@@ -24,11 +26,12 @@ use Rattle.triangle.proofs.draw.draw_turned.Statement.{statement}
 use Rattle.triangle.proofs.draw.draw_turned.Tie as tie
 
 -- how far the triangle is drawn before row y
-pub record Going (pen : Pen) (constant : Bool) (t : Corners) (im₀ zm₀ : List ℕ) (rows top : ℕ) (shades : Shades) (y₀ : ℕ) (im zm : List ℕ) (y : ℕ) (w : Rising) (n : ℕ) : Type 0 where
+pub record Going (pen : Pen) (constant : Bool) (t : Corners) (im₀ zm₀ : List ℕ) (rows top : ℕ) (shades : Shades) (plain : Bool) (y₀ : ℕ) (im zm : List ℕ) (y : ℕ) (w : Rising) (n : ℕ) : Type 0 where
   pub in-use : rows ≡ rowsOf (pen .frame) (length im₀) (length zm₀)
   pub end : top ≡ endOf rows (pen .top) (t .a .y) (t .c .y) (t .b .y)
   pub start : y₀ ≡ min (startOf (pen .bottom) (t .a .y) (t .c .y) (t .b .y)) (endOf rows (pen .top) (t .a .y) (t .c .y) (t .b .y))
   pub shaded : Shaded constant t shades
+  pub fast : plain ≡ isPlain pen (kindOf constant)
   pub line : pen .frame .line ≤ 65535
   pub since : y₀ ≤ y
   pub until : y ≤ top
@@ -38,10 +41,10 @@ pub record Going (pen : Pen) (constant : Bool) (t : Corners) (im₀ zm₀ : List
   pub so-far : Reached pen (rowOffers pen rows constant t) im₀ zm₀ im zm n y
 
 abbrev Inv-loop : tie.InvT-loop
-Inv-loop pen constant t d im₀ zm₀ rows top shades y₀ w₀ n₀ im zm y w n = Going pen constant t im₀ zm₀ rows top shades y₀ im zm y w n
+Inv-loop pen constant t d im₀ zm₀ rows top shades plain y₀ w₀ n₀ im zm y w n = Going pen constant t im₀ zm₀ rows top shades plain y₀ im zm y w n
 
 abbrev μ-loop : tie.MeasureT-loop
-μ-loop pen constant t d im₀ zm₀ rows top shades y₀ w₀ n₀ im zm y w n = top - y
+μ-loop pen constant t d im₀ zm₀ rows top shades plain y₀ w₀ n₀ im zm y w n = top - y
 
 rows-of-requires : tie.Need-rows-of-requires Inv-loop μ-loop
 rows-of-requires c κs = search needs
@@ -52,6 +55,12 @@ end-of-requires c κs = search needs
 shades-of-requires : tie.Need-shades-of-requires Inv-loop μ-loop
 shades-of-requires c κs = search needs
 
+kind-of-requires : tie.Need-kind-of-requires Inv-loop μ-loop
+kind-of-requires c κs = search needs
+
+is-plain-requires : tie.Need-is-plain-requires Inv-loop μ-loop
+is-plain-requires c κs = search needs
+
 start-of-requires : tie.Need-start-of-requires Inv-loop μ-loop
 start-of-requires c κs = search needs
 
@@ -59,12 +68,12 @@ least-requires : tie.Need-least-requires Inv-loop μ-loop
 least-requires c κs = search needs
 
 -- the first row is at most the last, which is in use
-first-row : (k : tie.After-least Inv-loop μ-loop) → let top = k .before .before .before .end-of .result in (k .least .result ≤ top) × (top ≤ k .before .before .before .before .rows-of .result) × (k .before .before .before .before .rows-of .result ≤ mostRows)
+first-row : (k : tie.After-least Inv-loop μ-loop) → let top = k .before .before .before .before .before .end-of .result in (k .least .result ≤ top) × (top ≤ k .before .before .before .before .before .before .rows-of .result) × (k .before .before .before .before .before .before .rows-of .result ≤ mostRows)
 first-row k =
-    let a = k .before .before .before .before .before .before .before .before .args in (
+    let a = k .before .before .before .before .before .before .before .before .before .before .args in (
       rw (k .least .ensures) (min-le-right _ _),
-      rw (k .before .before .before .end-of .ensures) (min-le-left _ _),
-      rw (k .before .before .before .before .rows-of .ensures) (rows-low (a .pen .frame) (length (a .im .now)) (length (a .zm .now))),
+      rw (k .before .before .before .before .before .end-of .ensures) (min-le-left _ _),
+      rw (k .before .before .before .before .before .before .rows-of .ensures) (rows-low (a .pen .frame) (length (a .im .now)) (length (a .zm .now))),
     )
 
 rising-of-requires : tie.Need-rising-of-requires Inv-loop μ-loop
@@ -73,17 +82,18 @@ rising-of-requires c κs = let f = first-row c in omega (arith, f .0, f .1, f .2
 loop-holds : tie.Need-loop-holds Inv-loop μ-loop
 loop-holds c =
     let k = c .before in
-    let s = c .before .before .before .before .before .before .before .before .before in
+    let s = c .before .before .before .before .before .before .before .before .before .before .before in
     let a = s .args in
-    let rows = c .before .before .before .before .before .rows-of in
-    let end = c .before .before .before .before .end-of .ensures in
+    let rows = c .before .before .before .before .before .before .before .rows-of in
+    let end = c .before .before .before .before .before .before .end-of .ensures in
     let start = k .least .ensures ∙ ap₂ (λ (p q : ℕ). min p q) (k .before .start-of .ensures) end in
     let f = first-row k in
     record {
       in-use = rows .ensures;
       end = end;
       start = start;
-      shaded = c .before .before .before .shades-of .ensures;
+      shaded = c .before .before .before .before .before .shades-of .ensures;
+      fast = c .before .before .before .is-plain .ensures ∙ ap (λ (k : Kind). isPlain (a .pen) k) (c .before .before .before .before .kind-of .ensures);
       line = omega (arith, s .good .0);
       since = le-refl _;
       until = f .0;
@@ -99,18 +109,18 @@ cast-draw-row c = let k = c .before .loop .inv in omega (arith, c .loop-test .ta
 draw-row-requires : tie.Need-draw-row-requires Inv-loop μ-loop
 draw-row-requires c κs =
     let at-loop = c .before .before .before in
-    let s = at-loop .before .before .before .before .before .before .before .before .before .before in
+    let s = at-loop .before .before .before .before .before .before .before .before .before .before .before .before in
     let a = s .args in
     let k = at-loop .loop .inv in
     let h = c .before .before .loop-test .taken in
-    (s .pre .0, s .pre .1, s .pre .2, k .shaded, k .carried, row-within (a .pen) _ (a .constant) (a .t) (s .pre .0) (at-loop .loop .y) (rw (k .start) at (k .since)) (rw (k .end) at h))
+    (s .pre .0, s .pre .1, s .pre .2, k .shaded, k .carried, row-within (a .pen) _ (a .constant) (a .t) (s .pre .0) (at-loop .loop .y) (rw (k .start) at (k .since)) (rw (k .end) at h), k .fast)
 
 -- the rows in use stay, whatever is drawn
-row-same : (l : tie.At-loop Inv-loop μ-loop) → let a = l .before .before .before .before .before .before .before .before .before .before .args in let k = l .loop in let p = picture (k .im) (k .zm) 0 in
+row-same : (l : tie.At-loop Inv-loop μ-loop) → let a = l .before .before .before .before .before .before .before .before .before .before .before .before .args in let k = l .loop in let p = picture (k .im) (k .zm) 0 in
     drawn (a .pen) (rowOffers (a .pen) (rowsOf (a .pen .frame) (length (k .im)) (length (k .zm))) (a .constant) (a .t) (k .y)) p
-    ≡ drawn (a .pen) (rowOffers (a .pen) (l .before .before .before .before .before .before .rows-of .result) (a .constant) (a .t) (k .y)) p
+    ≡ drawn (a .pen) (rowOffers (a .pen) (l .before .before .before .before .before .before .before .before .rows-of .result) (a .constant) (a .t) (k .y)) p
 row-same l =
-    let a = l .before .before .before .before .before .before .before .before .before .before .args in
+    let a = l .before .before .before .before .before .before .before .before .before .before .before .before .args in
     let k = l .loop in
     ap (λ (r : ℕ). drawn (a .pen) (rowOffers (a .pen) r (a .constant) (a .t) (k .y)) (picture (k .im) (k .zm) 0))
     (ap₂ (λ (i z : ℕ). rowsOf (a .pen .frame) i z) (reached-i (k .inv .so-far)) (reached-z (k .inv .so-far)) ∙ sym (k .inv .in-use))
@@ -118,7 +128,7 @@ row-same l =
 add-n : tie.Need-add-n Inv-loop μ-loop
 add-n c =
     let l = c .before .before .before .before .before .before .before .before in
-    let a = l .before .before .before .before .before .before .before .before .before .before .args in
+    let a = l .before .before .before .before .before .before .before .before .before .before .before .before .args in
     let k = l .loop in
     omega (
       arith,
@@ -144,6 +154,7 @@ loop-again c =
       end = k .end;
       start = k .start;
       shaded = k .shaded;
+      fast = k .fast;
       line = k .line;
       since = omega (arith, k .since);
       until = omega (arith, c .before .before .before .before .before .before .before .before .loop-test .taken);
@@ -161,7 +172,7 @@ same-length-2 c = reached-z (c .before .loop .inv .so-far)
 
 returns : tie.Need-returns Inv-loop μ-loop
 returns c =
-    let s = c .before .before .before .before .before .before .before .before .before .before .before in
+    let s = c .before .before .before .before .before .before .before .before .before .before .before .before .before in
     let a = s .args in
     let k = c .before .loop .inv in
     let e = reached-end _ (k .so-far) (omega (arith, k .until, k .below)) (λ y h l. row-above (a .pen) _ (a .constant) (a .t) (s .pre .0) y (omega (arith, k .end, c .loop-test .left)) l) in
@@ -176,6 +187,8 @@ draw-turned-spec =
     rows-of-requires
     end-of-requires
     shades-of-requires
+    kind-of-requires
+    is-plain-requires
     start-of-requires
     least-requires
     rising-of-requires
