@@ -1,29 +1,18 @@
 // The driver: draws the same pseudo-random figures, packs and unpacks the same stream, and lists the squares of the same pictures, with the
 // proved code and with two implementations in C, by turns. Every pass starts from the same memories and must leave the same ones and tell the
 // same counts, else the program says so and exits with 1. One line a row: the rate of each, and ours over the better C. In the rows over
-// tiles the C draws over rows, and what ours leaves is laid out in rows before it is compared. Last come recordings, which the proved code alone
-// runs: words a second.
-// A pass is timed in chunks, and a rate is that of the sum of each chunk's least time: what else the machine does for a moment costs a chunk of
-// one pass, not the pass.
+// tiles the C draws over rows, and what ours leaves is laid out in rows before it is compared. Triangles over rows have a third in C beside them,
+// written in vectors: its rate is told, and the ratio is without it. Last come recordings, which the proved code alone runs: words a second.
 // usage: bench RUNS
-#include "rivals.h"
+#include "figures.h"
 #include "dextolumen.h"
 
-struct timespec {
-    long tv_sec, tv_nsec;
-};
-int atoi(const char *);
-int clock_gettime(int, struct timespec *);
-void exit(int);
-int fflush(void *);
 int memcmp(const void *, const void *, size_t);
 void *memcpy(void *, const void *, size_t);
-void *memset(void *, int, size_t);
-int printf(const char *, ...);
 
 // ---- the sides
 
-enum { OURS, PLAIN, SPAN, SIDES };
+enum { OURS, PLAIN, SPAN, VECTOR, SIDES };
 
 typedef struct {
     const char *name;
@@ -38,6 +27,7 @@ static const Side sides[SIDES] = {
     {"ours", dextolumen_bench_triangle, dextolumen_bench_segment, dextolumen_bench_pack, dextolumen_bench_unpack, dextolumen_squares},
     {"plain", plain_triangle, plain_segment, plain_pack, plain_unpack, plain_squares},
     {"span", span_triangle, span_segment, span_pack, span_unpack, span_squares},
+    {"vector", vector_triangle, 0, 0, 0, 0},
 };
 
 // ---- the rows
@@ -81,7 +71,10 @@ static const Row timed[] = {
     {"squares many", SQUARES, 256, 6, ROWS, 0},
 };
 
-// Odd figures take no time worth telling, but the three sides must agree on them too.
+// Vectors are for triangles over rows alone.
+static int takes_part(const Row *row, int s) { return s != VECTOR || (row->kind == TRIANGLES && row->layout == ROWS); }
+
+// Odd figures take no time worth telling, but the sides must agree on them too.
 static const Row odd[] = {
     {"odd gouraud", TRIANGLES, 0, 0, ROWS, 0},
     {"odd constant", TRIANGLES, 0, 1, ROWS, 0},
@@ -98,73 +91,17 @@ static const Row odd[] = {
 // ---- what is drawn
 
 enum {
-    LINE = 1024,
-    PLACES = LINE * LINE,
-    PIXELS = 4 * PLACES, // a row covers the picture about four times, whatever the figures' size: the depth test meets the same mixture
     ODD = 50000,
-    MOST = PIXELS / 30,
     BYTES = 1048575, // a packed stream of 1 MiB would hold no whole number of words, so it has a byte less
     WORDS = BYTES / 5 * 2,
 };
 
-typedef struct {
-    uint16_t x, y, i, z;
-} Point;
-
-// A segment is from the first corner to the second.
-static struct {
-    Point corner[3];
-} figures[MOST];
-static size_t drawn;
 static uint32_t words[WORDS];
 static uint8_t bytes[BYTES];
 
 // Pictures of 256 by 256 places, before and after. A row of squares lists each of them so often.
 enum { SIDE = 256, PICTURES = PLACES / (SIDE * SIDE), TIMES = 16 };
 static uint16_t before[PICTURES][SIDE * SIDE], after[PICTURES][SIDE * SIDE];
-
-static const uint32_t PATTERN = 0xF0CCAA1D;
-static const uint16_t FOREGROUND = 0xBEEF, BACKGROUND = 0x1234;
-
-static uint64_t seed;
-
-// Splitmix64, below `limit`.
-static unsigned any(unsigned limit) {
-    uint64_t v = seed += 0x9E3779B97F4A7C15;
-    v = (v ^ v >> 30) * 0xBF58476D1CE4E5B9;
-    v = (v ^ v >> 27) * 0x94D049BB133111EB;
-    return (unsigned)((v ^ v >> 31) % limit);
-}
-
-static Point point(unsigned x, unsigned y) { return (Point){(uint16_t)x, (uint16_t)y, (uint16_t)any(65536), (uint16_t)any(65536)}; }
-
-// A figure in a box of its own, turned over and on its side as it comes, and the box anywhere in the picture.
-static void place(Point *corner, unsigned box, int clipped) {
-    unsigned x = clipped ? LINE - any(box) : any(LINE - box), y = any(LINE - box), mirror = any(2), aside = any(2);
-    for (int k = 0; k < 3; k++) {
-        unsigned across = mirror ? box - corner[k].x : corner[k].x, up = corner[k].y;
-        corner[k].x = (uint16_t)(x + (aside ? up : across));
-        corner[k].y = (uint16_t)(y + (aside ? across : up));
-    }
-}
-
-// The corners come in every order, and so turn either way.
-static void draw_up_triangle(Point *corner, unsigned size) {
-    unsigned side = 1, first = any(3);
-    while (side * side / 2 < size) side++;
-    corner[first] = point(any(4), any(4));
-    corner[(first + 1) % 3] = point(side + any(4), any(4));
-    corner[(first + 2) % 3] = point(any(side), side + 1);
-    place(corner, side + 3, 0);
-}
-
-static void draw_up_segment(Point *corner, unsigned size, int clipped) {
-    unsigned first = any(2);
-    corner[first] = point(0, any(size + 1));
-    corner[1 - first] = point(size, any(size + 1));
-    corner[2] = corner[0];
-    place(corner, size, clipped);
-}
 
 static void draw_up_odd(Point *corner) {
     unsigned side = 2 + any(14), x = any(2) ? any(LINE) : LINE - any(2 * side), y = any(2) ? any(LINE) : LINE - any(2 * side);
@@ -195,13 +132,12 @@ static void draw_up(const Row *row) {
         draw_up_pictures(row->mode);
         return;
     }
-    drawn = row->size == 0 ? ODD : PIXELS / (size_t)row->size;
-    for (size_t k = 0; k < drawn; k++) {
-        Point *corner = figures[k].corner;
-        if (row->size == 0) draw_up_odd(corner);
-        else if (row->kind == TRIANGLES) draw_up_triangle(corner, (unsigned)row->size);
-        else draw_up_segment(corner, (unsigned)row->size, row->clipped);
+    if (row->size != 0) {
+        draw_up_figures(row->kind == SEGMENTS, (unsigned)row->size, row->clipped);
+        return;
     }
+    drawn = ODD;
+    for (size_t k = 0; k < drawn; k++) draw_up_odd(figures[k]);
 }
 
 // ---- the memories
@@ -219,17 +155,12 @@ static void clear(void) {
     memset(memory.picture[1], 255, sizeof memory.picture[1]);
 }
 
-#define OF(p) (p).x, (p).y, (p).i, (p).z
 #define LENT memory.picture[0], PLACES, memory.picture[1], PLACES
-
-// Chunk h of so many things begins here.
-enum { CHUNKS = 64 };
-static size_t from(size_t things, size_t h) { return things * h / CHUNKS; }
 
 static uint64_t triangles(TriangleCall *call, uint16_t layout, uint8_t constant, size_t h) {
     uint64_t count = 0;
     for (size_t k = from(drawn, h); k < from(drawn, h + 1); k++) {
-        const Point *c = figures[k].corner;
+        const Point *c = figures[k];
         count += call(LINE, layout, constant, OF(c[0]), OF(c[1]), OF(c[2]), LENT);
     }
     return count;
@@ -238,7 +169,7 @@ static uint64_t triangles(TriangleCall *call, uint16_t layout, uint8_t constant,
 static uint64_t segments(SegmentCall *call, uint16_t layout, uint8_t mode, size_t h) {
     uint64_t count = 0;
     for (size_t k = from(drawn, h); k < from(drawn, h + 1); k++) {
-        const Point *c = figures[k].corner;
+        const Point *c = figures[k];
         count += call(LINE, layout, mode, PATTERN, FOREGROUND, BACKGROUND, OF(c[0]), OF(c[1]), LENT);
     }
     return count;
@@ -254,7 +185,7 @@ static uint64_t squares(SquaresCall *call, int odd, size_t h) {
     return count;
 }
 
-// One side does chunk h of a row: the codec and a recording are one call, and so one chunk. Answers the passed pixels, the length written, or the
+// One side does chunk h of a row: the codec is one call, and so one chunk. Answers the passed pixels, the length written, or the
 // squares listed.
 static uint64_t part(const Row *row, const Side *side, size_t h) {
     switch (row->kind) {
@@ -290,12 +221,6 @@ static uint64_t worth(const Row *row) {
 }
 
 // ---- the runs
-
-static double now(void) {
-    struct timespec t;
-    clock_gettime(1, &t); // CLOCK_MONOTONIC
-    return (double)t.tv_sec + (double)t.tv_nsec * 1e-9;
-}
 
 // Lays a picture out in rows that lies in tiles of four by four.
 static void straighten(uint16_t *picture) {
@@ -339,30 +264,35 @@ static double pass(const Row *row, int s, uint64_t expected) {
     for (size_t h = 0; h < CHUNKS; h++) {
         double begun = now();
         count += part(row, &sides[s], h);
-        double took = now() - begun;
-        spent += took;
-        if (took < least[s][h]) least[s][h] = took;
+        spent += note(&least[s][h], now() - begun);
     }
     agree(row, &sides[s], count, expected);
     return spent;
 }
 
-// Passes by turns, so many and for so many times 30 ms of each side.
-static void measure(const Row *row, int runs) {
+// Passes by turns, until so many have gained nothing and each side had so many times 30 ms.
+static void time_by_turns(const Row *row, int runs) {
     uint64_t expected = settle(row);
-    double amount = (double)worth(row) * 1e-6, rate[SIDES] = {0}, spent = 0;
-    for (int s = 0; s < SIDES; s++)
-        for (size_t h = 0; h < CHUNKS; h++) least[s][h] = 1e9;
-    for (int k = 0; k < runs || spent < 0.03 * SIDES * runs; k++)
-        for (int s = 0; s < SIDES; s++) spent += pass(row, s, expected);
+    Course course = {0, 0};
+    for (int s = 0; s < SIDES; s++) forget(least[s]);
+    for (; goes_on(&course, runs, SIDES); course.calm++)
+        for (int s = 0; s < SIDES; s++) {
+            if (!takes_part(row, s)) continue;
+            double before = sum_of(least[s]), spent = pass(row, s, expected);
+            went(&course, spent, before, sum_of(least[s]));
+        }
+}
+
+static void measure(const Row *row, int runs) {
+    double rate[SIDES] = {0};
+    time_by_turns(row, runs);
+    double amount = (double)worth(row) * 1e-6;
+    printf("%-19s ", row->name);
     for (int s = 0; s < SIDES; s++) {
-        double sum = 0;
-        for (size_t h = 0; h < CHUNKS; h++) sum += least[s][h];
-        rate[s] = amount / sum;
+        rate[s] = amount / sum_of(least[s]);
+        if (takes_part(row, s)) printf(" %s %.1f ", sides[s].name, rate[s]);
     }
     double better = rate[PLAIN] > rate[SPAN] ? rate[PLAIN] : rate[SPAN];
-    printf("%-19s ", row->name);
-    for (int s = 0; s < SIDES; s++) printf(" %s %.1f ", sides[s].name, rate[s]);
     printf(" %s  ratio %.2f\n", row->kind == PACK || row->kind == UNPACK ? "MB/s" : "Mpixel/s", rate[OURS] / better);
     fflush(0);
 }
@@ -370,6 +300,7 @@ static void measure(const Row *row, int runs) {
 static void check(const Row *row) {
     uint64_t expected = settle(row);
     for (int s = 0; s < SIDES; s++) {
+        if (!takes_part(row, s)) continue;
         clear();
         agree(row, &sides[s], once(row, &sides[s]), expected);
     }
@@ -389,7 +320,8 @@ static const struct {
     {"words strips", STRIPS},   // such triangles in strips: four words each
 };
 
-enum { RECORDED = 240000 };
+// A recording is one call, and so each chunk is a recording of its own, with so many words in so many bytes.
+enum { RECORDED = 3750, ROOM = BYTES / CHUNKS };
 static size_t put;
 static void word(unsigned command, unsigned data) { words[put++] = command << 16 | data; }
 
@@ -400,9 +332,9 @@ static void vertex(unsigned command, unsigned x, unsigned y) {
     word(command, x);
 }
 
-// Makes a recording's words and packs them: INIT with lines of 1,024, depth test and both write enables on, and then those of its sort.
-static void record(Sort sort) {
-    seed = 8512;
+// Makes the words of recording h and packs them: INIT with lines of 1,024, depth test and both write enables on, and then those of its sort. Answers
+// how many there are.
+static size_t record(Sort sort, size_t h) {
     put = 0;
     word(15, 0x0800);
     word(14, 3), word(13, 0x40);
@@ -426,40 +358,58 @@ static void record(Sort sort) {
         x += 4;
     }
     if (put % 2 != 0) word(1, 0);
-    plain_pack(words, put, bytes, BYTES);
+    plain_pack(words, put, bytes + h * ROOM, ROOM);
+    return put;
 }
 
 // The proved code is compiled for x86-64, where a struct that a call answers is written to a place that comes as its first argument. In objects that were
 // compiled for another processor it still does, and C there would hand the place over in another way.
 #if defined(__x86_64__)
-static struct dextolumen_ended run_whole(size_t size) { return dextolumen_run(bytes, size, LENT); }
+static struct dextolumen_ended run_whole(const uint8_t *stream, size_t size) { return dextolumen_run(stream, size, LENT); }
 #else
 void *run_to(struct dextolumen_ended *, const uint8_t *, size_t, uint16_t *, size_t, uint16_t *, size_t) __asm__("dextolumen_run");
-static struct dextolumen_ended run_whole(size_t size) {
+static struct dextolumen_ended run_whole(const uint8_t *stream, size_t size) {
     struct dextolumen_ended told;
-    run_to(&told, bytes, size, LENT);
+    run_to(&told, stream, size, LENT);
     return told;
 }
 #endif
 
-// Million words a second of the proved code, by the least of several passes: there is no word machine in C to compare it with.
-static void recite(const char *name, Sort sort, int runs) {
-    record(sort);
-    double best = 1e9, spent = 0;
-    struct dextolumen_ended told = {0};
-    for (int k = 0; k < runs || spent < 0.03 * runs; k++) {
-        clear();
+// One pass over the recordings, timed. Every word must be accepted. Answers the passed pixels, and adds the seconds to those that were spent.
+static uint64_t recite(const char *name, const size_t *length, double *shortest, double *spent) {
+    uint64_t passed = 0;
+    clear();
+    for (size_t h = 0; h < CHUNKS; h++) {
         double begun = now();
-        told = run_whole(put / 2 * 5);
-        double took = now() - begun;
-        spent += took;
-        if (took < best) best = took;
-    }
-    if (told.refusal != 0 || told.index != put || (told.sum == 0) != (sort == REGULAR || sort == RANDOM)) {
-        printf("%s: told %lu at %lu, sum %lu\n", name, (unsigned long)told.refusal, (unsigned long)told.index, (unsigned long)told.sum);
+        struct dextolumen_ended told = run_whole(bytes + h * ROOM, length[h] / 2 * 5);
+        *spent += note(&shortest[h], now() - begun);
+        passed += told.sum;
+        if (told.refusal == 0 && told.index == length[h]) continue;
+        printf("%s: told %lu at %lu\n", name, (unsigned long)told.refusal, (unsigned long)told.index);
         exit(1);
     }
-    printf("%-19s  ours %.1f  Mword/s\n", name, (double)put * 1e-6 / best);
+    return passed;
+}
+
+// Million words a second of the proved code: there is no word machine in C to compare it with.
+static void measure_words(const char *name, Sort sort, int runs) {
+    size_t length[CHUNKS], all = 0;
+    double shortest[CHUNKS];
+    uint64_t passed = 0;
+    Course course = {0, 0};
+    seed = 8512;
+    for (size_t h = 0; h < CHUNKS; h++) all += length[h] = record(sort, h);
+    forget(shortest);
+    for (; goes_on(&course, runs, 1); course.calm++) {
+        double before = sum_of(shortest), spent = 0;
+        passed = recite(name, length, shortest, &spent);
+        went(&course, spent, before, sum_of(shortest));
+    }
+    if ((passed == 0) != (sort == REGULAR || sort == RANDOM)) {
+        printf("%s: %lu pixels passed\n", name, (unsigned long)passed);
+        exit(1);
+    }
+    printf("%-19s  ours %.1f  Mword/s\n", name, (double)all * 1e-6 / sum_of(shortest));
     fflush(0);
 }
 
@@ -467,6 +417,6 @@ int main(int argc, char **argv) {
     int runs = argc > 1 ? atoi(argv[1]) : 1;
     for (size_t k = 0; k < sizeof odd / sizeof odd[0]; k++) check(&odd[k]);
     for (size_t k = 0; k < sizeof timed / sizeof timed[0]; k++) measure(&timed[k], runs);
-    for (size_t k = 0; k < sizeof recorded / sizeof recorded[0]; k++) recite(recorded[k].name, recorded[k].sort, runs);
+    for (size_t k = 0; k < sizeof recorded / sizeof recorded[0]; k++) measure_words(recorded[k].name, recorded[k].sort, runs);
     return 0;
 }

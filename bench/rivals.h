@@ -1,5 +1,5 @@
-// What the three sides share: their calls, of one signature, so that a call costs all of them the same; and the geometry of document 01,
-// section Figures, that both implementations in C start from. The kit has no C headers, so the few types are named here.
+// What the sides share: their calls, of one signature, so that a call costs all of them the same; and the geometry of document 01,
+// section Figures, that the implementations in C start from. The kit has no C headers, so the few types are named here.
 #ifndef RIVALS_H
 #define RIVALS_H
 
@@ -33,7 +33,7 @@ typedef uint64_t UnpackCall(const uint8_t *bytes, size_t n, uint32_t *out, size_
 typedef uint64_t SquaresCall(const uint16_t *before, size_t n, const uint16_t *after, size_t m, size_t width, size_t rows, uint32_t *out,
                              size_t room);
 
-TriangleCall dextolumen_bench_triangle, plain_triangle, span_triangle;
+TriangleCall dextolumen_bench_triangle, plain_triangle, span_triangle, vector_triangle;
 SegmentCall dextolumen_bench_segment, plain_segment, span_segment;
 PackCall dextolumen_bench_pack, plain_pack, span_pack;
 UnpackCall dextolumen_bench_unpack, plain_unpack, span_unpack;
