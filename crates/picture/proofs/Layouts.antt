@@ -57,7 +57,7 @@ width-some plain line w = whole-some plain line w
 width-some tiled line w = whole-some tiled line w
 width-some (share ways unit) line w = part-some line ways (line / ways) refl (whole-ways ways unit line w .1) (whole-some (share ways unit) line w)
 
-whole-tiles : (line : ℕ) → isWhole tiled line ≡ true → line ≡ line / 4 * 4
+pub whole-tiles : (line : ℕ) → isWhole tiled line ≡ true → line ≡ line / 4 * 4
 unfolding isWhole
 whole-tiles line w = let e = eqb-true (line % 4) 0 (both (not (eqb line 0)) (eqb (line % 4) 0) w .1) in omega (arith, e)
 

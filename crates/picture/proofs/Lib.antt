@@ -11,5 +11,7 @@ pub mod Passed
 pub mod Settled
 pub mod Stores
 pub mod Strides
+pub mod Runs
+pub mod Carries
 pub mod Planes
 pub mod Pictures

@@ -3,7 +3,7 @@ use mathlib.Core.Path.{_≡_, refl, sym, ap, ap₂, _∙_}
 use mathlib.Core.Bool.{Bool, true, false, cond, not, _&&_, _||_}
 use mathlib.Core.List.{List, []}
 use Prim.Native.Nat.{ℕ, zero, suc, _+_, _-_, _*_, _/_, _%_, _^_, _≤_, _<_, min}
-use native.Mathlib.Nat.{add-assoc, zero-mul, add-zero, mod-eq-of-lt, suc-mul, mod-add-mod}
+use native.Mathlib.Nat.{add-assoc, zero-mul, add-zero, mod-eq-of-lt, suc-mul, mod-add-mod, add-mod-mod, add-mul}
 use native.Mathlib.Numerals.{add-one}
 use native.Mathlib.Omega.{arith}
 use lib.Bits.{and-zero-r, or-zero-l, and-mask}
@@ -73,29 +73,23 @@ nearer-is z old false t = rw t (go (eqb z old))
     go false = refl
 
 -- a choice of what is stored, in place of a branch: where the depth is not less, what stands there
-module _ (pen : Pen) (kind : Kind) (plain : Plain pen kind) (x y i z at : ℕ) (here : at ≡ placeOf (pen .frame) x y) (low : i ≤ 65535) (im zm : List ℕ) (n : ℕ) where
+module _ (at i z : ℕ) (im zm : List ℕ) (n : ℕ) where
   chosen-at : (b : Bool) → ltb z (getD zm at 0) ≡ b
       → picture (set im at (cond b i (getD im at 0))) (set zm at (cond b z (getD zm at 0))) (cond b (n + 1) n) ≡ nearerAt at i z (picture im zm n)
   chosen-at true t = sym (nearer-pass at i z im zm n (nearer-is z (getD zm at 0) true t))
   chosen-at false t =
       ap₂ (λ (k l : List ℕ). picture k l n) (set-getD im at 0) (set-getD zm at 0) ∙ sym (nearer-fail at i z im zm n (nearer-is z (getD zm at 0) false t))
 
-  pub chosen-drawn : {vi vz m : ℕ} → vi ≡ cond (ltb z (getD zm at 0)) i (getD im at 0) → vz ≡ cond (ltb z (getD zm at 0)) z (getD zm at 0)
-      → m ≡ cond (ltb z (getD zm at 0)) (n + 1) n
-      → (picture (set im at vi) (set zm at vz) m ≡ drawn pen (shown pen (offer kind x y i z)) (picture im zm n)) × (m ≤ n + 1)
-  chosen-drawn {vi} {vz} {m} ei ez em = (
-    shown-drawn pen kind x y i z (picture im zm n) _ (plain .shows-all x y)
-        (rw (ei, ez, em) (chosen-at (ltb z (getD zm at 0)) refl) ∙ sym (step-nearer pen kind plain at i z low (picture im zm n))
-        ∙ ap (λ (k : ℕ). stepAt pen kind k i z (picture im zm n)) here),
-    rw em (bound (ltb z (getD zm at 0))),
-  )
+  pub chosen-nearer : {vi vz m : ℕ} → vi ≡ cond (ltb z (getD zm at 0)) i (getD im at 0) → vz ≡ cond (ltb z (getD zm at 0)) z (getD zm at 0)
+      → m ≡ cond (ltb z (getD zm at 0)) (n + 1) n → (picture (set im at vi) (set zm at vz) m ≡ nearerAt at i z (picture im zm n)) × (m ≤ n + 1)
+  chosen-nearer {vi} {vz} {m} ei ez em = (rw (ei, ez, em) (chosen-at (ltb z (getD zm at 0)) refl), rw em (bound (ltb z (getD zm at 0))))
     where
       bound : (b : Bool) → cond b (n + 1) n ≤ n + 1
       bound true = omega arith
       bound false = omega arith
 
 -- numbers to which nothing is added
-abbrev carry : ℕ → ℕ → Carried
+abbrev pub carry : ℕ → ℕ → Carried
 carry first add = record { first = first; add = add }
 
 steady-is : (c : Carried) → c .add ≡ 0 → carry (c .first) 0 ≡ c
@@ -208,17 +202,20 @@ pub nearer-plain : (frame : Frame) → Plain (nearerPen frame) Gouraud
 nearer-plain frame =
     record { shows-all = λ x y. refl; deep = refl; strict = refl; depth = refl; ienable = refl; zenable = refl; planes = refl }
 
--- a pixel inside the memory is one step of that sort at its place
+-- a pixel that the pattern is asked about is one step of that sort at its place
+pub shown-nearer : (pen : Pen) (kind : Kind) → Plain pen kind → (x y i z : ℕ) → i ≤ 65535 → (p : Picture)
+    → drawn pen (shown pen (offer kind x y i z)) p ≡ nearerAt (placeOf (pen .frame) x y) i z p
+shown-nearer pen kind plain x y i z low p =
+    sym (shown-drawn pen kind x y i z p _ (plain .shows-all x y) (sym (step-nearer pen kind plain (placeOf (pen .frame) x y) i z low p)))
+
+-- and so is one about which the window is not asked, inside the memory
 pub seen-nearer : (pen : Pen) (kind : Kind) → Plain pen kind → (rows x y i z : ℕ) → i ≤ 65535 → (p : Picture)
     → drawn pen (seen pen rows (offer kind x y i z)) p ≡ cond (inMemory (pen .frame) rows x y) (nearerAt (placeOf (pen .frame) x y) i z p) p
 unfolding seen
 seen-nearer pen kind plain rows x y i z low p = go (inMemory (pen .frame) rows x y)
   where
-    at : ℕ
-    at = placeOf (pen .frame) x y
-
-    go : (b : Bool) → drawn pen (cond b (shown pen (offer kind x y i z)) []) p ≡ cond b (nearerAt at i z p) p
-    go true = sym (shown-drawn pen kind x y i z p _ (plain .shows-all x y) (sym (step-nearer pen kind plain at i z low p)))
+    go : (b : Bool) → drawn pen (cond b (shown pen (offer kind x y i z)) []) p ≡ cond b (nearerAt (placeOf (pen .frame) x y) i z p) p
+    go true = shown-nearer pen kind plain x y i z low p
     go false = drawn-nil pen p
 
 -- so a pen of that sort draws what any other of its frame does
@@ -246,6 +243,24 @@ carried-next k g j r m e h =
 pub carried-at : (c : Carried) (j m : ℕ) → m ≡ (c .first + j * c .add) % 2 ^ 64 → m / 2 ^ 48 ≡ carriedTo c j
 unfolding carriedTo
 carried-at c j m e = ap (λ (a : ℕ). a / 2 ^ 48) e
+
+-- so far, and four pixels on
+pub carried-four : (k g j r m w : ℕ) → m ≡ (k + j * g) % 2 ^ 64 → w ≡ (4 * g) % 2 ^ 64 → r ≡ (m + w) % 2 ^ 64 → r ≡ (k + (j + 4) * g) % 2 ^ 64
+carried-four k g j r m w e f h =
+    h
+    ∙ ap₂ (λ (a b : ℕ). (a + b) % 2 ^ 64) e f
+    ∙ add-mod-mod ((k + j * g) % 2 ^ 64) (4 * g) (2 ^ 64)
+    ∙ mod-add-mod (k + j * g) (2 ^ 64) (4 * g)
+    ∙ ap (λ (a : ℕ). a % 2 ^ 64) (add-assoc k (j * g) (4 * g) ∙ ap (λ (a : ℕ). k + a) (sym (add-mul j 4 g)))
+
+-- numbers that are carried on from pixel k
+pub carried-on : (c : Carried) (k m : ℕ) → m ≡ (c .first + k * c .add) % 2 ^ 64 → (j : ℕ) → carriedTo (carry m (c .add)) j ≡ carriedTo c (k + j)
+unfolding carriedTo
+carried-on c k m e j =
+    ap (λ (n : ℕ). n / 2 ^ 48)
+    (ap (λ (a : ℕ). (a + j * c .add) % 2 ^ 64) e
+    ∙ mod-add-mod (c .first + k * c .add) (2 ^ 64) (j * c .add)
+    ∙ ap (λ (a : ℕ). a % 2 ^ 64) (add-assoc (c .first) (k * c .add) (j * c .add) ∙ ap (λ (a : ℕ). c .first + a) (sym (add-mul k j (c .add)))))
 
 -- ---- a turn of the loop over a row
 

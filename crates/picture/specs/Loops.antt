@@ -1,20 +1,24 @@
 -- What the code of a row leans on. No promise of a public call cites anything here.
-use Prim.Native.Nat.{ℕ, _+_, _-_, _*_, _/_, _%_, _^_, _≤_, _<_}
+use denote.Ref.{now}
+use Prim.Native.Nat.{ℕ, zero, suc, _+_, _-_, _*_, _/_, _%_, _^_, _≤_, _<_}
 use mathlib.Core.Path.{_≡_}
 use mathlib.Core.Logic.{_⊎_}
 use mathlib.Core.Bool.{Bool, true, false, cond, not, _||_}
 use mathlib.Core.List.{List}
 use lib.ListN.{getD, set}
 use Rattle.picture.specs.declared.Carried.{Carried}
+use Rattle.picture.specs.declared.Run.{Run}
 use Rattle.picture.specs.declared.Frame.{Frame}
 use Rattle.picture.specs.declared.Pen.{Pen}
 use Rattle.picture.specs.declared.Kind.{Kind}
+use Rattle.picture.specs.declared.Kind.the-variants.{Gouraud}
 use Rattle.picture.specs.declared.Compared.{Compared}
 use Rattle.picture.specs.declared.Compared.the-variants.{Nearer, Equal, Farther}
-use Rattle.picture.specs.Place.{Layout, plain, tiled, share, layoutOf}
+use Rattle.picture.specs.Place.{Layout, plain, tiled, share, layoutOf, rowsOf}
 use Rattle.picture.specs.Offer.{Offer, offer, isMasked, shows}
-use Rattle.picture.specs.Draw.{spans, shown, carriedTo}
-use Rattle.picture.specs.Picture.{isDeep, comparedOf, isEdge, Picture, picture}
+use Rattle.picture.specs.Draw.{spans, shown, carriedTo, spanOffers, nearerPen}
+use Rattle.picture.specs.Picture.{isDeep, comparedOf, isEdge, Picture, picture, drawn}
+use Rattle.picture.specs.Lent.{Lent}
 
 -- nothing but a nearer depth decides, and both numbers are stored whole
 pub record Plain (pen : Pen) (kind : Kind) : Type 0 where
@@ -35,6 +39,29 @@ isNearer Farther = false
 -- one offer of that sort at a place
 unfoldable pub nearerAt : ℕ → ℕ → ℕ → Picture → Picture
 nearerAt at i z p = cond (isNearer (comparedOf z (getD (p .z) at 0))) (picture (set (p .i) at i) (set (p .z) at z) (p .passed + 1)) p
+
+-- so many of them one after the other, pixel j at its place with the numbers carried to it
+unfoldable pub runOver : (ℕ → ℕ) → Carried → Carried → ℕ → Picture → Picture
+runOver place i z zero p = p
+runOver place i z (suc n) p = nearerAt (place n) (carriedTo i n) (carriedTo z n) (runOver place i z n p)
+
+-- these were drawn over two lent memories, and the count of passed pixels went from one number to another
+abbrev pub Runs : (ℕ → ℕ) → Carried → Carried → ℕ → Lent → Lent → ℕ → ℕ → Type 0
+Runs place i z count im zm from to =
+    picture (now (im .exit)) (now (zm .exit)) to ≡ runOver place i z count (picture (now (im .entry)) (now (zm .entry)) from)
+
+-- pixels side by side lie inside memories of two lengths
+pub record Fits (run : Run) (ni nz : ℕ) : Type 0 where
+  pub low : run .base ≤ 4294967295
+  pub i : run .base + run .count ≤ ni
+  pub z : run .base + run .count ≤ nz
+
+-- pixels side by side are what is drawn of a row in use from column lo up to and without hi
+pub record Beside (frame : Frame) (lo hi y : ℕ) (i z : Carried) (run : Run) : Type 0 where
+  pub fits : (ni nz : ℕ) → y < rowsOf frame ni nz → Fits run ni nz
+  pub same : (rows : ℕ) → y < rows → (p : Picture)
+      → runOver (λ j. run .base + j) (run .i) (run .z) (run .count) p
+      ≡ drawn (nearerPen frame) (spanOffers (nearerPen frame) rows Gouraud lo hi y i z) p
 
 -- the rows up to the end of the band that has row y: that row, or the four of a tile
 unfoldable pub bandEnd : Layout → ℕ → ℕ

@@ -1,5 +1,6 @@
 // The two lent memories, and what an offered pixel does to them. specs/ says where pixels lie (Place), what is offered (Offer), what
 // passes and is stored (Picture), and what pictures store (Store).
+mod carry;
 pub mod draw;
 pub mod limits;
 pub mod nearer;
@@ -59,4 +60,12 @@ pub struct Vertex {
 pub struct Carried {
     pub first: u64,
     pub add: u64,
+}
+
+// Pixels that lie side by side: the place of the first, how many, and their numbers.
+struct Run {
+    base: usize,
+    count: u16,
+    i: Carried,
+    z: Carried,
 }

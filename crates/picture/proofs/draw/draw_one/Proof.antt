@@ -1,32 +1,12 @@
 -- `draw::draw_one` meets its contract. Assumes nothing.
-use mathlib.Core.Path.{sym, ap, _∙_}
+use mathlib.Core.Path.{ap, _∙_}
 use native.Mathlib.Omega.{arith}
 use Prim.Native.Nat.{ℕ}
 use Rattle.picture.specs.Picture.{picture, stepAt}
-use Rattle.picture.proofs.Rows.{step-nearer, shown-drawn, shown-left}
+use Rattle.picture.proofs.Rows.{shown-drawn, shown-left}
 use borrow.Author.Needs.{needs}
 use Rattle.picture.proofs.draw.draw_one.Statement.{statement}
 use Rattle.picture.proofs.draw.draw_one.Tie as tie
-
-put-nearer-requires : tie.Need-put-nearer-requires
-put-nearer-requires c κs = search needs
-
-same-length : tie.Need-same-length
-same-length c = search needs
-
-same-length-2 : tie.Need-same-length-2
-same-length-2 c = search needs
-
-returns : tie.Need-returns
-returns c =
-    let s = c .before .before .before .before .before .before .before .before .before .before in
-    let a = s .args in
-    let k = s .pre .0 (c .before .before .before .before .before .before .before .if1 .taken) in
-    let p = picture (a .im .now) (a .zm .now) (a .n) in (
-      shown-drawn (a .pen) (a .kind) (a .x) (a .y) (a .i) (a .z) p _ (k .shows-all (a .x) (a .y))
-          (c .before .before .before .before .put-nearer .ensures .0 ∙ sym (step-nearer (a .pen) (a .kind) k (a .at) (a .i) (a .z) (omega arith) p) ∙ ap (λ (at : ℕ). stepAt (a .pen) (a .kind) at (a .i) (a .z) p) (s .pre .1 .0)),
-      c .before .before .before .before .put-nearer .ensures .1,
-    )
 
 is-masked-requires : tie.Need-is-masked-requires
 is-masked-requires c κs = search needs
@@ -37,26 +17,26 @@ is-shown-requires c κs = search needs
 put-at-requires : tie.Need-put-at-requires
 put-at-requires c κs = search needs
 
-same-length-3 : tie.Need-same-length-3
-same-length-3 c = search needs
+same-length : tie.Need-same-length
+same-length c = search needs
 
-same-length-4 : tie.Need-same-length-4
-same-length-4 c = search needs
+same-length-2 : tie.Need-same-length-2
+same-length-2 c = search needs
 
-returns-2 : tie.Need-returns-2
-returns-2 c =
-    let s = c .before .before .before .before .before .before .before .before .before .before .before .before .before in
+returns : tie.Need-returns
+returns c =
+    let s = c .before .before .before .before .before .before .before .before .before .before .before .before in
     let a = s .args in
     let p = picture (a .im .now) (a .zm .now) (a .n) in (
-      shown-drawn (a .pen) (a .kind) (a .x) (a .y) (a .i) (a .z) p _ (rw (c .before .before .before .before .before .before .before .before .before .is-masked .ensures, c .before .before .before .before .before .before .before .before .is-shown .ensures) at (c .before .before .before .before .before .before .before .if2 .taken))
-          (c .before .before .before .before .put-at .ensures .0 ∙ ap (λ (at : ℕ). stepAt (a .pen) (a .kind) at (a .i) (a .z) p) (s .pre .1 .0)),
+      shown-drawn (a .pen) (a .kind) (a .x) (a .y) (a .i) (a .z) p _ (rw (c .before .before .before .before .before .before .before .before .before .is-masked .ensures, c .before .before .before .before .before .before .before .before .is-shown .ensures) at (c .before .before .before .before .before .before .before .if1 .taken))
+          (c .before .before .before .before .put-at .ensures .0 ∙ ap (λ (at : ℕ). stepAt (a .pen) (a .kind) at (a .i) (a .z) p) (s .pre .0)),
       c .before .before .before .before .put-at .ensures .1,
     )
 
-returns-3 : tie.Need-returns-3
-returns-3 c =
-    let a = c .before .before .before .before .before .before .args in (
-      shown-left (a .pen) (a .kind) (a .x) (a .y) (a .i) (a .z) (picture (a .im .now) (a .zm .now) (a .n)) (rw (c .before .before .is-masked .ensures, c .before .is-shown .ensures) at (c .if2 .left)),
+returns-2 : tie.Need-returns-2
+returns-2 c =
+    let a = c .before .before .before .before .before .args in (
+      shown-left (a .pen) (a .kind) (a .x) (a .y) (a .i) (a .z) (picture (a .im .now) (a .zm .now) (a .n)) (rw (c .before .before .is-masked .ensures, c .before .is-shown .ensures) at (c .if1 .left)),
       omega arith,
     )
 
@@ -64,14 +44,10 @@ pub draw-one-spec : {M : Type 1} → statement M
 draw-one-spec =
     tie.close
     (tie.spec
-    put-nearer-requires
-    same-length
-    same-length-2
-    returns
     is-masked-requires
     is-shown-requires
     put-at-requires
-    same-length-3
-    same-length-4
-    returns-2
-    returns-3)
+    same-length
+    same-length-2
+    returns
+    returns-2)

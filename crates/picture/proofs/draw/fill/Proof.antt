@@ -3,7 +3,6 @@
 use mathlib.Core.Path.{_≡_, refl, ap, _∙_}
 use native.Mathlib.Omega.{arith}
 use Prim.Native.Nat.{ℕ, _<_, _+_, _-_, _*_, _%_, _^_, _≤_}
-use mathlib.Core.Bool.{false≢true}
 use borrow.Author.Needs.{needs}
 use lib.ListN.{length}
 use Rattle.picture.specs.Place.{placeOf, rowsOf}
@@ -66,10 +65,8 @@ draw-one-requires c κs =
     let h : a .lo + k .j < a .pen .frame .line = omega (arith, k .inv .1, c .before .before .before .before .loop-test .taken, s .pre .0, s .pre .1) in
     let e = ap (λ (m : ℕ). m + k .j) (k .inv .2) ∙ place-beside (a .pen .frame) (a .lo) (a .y) (k .j) (s .pre .3) in
     let below = place-below (a .pen .frame) (length (a .im .now)) (length (a .zm .now)) (a .lo + k .j) (a .y)
-    (inside-of (a .pen .frame) (rowsOf (a .pen .frame) (length (a .im .now)) (length (a .zm .now))) (a .lo + k .j) (a .y) h (s .pre .2) (plain-mine (a .pen .frame) (a .lo + k .j) (s .pre .3))) in (
-      (λ t. absurd (false≢true t)),
-      (e, omega (arith, e, below .0, reached-i (k .inv .6)), omega (arith, e, below .1, reached-z (k .inv .6)), omega (arith, k .inv .3, k .inv .0, k .inv .1)),
-    )
+    (inside-of (a .pen .frame) (rowsOf (a .pen .frame) (length (a .im .now)) (length (a .zm .now))) (a .lo + k .j) (a .y) h (s .pre .2) (plain-mine (a .pen .frame) (a .lo + k .j) (s .pre .3))) in
+    (e, omega (arith, e, below .0, reached-i (k .inv .6)), omega (arith, e, below .1, reached-z (k .inv .6)), omega (arith, k .inv .3, k .inv .0, k .inv .1))
 
 wrapping-add-u64-requires : tie.Need-wrapping-add-u64-requires Inv-loop μ-loop
 wrapping-add-u64-requires c κs = search needs

@@ -7,8 +7,8 @@ use Rattle.picture.proofs.draw.fill_row.Tie as tie
 lies-plain-requires : tie.Need-lies-plain-requires
 lies-plain-requires c κs = search needs
 
-fill-beside-requires : tie.Need-fill-beside-requires
-fill-beside-requires c κs =
+fill-requires : tie.Need-fill-requires
+fill-requires c κs =
     let p = c .before .before .before .before .before .before .before .pre in
     (p .0, p .1, p .2, sym (c .before .before .before .lies-plain .ensures) ∙ c .before .before .if1 .taken)
 
@@ -57,7 +57,7 @@ fill-row-spec =
     tie.close
     (tie.spec
     lies-plain-requires
-    fill-beside-requires
+    fill-requires
     same-length
     same-length-2
     returns

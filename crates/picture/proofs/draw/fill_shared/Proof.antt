@@ -42,10 +42,20 @@ add-own c =
     omega (arith, less)
 
 strided-requires : tie.Need-strided-requires
-strided-requires c κs = search needs
+strided-requires c κs =
+    let s = c .before .before .before .before .before .before in
+    let w = c .before .before .ways-of in
+    let u = c .before .until-own in
+    let shares = subst (λ (n : ℕ). Shares (s .args .pen .frame) n) (sym (w .ensures .0)) (shares-of (s .args .pen .frame) (s .pre .3) (s .pre .4)) in
+    (shares .few, u .ensures .1)
 
 strided-requires-2 : tie.Need-strided-requires-2
-strided-requires-2 c κs = search needs
+strided-requires-2 c κs =
+    let s = c .before .before .before .before .before .before .before in
+    let w = c .before .before .before .ways-of in
+    let u = c .before .before .until-own in
+    let shares = subst (λ (n : ℕ). Shares (s .args .pen .frame) n) (sym (w .ensures .0)) (shares-of (s .args .pen .frame) (s .pre .3) (s .pre .4)) in
+    (shares .few, u .ensures .1)
 
 add-fill-own : tie.Need-add-fill-own
 add-fill-own c = search needs

@@ -1,14 +1,12 @@
--- `draw::put_carried` meets its contract. Assumes nothing.
+-- `nearer::put_chosen` meets its contract. Assumes nothing.
 use mathlib.Core.Path.{ap₂, _∙_}
-use native.Mathlib.Omega.{arith}
 use Prim.Native.Nat.{ℕ}
-use Rattle.picture.specs.Offer.{offer}
-use Rattle.picture.specs.Picture.{picture, drawn}
-use Rattle.picture.specs.Draw.{shown}
-use Rattle.picture.proofs.Rows.{chosen-drawn}
+use Rattle.picture.specs.Picture.{picture}
+use Rattle.picture.specs.Loops.{nearerAt}
+use Rattle.picture.proofs.Rows.{chosen-nearer}
 use borrow.Author.Needs.{needs}
-use Rattle.picture.proofs.draw.put_carried.Statement.{statement}
-use Rattle.picture.proofs.draw.put_carried.Tie as tie
+use Rattle.picture.proofs.nearer.put_chosen.Statement.{statement}
+use Rattle.picture.proofs.nearer.put_chosen.Tie as tie
 
 mul-deep : tie.Need-mul-deep
 mul-deep c = search needs
@@ -60,17 +58,14 @@ same-length-2 c = search needs
 
 returns : tie.Need-returns
 returns c =
-    let s = c .before .before .before .before .before .before .before .before .before in
-    let a = s .args in
+    let a = c .before .before .before .before .before .before .before .before .before .args in
     let iw = c .before .before .before .whole2 in
     let zw = c .before .before .before .before .whole in
-    let d = chosen-drawn (a .pen) (a .kind) (s .pre .0) (a .x) (a .y) (iw .result) (zw .result) (a .at) (s .pre .1 .0) (omega arith) (a .im .now) (a .zm .now) (a .n) (c .before .pick2 .ensures) (c .before .before .pick .ensures) (c .pick3 .ensures) in (
-      d .0 ∙ ap₂ (λ (i z : ℕ). drawn (a .pen) (shown (a .pen) (offer (a .kind) (a .x) (a .y) i z)) (picture (a .im .now) (a .zm .now) (a .n))) (iw .ensures) (zw .ensures),
-      d .1,
-    )
+    let d = chosen-nearer (a .at) (iw .result) (zw .result) (a .im .now) (a .zm .now) (a .n) (c .before .pick2 .ensures) (c .before .before .pick .ensures) (c .pick3 .ensures) in
+    (d .0 ∙ ap₂ (λ (i z : ℕ). nearerAt (a .at) i z (picture (a .im .now) (a .zm .now) (a .n))) (iw .ensures) (zw .ensures), d .1)
 
-pub put-carried-spec : {M : Type 1} → statement M
-put-carried-spec =
+pub put-chosen-spec : {M : Type 1} → statement M
+put-chosen-spec =
     tie.close
     (tie.spec
     mul-deep

@@ -1,0 +1,50 @@
+-- `nearer::draw_beside` meets its contract: numbers to which nothing is added are those to which 0 is added. Assumes nothing.
+use mathlib.Core.Path.{ap₂, _∙_}
+use Prim.Native.Nat.{ℕ, _+_}
+use Rattle.picture.specs.declared.Carried.{Carried}
+use Rattle.picture.specs.Picture.{picture}
+use Rattle.picture.specs.Loops.{runOver}
+use Rattle.picture.proofs.Rows.{steady-same}
+use borrow.Author.Needs.{needs}
+use Rattle.picture.proofs.nearer.draw_beside.Statement.{statement}
+use Rattle.picture.proofs.nearer.draw_beside.Tie as tie
+
+draw-run-requires : tie.Need-draw-run-requires
+draw-run-requires c κs = let p = c .before .before .before .before .before .before .before .pre in record { low = p .low; i = p .i; z = p .z }
+
+same-length : tie.Need-same-length
+same-length c = search needs
+
+same-length-2 : tie.Need-same-length-2
+same-length-2 c = search needs
+
+returns : tie.Need-returns
+returns c =
+    let a = c .before .before .before .before .before .before .before .before .before .before .before .before .args in
+    let same = steady-same (a .run .i) (a .run .z) (c .before .before .before .before .before .before .before .if1 .taken) in
+    c .before .before .before .before .draw-run .ensures ∙ ap₂ (λ (i z : Carried). runOver (λ j. a .run .base + j) i z (a .run .count) (picture (a .im .now) (a .zm .now) 0)) (same .0) (same .1)
+
+draw-run-requires-2 : tie.Need-draw-run-requires-2
+draw-run-requires-2 c κs = search needs
+
+same-length-3 : tie.Need-same-length-3
+same-length-3 c = search needs
+
+same-length-4 : tie.Need-same-length-4
+same-length-4 c = search needs
+
+returns-2 : tie.Need-returns-2
+returns-2 c = search needs
+
+pub draw-beside-spec : {M : Type 1} → statement M
+draw-beside-spec =
+    tie.close
+    (tie.spec
+    draw-run-requires
+    same-length
+    same-length-2
+    returns
+    draw-run-requires-2
+    same-length-3
+    same-length-4
+    returns-2)
