@@ -1,12 +1,13 @@
 -- A line's pixel by a pen that stores whole numbers, and depths where they are tested: the depth alone decides. Assumes nothing.
-use mathlib.Core.Path.{_≡_, refl, sym, ap₂}
-use mathlib.Core.Bool.{Bool, true, false, not, _&&_, _||_}
+use mathlib.Core.Path.{_≡_, refl, sym, ap₂, _∙_}
+use mathlib.Core.Bool.{Bool, true, false, cond, not, _&&_, _||_}
 use mathlib.Core.List.{List}
 use Prim.Native.Nat.{ℕ, _+_, _≤_, _<_}
 use native.Mathlib.Omega.{arith}
 use lib.ListN.{getD, set}
-use lib.Dec.{ltb, eqb}
-use borrow.Author.Tests.{ltb-true, ltb-false, eqb-true}
+use lib.Seq.{set-getD}
+use lib.Dec.{leb, ltb, eqb}
+use borrow.Author.Tests.{leb-true, leb-false, ltb-true, ltb-false, eqb-true}
 use Rattle.picture.specs.declared.Pen.{Pen}
 use Rattle.picture.specs.declared.Kind.{Kind}
 use Rattle.picture.specs.Picture.{isDeep, isEdge, comparedOf, wins, passes, newI, newZ, picture, stepAt}
@@ -53,15 +54,25 @@ module _ (pen : Pen) (kind : Kind) (bare : isBare pen kind ≡ true) where
       both (pen .depth) (pen .zenable) (rw e at (u .0))
 
   module _ (at i z : ℕ) (im zm : List ℕ) (n : ℕ) (h : i ≤ 65535) where
-    pub bare-near : isDeep kind ≡ true → isEdge kind ≡ true → z ≤ getD zm at 0
+    bare-near : isDeep kind ≡ true → isEdge kind ≡ true → z ≤ getD zm at 0
         → picture (set im at i) (set zm at z) (n + 1) ≡ stepAt pen kind at i z (picture im zm n)
     unfolding stepAt passes newI newZ
     bare-near d e l =
         rw (d, depths d .0, depths d .1, numbers .0, numbers .1, edge-wins kind z (getD zm at 0) e l, in-all-planes (getD im at 0) i h)
 
-    pub bare-far : isDeep kind ≡ true → getD zm at 0 < z → picture im zm n ≡ stepAt pen kind at i z (picture im zm n)
+    bare-far : isDeep kind ≡ true → getD zm at 0 < z → picture im zm n ≡ stepAt pen kind at i z (picture im zm n)
     unfolding stepAt passes
     bare-far d l = rw (d, depths d .0, edge-loses kind z (getD zm at 0) l)
+
+    -- a choice of what is stored, in place of a branch: where it is farther, what stands there
+    chosen-at : isDeep kind ≡ true → isEdge kind ≡ true → (t : Bool) → leb z (getD zm at 0) ≡ t
+        → picture (set im at (cond t i (getD im at 0))) (set zm at (cond t z (getD zm at 0))) (cond t (n + 1) n) ≡ stepAt pen kind at i z (picture im zm n)
+    chosen-at d e true t = bare-near d e (leb-true z (getD zm at 0) t)
+    chosen-at d e false t = ap₂ (λ (k l : List ℕ). picture k l n) (set-getD im at 0) (set-getD zm at 0) ∙ bare-far d (leb-false z (getD zm at 0) t)
+
+    pub bare-chosen : {vi vz m : ℕ} {t : Bool} → isDeep kind ≡ true → isEdge kind ≡ true → t ≡ leb z (getD zm at 0) → vi ≡ cond t i (getD im at 0)
+        → vz ≡ cond t z (getD zm at 0) → m ≡ cond t (n + 1) n → picture (set im at vi) (set zm at vz) m ≡ stepAt pen kind at i z (picture im zm n)
+    bare-chosen {vi} {vz} {m} {t} d e p ei ez em = rw (ei, ez, em) (chosen-at d e t (sym p))
 
     pub bare-ink : isDeep kind ≡ false → picture (set im at i) zm (n + 1) ≡ stepAt pen kind at i z (picture im zm n)
     unfolding stepAt

@@ -9,13 +9,12 @@ use lib.Dec.{leb}
 use borrow.Author.Tests.{leb-false}
 use Rattle.picture.specs.declared.Frame.{Frame}
 use Rattle.picture.specs.declared.Vertex.{Vertex}
-use Rattle.picture.specs.Place.{liesPlain, layoutOf, spotOf, placeOf}
 use Rattle.line.specs.declared.slope.Slope.{Slope}
 use Rattle.line.specs.declared.course.Move.{Move}
 use Rattle.line.specs.declared.course.Course.{Course}
 use Rattle.line.specs.Segment.{distance, towards, sideAt, xAt, yAt}
 use Rattle.line.specs.Step.{OnStep}
-use Rattle.line.specs.Course.{move, course, moveOf, courseOf}
+use Rattle.line.specs.Course.{move, course, moveOf, courseOf, OnCourse, spotAt}
 use Rattle.line.proofs.Steps.{lands-level, lands-steep}
 
 -- along one axis
@@ -34,11 +33,11 @@ along from to far width h = go (leb from to) refl
         omega (arith, mul-zero far, add-mul (from - far) far width, ap (λ (x : ℕ). x * width) (sub-add-cancel l))
 
 -- the place of step k, and what the course takes
-pub course-place : (frame : Frame) (a b : Vertex) (s : Slope) (k side : ℕ) (c : Course) → c ≡ courseOf frame a b (s .level) → OnStep a b s k
-    → side ≡ sideAt (s .n) (s .m) k → liesPlain frame ≡ true
-    → c .first + (k * c .ahead .up + side * c .aside .up) ≡ placeOf frame (xAt a b k) (yAt a b k) + (k * c .ahead .down + side * c .aside .down)
-unfolding courseOf placeOf spotOf layoutOf
-course-place frame a b s k side c e h f lies = rw (e, lies) (go (s .level) refl)
+pub course-place : (frame : Frame) (a b : Vertex) (s : Slope) (k side : ℕ) (c : Course) → OnCourse frame a b s c → OnStep a b s k
+    → side ≡ sideAt (s .n) (s .m) k
+    → c .first + (k * c .ahead .up + side * c .aside .up) ≡ spotAt frame a b k + (k * c .ahead .down + side * c .aside .down)
+unfolding courseOf
+course-place frame a b s k side c e h f = rw e (go (s .level) refl)
   where
     x : Move
     x = moveOf (a .x) (b .x) 1

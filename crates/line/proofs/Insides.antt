@@ -1,17 +1,18 @@
--- Why no step of a segment asks whether it is offered, where both ends are inside the window and the memory: these are boxes, and no step
--- leaves the box between the two ends. Assumes nothing.
+-- Why no step of a segment asks whether it is offered, where both ends are inside the window and the rows in use: these are boxes, and no step
+-- leaves the box between the two ends. A unit asks about its columns alone. Assumes nothing.
 use mathlib.Core.Path.{_≡_, refl, sym, ap, _∙_}
 use mathlib.Core.Bool.{Bool, true, false, cond, not, _&&_, _||_}
 use Prim.Native.Nat.{ℕ, _+_, _-_, _≤_, _<_, min, max}
 use native.Mathlib.Omega.{arith}
 use lib.Dec.{leb, ltb, eqb}
 use borrow.Author.Tests.{leb-true, leb-false, lt-ltb, ltb-true, eqb-true}
+use Rattle.picture.specs.declared.Frame.{Frame}
 use Rattle.picture.specs.declared.Pen.{Pen}
 use Rattle.picture.specs.declared.Vertex.{Vertex}
 use Rattle.picture.specs.declared.Kind.{Kind}
-use Rattle.picture.specs.Place.{liesPlain, liesTiled, layoutOf, mine, inMemory}
+use Rattle.picture.specs.Place.{liesPlain, liesTiled, layoutOf, rowsOf, isWhole, mine, inMemory}
 use Rattle.picture.specs.Offer.{offer, inWindow, offered, isMasked, shows}
-use Rattle.picture.proofs.Places.{both, plain-mine, tiled-mine}
+use Rattle.picture.proofs.Places.{both, rows-whole, plain-mine, tiled-mine}
 use Rattle.picture.proofs.Offers.{window-in, window-of}
 use Rattle.picture.proofs.Rows.{shows-all}
 use Rattle.line.specs.declared.field.Field.{Field}
@@ -55,23 +56,37 @@ open-shown pen kind h x y = go (not (isMasked kind)) h
     go true e = refl
     go false e = shows-all pen x y (eqb-true _ _ e)
 
+-- inside the window and the rows in use, a column that the memory has is offered
+pub open-offered : (pen : Pen) (rows : ℕ) (kind : Kind) (x y : ℕ) → isOpen pen kind ≡ true
+    → offered pen rows (offer kind x y 0 0) ≡ within pen rows x y && mine (layoutOf (pen .frame)) x
+unfolding offered inMemory within
+open-offered pen rows kind x y h =
+    rw (open-shown pen kind h x y) (go (inWindow pen x y) (ltb x (pen .frame .line)) (ltb y rows) (mine (layoutOf (pen .frame)) x))
+  where
+    go : (p q r m : Bool) → p && (q && r && m) && true ≡ p && (q && r) && m
+    go true true true true = refl
+    go true true true false = refl
+    go true true false m = refl
+    go true false r m = refl
+    go false q r m = refl
+
+-- rows and tiles have every column
+pub whole-mine : (frame : Frame) (x : ℕ) → liesWhole frame ≡ true → mine (layoutOf frame) x ≡ true
+whole-mine frame x h = go (liesPlain frame) refl h
+  where
+    go : (t : Bool) → liesPlain frame ≡ t → t || liesTiled frame ≡ true → mine (layoutOf frame) x ≡ true
+    go true e l = plain-mine frame x e
+    go false e l = tiled-mine frame x l
+
 pub direct-offered : (pen : Pen) (rows : ℕ) (kind : Kind) (x y : ℕ) → liesWhole (pen .frame) && isOpen pen kind ≡ true
     → offered pen rows (offer kind x y 0 0) ≡ within pen rows x y
-unfolding offered inMemory within
 direct-offered pen rows kind x y h =
     let u = both (liesWhole (pen .frame)) (isOpen pen kind) h in
-    rw (mine-all (liesPlain (pen .frame)) refl (u .0), open-shown pen kind (u .1) x y)
-    (go (inWindow pen x y) (ltb x (pen .frame .line)) (ltb y rows))
+    open-offered pen rows kind x y (u .1) ∙ rw (whole-mine (pen .frame) x (u .0)) (go (within pen rows x y))
   where
-    mine-all : (t : Bool) → liesPlain (pen .frame) ≡ t → t || liesTiled (pen .frame) ≡ true → mine (layoutOf (pen .frame)) x ≡ true
-    mine-all true e l = plain-mine (pen .frame) x e
-    mine-all false e l = tiled-mine (pen .frame) x l
-
-    go : (p q r : Bool) → p && (q && r && true) && true ≡ p && (q && r)
-    go true true true = refl
-    go true true false = refl
-    go true false r = refl
-    go false q r = refl
+    go : (t : Bool) → t && true ≡ t
+    go true = refl
+    go false = refl
 
 -- by what was computed
 pub field-offered : (pen : Pen) (rows : ℕ) (kind : Kind) (x y : ℕ) {field : Field} {t : Bool} → field ≡ fieldOf pen kind rows → field .direct ≡ true
@@ -103,17 +118,19 @@ within-box pen rows ax ay bx by x y p q l r b t =
         (w .0, w .1, w .2, w .3, ltb-true _ _ (k .0), ltb-true _ _ (k .1))
 
 module _ (pen : Pen) (rows : ℕ) (kind : Kind) (a b : Vertex) where
-  -- each step of it is offered
-  pub step-offered : (s : Slope) (k : ℕ) → OnStep a b s k → Inside pen rows kind a b → offered pen rows (offer kind (xAt a b k) (yAt a b k) 0 0) ≡ true
-  step-offered s k h i =
+  -- each step of it is inside
+  step-within : (s : Slope) (k : ℕ) → OnStep a b s k → Inside pen rows kind a b → within pen rows (xAt a b k) (yAt a b k) ≡ true
+  step-within s k h i =
       let l = lands a b s k h in
       let x = towards-between (a .x) (b .x) (l .0) (l .2 .across-fits) in
       let y = towards-between (a .y) (b .y) (l .1) (l .2 .up-fits) in
-      let ends = both (liesWhole (pen .frame) && within pen rows (a .x) (a .y)) (within pen rows (b .x) (b .y)) (i .ends) in
-      let first = both (liesWhole (pen .frame)) (within pen rows (a .x) (a .y)) (ends .0) in
-      let direct : liesWhole (pen .frame) && isOpen pen kind ≡ true = rw (first .0, i .clear) in
-      direct-offered pen rows kind (xAt a b k) (yAt a b k) direct
-      ∙ rw (← l .2 .x, ← l .2 .y) (within-box pen rows (a .x) (a .y) (b .x) (b .y) _ _ (first .1) (ends .1) (x .0) (x .1) (y .0) (y .1))
+      let ends = both (within pen rows (a .x) (a .y)) (within pen rows (b .x) (b .y)) (i .ends) in
+      rw (← l .2 .x, ← l .2 .y) (within-box pen rows (a .x) (a .y) (b .x) (b .y) _ _ (ends .0) (ends .1) (x .0) (x .1) (y .0) (y .1))
+
+  -- so that it is offered where the memory has its column
+  pub step-offered : (s : Slope) (k : ℕ) → OnStep a b s k → Inside pen rows kind a b
+      → offered pen rows (offer kind (xAt a b k) (yAt a b k) 0 0) ≡ mine (layoutOf (pen .frame)) (xAt a b k)
+  step-offered s k h i = open-offered pen rows kind (xAt a b k) (yAt a b k) (i .clear) ∙ rw (step-within s k h i)
 
   -- by the tests that were made
   pub inside-of-tests : {t o r : Bool} → t ≡ endsWithin pen rows a b → o ≡ isOpen pen kind → r ≡ isBare pen kind → t && o && r ≡ true
@@ -122,3 +139,13 @@ module _ (pen : Pen) (rows : ℕ) (kind : Kind) (a b : Vertex) where
       let u = both (t && o) r h in
       let v = both t o (u .0) in
       (record { ends = sym e ∙ v .0; clear = sym f ∙ v .1 }, sym g ∙ u .1)
+
+-- its line length suits the layout
+pub inside-whole : (pen : Pen) (ni nz : ℕ) (kind : Kind) (a b : Vertex) → Inside pen (rowsOf (pen .frame) ni nz) kind a b
+    → isWhole (layoutOf (pen .frame)) (pen .frame .line) ≡ true
+unfolding within
+inside-whole pen ni nz kind a b i =
+    let rows = rowsOf (pen .frame) ni nz in
+    let first = both (within pen rows (a .x) (a .y)) (within pen rows (b .x) (b .y)) (i .ends) .0 in
+    let memory = both (inWindow pen (a .x) (a .y)) (ltb (a .x) (pen .frame .line) && ltb (a .y) rows) first .1 in
+    rows-whole (pen .frame) ni nz (a .y) (ltb-true _ _ (both (ltb (a .x) (pen .frame .line)) (ltb (a .y) rows) memory .1))

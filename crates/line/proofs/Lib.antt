@@ -4,7 +4,9 @@ pub mod Segments
 pub mod Steps
 pub mod Insides
 pub mod Courses
+pub mod Parts
 pub mod Loops
+pub mod Routes
 pub mod Bare
 pub mod Polylines
 pub mod Members

@@ -1,20 +1,21 @@
 -- A loop over the steps of a segment: what holds before step k, that a step keeps it, and what it says after the last. f is what each step
 -- offers, with so many rows in use, and nothing is offered before the first step that is drawn. Assumes nothing.
 use mathlib.Core.Path.{_≡_, refl, sym, ap, _∙_}
-use mathlib.Core.Bool.{Bool, true, false, cond, true≢false}
+use mathlib.Core.Bool.{Bool, true, false, cond, _||_, true≢false}
 use mathlib.Core.List.{List, []}
-use Prim.Native.Nat.{ℕ, _+_, _/_, _^_, _≤_, _<_}
+use Prim.Native.Nat.{ℕ, _+_, _/_, _^_, _≤_, _<_, min}
 use native.Mathlib.Omega.{arith}
 use lib.ListN.{length}
+use lib.Dec.{ltb}
 use borrow.Author.Tests.{lt-ltb, le-ltb}
 use Rattle.picture.specs.declared.Pen.{Pen}
 use Rattle.picture.specs.declared.Kind.{Kind}
 use Rattle.picture.specs.declared.Vertex.{Vertex}
 use Rattle.picture.specs.Place.{rowsOf}
-use Rattle.picture.specs.Offer.{Offer, offer, keep}
+use Rattle.picture.specs.Offer.{Offer, offer, offered, keep}
 use Rattle.picture.specs.Draw.{spans}
-use Rattle.picture.specs.Picture.{picture, drawn}
-use Rattle.picture.proofs.Spans.{Reached, reached-start, reached-add, reached-i, reached-z}
+use Rattle.picture.specs.Picture.{isDeep, picture, drawn}
+use Rattle.picture.proofs.Spans.{Reached, reached-start, reached-add, reached-end, reached-i, reached-z}
 use Rattle.picture.proofs.Rows.{carried-start, carried-next, carried-at}
 use Rattle.line.specs.declared.Mode.{Mode}
 use Rattle.line.specs.declared.Mode.the-variants.{Zero, One, Two}
@@ -26,7 +27,7 @@ use Rattle.line.specs.declared.pattern.Ink.{Ink}
 use Rattle.line.specs.declared.slope.Pixel.{Pixel}
 use Rattle.line.specs.Segment.{larger, numberAt, xAt, yAt, isSet, firstOf, from, dashOffers, shadeOffers, stepOffers, kindOf}
 use Rattle.line.specs.Step.{slopeOf, pixelAt, OnStep}
-use Rattle.line.specs.Ink.{inkOf, joinedIn}
+use Rattle.line.specs.Ink.{ink, hasGround, inkOf, joinedIn}
 use Rattle.line.specs.Walk.{Carries, Stands, startOf, nextOf, OnWalk}
 use Rattle.line.proofs.Segments.{smaller-le}
 use Rattle.line.proofs.Rounding.{number-side}
@@ -37,13 +38,14 @@ use Rattle.line.proofs.Rounding.{number-side}
 pub begins : (w : Walk) → w .side .first < 2 ^ 64 → w .i .first < 2 ^ 64 → w .z .first < 2 ^ 64 → Stands w (startOf w)
 begins w s i z = record { side = carried-start (w .side) s; i = carried-start (w .i) i; z = carried-start (w .z) z }
 
-pub stands-next : (w : Walk) (p : Step) → Stands w p → Stands w (nextOf w p)
-stands-next w p h =
-    record {
+pub stands-next : (w : Walk) (p : Step) → w .stride ≡ 1 → Stands w p → Stands w (nextOf w p)
+stands-next w p e h =
+    rw e
+    (record {
       side = carried-next (w .side .first) (w .side .add) (p .k) _ (p .side) (h .side) refl;
       i = carried-next (w .i .first) (w .i .add) (p .k) _ (p .i) (h .i) refl;
       z = carried-next (w .z .first) (w .z .add) (p .k) _ (p .z) (h .z) refl;
-    }
+    })
 
 -- where a walk stands, it tells the side and the numbers
 pub on-walk : {a b : Vertex} {s : Slope} {w : Walk} {p : Step} → OnStep a b s (p .k) → Carries a b s w → Stands w p → OnWalk a b s p
@@ -63,12 +65,11 @@ abbrev rows : Pen → List ℕ → List ℕ → ℕ
 rows pen i z = rowsOf (pen .frame) (length i) (length z)
 
 pub record Walked (pen : Pen) (f : ℕ → ℕ → List Offer) (first : ℕ) (a b : Vertex) (s : Slope) (w : Walk) (n : ℕ) (i₀ z₀ i z : List ℕ) (p : Step) (passed : ℕ) : Type 0 where
-  pub so-far : Reached pen (f (rows pen i₀ z₀)) i₀ z₀ i z passed (p .k)
+  pub so-far : Reached pen (f (rows pen i₀ z₀)) i₀ z₀ i z passed (min (p .k) (n + 1))
   pub slope : s ≡ slopeOf a b
   pub last : n ≡ s .n
   pub small : n ≤ 65535
   pub count : passed ≤ p .k
-  pub upto : p .k ≤ n + 1
   pub begun : first ≤ p .k
   pub carries : Carries a b s w
   pub stands : Stands w p
@@ -83,7 +84,6 @@ module _ {pen : Pen} {f : ℕ → ℕ → List Offer} {first : ℕ} {a b : Verte
         last = l;
         small = h;
         count = omega arith;
-        upto = omega (arith, t .1);
         begun = omega (arith, t .1);
         carries = c;
         stands = t .0;
@@ -97,25 +97,36 @@ module _ {pen : Pen} {f : ℕ → ℕ → List Offer} {first : ℕ} {a b : Verte
     pub walked-rows : rows pen i z ≡ rows pen i₀ z₀
     walked-rows = rw (reached-i (h .so-far), reached-z (h .so-far))
 
+    -- from a step that is drawn to another, with nothing offered between the two
     pub walked-next : {j q : List ℕ} {m : ℕ} {r : Step} → p .k ≤ n → picture j q m ≡ drawn pen (f (rows pen i z) (p .k)) (picture i z 0) → m ≤ 1
-        → r ≡ nextOf w p → Walked pen f first a b s w n i₀ z₀ j q r (passed + m)
-    walked-next l d c e =
-        rw e
-        (record {
-          so-far = reached-add (h .so-far) (rw walked-rows at d);
+        → Stands w r → p .k < r .k → ((k : ℕ) → p .k < k → k < r .k → k ≤ n → f (rows pen i₀ z₀) k ≡ [])
+        → Walked pen f first a b s w n i₀ z₀ j q r (passed + m)
+    walked-next {r = r} l d c t u v =
+        let e : min (p .k) (n + 1) ≡ p .k = omega arith in
+        record {
+          so-far =
+              record {
+                so = reached-end (min (r .k) (n + 1)) (reached-add (rw e at (h .so-far)) (rw walked-rows at d)) (omega arith) (λ k x y. v k (omega arith) (omega arith) (omega arith));
+              };
           slope = h .slope;
           last = h .last;
           small = h .small;
           count = omega (arith, h .count);
-          upto = omega arith;
           begun = omega (arith, h .begun);
           carries = h .carries;
-          stands = stands-next w p (h .stands);
-        })
+          stands = t;
+        }
+
+    -- to the next step
+    pub walked-step : {j q : List ℕ} {m : ℕ} {r : Step} → p .k ≤ n → picture j q m ≡ drawn pen (f (rows pen i z) (p .k)) (picture i z 0) → m ≤ 1
+        → r ≡ nextOf w p → Walked pen f first a b s w n i₀ z₀ j q r (passed + m)
+    walked-step l d c e =
+        rw e
+        (walked-next l d c (stands-next w p (h .carries .single) (h .stands)) (omega (arith, h .carries .single)) (λ k x y g. absurd (omega (arith, x, y, h .carries .single))))
 
     pub walked-end : n < p .k → picture i z passed ≡ drawn pen (spans (f (rows pen i₀ z₀)) (larger a b + 1)) (picture i₀ z₀ 0)
     walked-end l =
-        let e : p .k ≡ larger a b + 1 = omega (arith, h .upto, h .last, ap (λ (s : Slope). s .n) (h .slope)) in
+        let e : min (p .k) (n + 1) ≡ larger a b + 1 = omega (arith, h .last, ap (λ (s : Slope). s .n) (h .slope)) in
         rw e at (h .so-far .so)
 
 -- ---- the steps from a first one on
@@ -138,6 +149,20 @@ from-on first f k h = rw (le-ltb k first h)
 
 -- ---- what a step offers
 
+-- the ink, by whether lines of the mode have depths, and a ground
+pub ink-deep : (style : Style) (m : Mode) (set : Bool) (i z : ℕ) → isDeep (kindOf m) ≡ true → ink true i z ≡ inkOf style m set i z
+ink-deep style Zero set i z e = absurd (true≢false (sym e))
+ink-deep style One set i z e = absurd (true≢false (sym e))
+ink-deep style Two set i z e = refl
+
+pub ink-flat : (style : Style) (m : Mode) (set : Bool) (i z : ℕ) → isDeep (kindOf m) ≡ false
+    → ink (set || hasGround m) (cond set (style .foreground) (style .background)) 0 ≡ inkOf style m set i z
+ink-flat style Zero true i z e = refl
+ink-flat style Zero false i z e = refl
+ink-flat style One true i z e = refl
+ink-flat style One false i z e = refl
+ink-flat style Two set i z e = absurd (true≢false e)
+
 module _ (pen : Pen) (rows : ℕ) (style : Style) (a b : Vertex) where
   -- before the first step that is drawn nothing is
   pub before-first : (m : Mode) (j : ℕ) → j < firstOf (joinedIn style m) → stepOffers pen rows style m a b j ≡ []
@@ -145,6 +170,23 @@ module _ (pen : Pen) (rows : ℕ) (style : Style) (a b : Vertex) where
   before-first Zero j h = from-before (firstOf (style .joined)) (dashOffers pen rows _ true style a b) j h
   before-first One j h = from-before (firstOf (style .joined)) (dashOffers pen rows _ false style a b) j h
   before-first Two j h = absurd (omega arith)
+
+  -- nor is what is not offered
+  pub hidden-step : (m : Mode) (k : ℕ) → offered pen rows (offer (kindOf m) (xAt a b k) (yAt a b k) 0 0) ≡ false → stepOffers pen rows style m a b k ≡ []
+  unfolding from dashOffers shadeOffers keep offered
+  hidden-step Zero k e = rw e (go (ltb k (firstOf (style .joined))) (isSet style k))
+    where
+      go : (t u : Bool) → cond {A = List Offer} t [] (cond u [] []) ≡ []
+      go true u = refl
+      go false true = refl
+      go false false = refl
+  hidden-step One k e = rw e (go (ltb k (firstOf (style .joined))) (isSet style k))
+    where
+      go : (t u : Bool) → cond {A = List Offer} t [] (cond u [] []) ≡ []
+      go true u = refl
+      go false true = refl
+      go false false = refl
+  hidden-step Two k e = rw e
 
   module _ (k : ℕ) (set : Bool) (i z : ℕ) (e : set ≡ isSet style k) where
     abbrev at : ℕ → List Offer

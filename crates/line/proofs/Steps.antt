@@ -1,9 +1,12 @@
 -- One step of a segment: where it is by the slope that was computed, and that it counts one pixel at most. Assumes nothing.
-use mathlib.Core.Path.{_≡_, sym, ap, _∙_}
-use mathlib.Core.Bool.{true, false}
+use mathlib.Core.Path.{_≡_, refl, sym, ap, _∙_}
+use mathlib.Core.Logic.{_⊎_, inl, inr}
+use mathlib.Core.Bool.{Bool, true, false, cond}
 use mathlib.Core.List.{List, []}
-use Prim.Native.Nat.{ℕ, _%_, _≤_, _<_, zero-le, _+_}
+use Prim.Native.Nat.{ℕ, _%_, _≤_, _<_, zero-le, _+_, _-_}
 use native.Mathlib.Omega.{arith}
+use lib.Dec.{leb}
+use borrow.Author.Tests.{leb-false}
 use Rattle.picture.specs.declared.Pen.{Pen}
 use Rattle.picture.specs.declared.Vertex.{Vertex}
 use Rattle.picture.specs.Offer.{Offer, keep}
@@ -57,6 +60,19 @@ module _ (a b : Vertex) (s : Slope) (k side : ℕ) (h : OnStep a b s k) (e : sid
       let u : xLeads a b ≡ false = sym (ap (λ (s : Slope). s .level) (h .slope)) ∙ t in
       let r = rw u at (reaches a b) in
       record { across-fits = omega (arith, r .0, side-fits); up-fits = omega (arith, r .1, k-le); x = rw (u, side-is); y = rw u }
+
+-- where x leads, two steps are as many columns apart as steps
+pub steps-apart : (a b : Vertex) (s : Slope) (k j : ℕ) → OnStep a b s k → OnStep a b s j → s .level ≡ true → k < j
+    → (xAt a b j ≡ xAt a b k + (j - k)) ⊎ (xAt a b k ≡ xAt a b j + (j - k))
+steps-apart a b s k j h l t q =
+    let u = lands-level a b s k _ h refl t in
+    let v = lands-level a b s j _ l refl t in
+    rw (← u .x, ← v .x) (go (leb (a .x) (b .x)) refl (v .across-fits))
+  where
+    go : (t : Bool) → leb (a .x) (b .x) ≡ t → j ≤ distance (a .x) (b .x)
+        → (cond t (a .x + j) (a .x - j) ≡ cond t (a .x + k) (a .x - k) + (j - k)) ⊎ (cond t (a .x + k) (a .x - k) ≡ cond t (a .x + j) (a .x - j) + (j - k))
+    go true e d = inl (omega arith)
+    go false e d = let u = leb-false (a .x) (b .x) e in inr (omega arith)
 
 -- ---- the position in the pattern
 

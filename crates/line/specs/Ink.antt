@@ -9,6 +9,12 @@ use Rattle.line.specs.declared.pattern.Ink.{Ink}
 abbrev pub ink : Bool → ℕ → ℕ → Ink
 ink drawn i z = record { drawn = drawn; i = i; z = z }
 
+-- a step is drawn whose pattern bit is clear
+abbrev pub hasGround : Mode → Bool
+hasGround Zero = true
+hasGround One = false
+hasGround Two = true
+
 -- a colour by the pattern bit, which says in mode 1 whether there is one; in mode 2 the step's two numbers
 abbrev pub inkOf : Style → Mode → Bool → ℕ → ℕ → Ink
 inkOf style Zero set i z = ink true (cond set (style .foreground) (style .background)) 0

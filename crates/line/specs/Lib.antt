@@ -5,3 +5,5 @@ pub mod Course
 pub mod Walk
 pub mod Ink
 pub mod Field
+pub mod Part
+pub mod Route

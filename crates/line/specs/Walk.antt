@@ -15,8 +15,9 @@ use Rattle.line.specs.Step.{OnStep}
 pub record Tells (n first second : ℕ) (c : Carried) : Type 0 where
   pub told : (k : ℕ) → k ≤ n → carriedTo c k ≡ numberAt n k first second
 
--- what a walk along the segment from a to b carries: a number from 0 to m for the side, and the vertices' numbers
+-- what a walk along the segment from a to b carries, step by step: a number from 0 to m for the side, and the vertices' numbers
 pub record Carries (a b : Vertex) (s : Slope) (w : Walk) : Type 0 where
+  pub single : w .stride ≡ 1
   pub side : Tells (s .n) 0 (s .m) (w .side)
   pub i : Tells (s .n) (a .i) (b .i) (w .i)
   pub z : Tells (s .n) (a .z) (b .z) (w .z)
@@ -27,14 +28,21 @@ pub record Stands (w : Walk) (p : Step) : Type 0 where
   pub i : p .i ≡ (w .i .first + p .k * w .i .add) % 2 ^ 64
   pub z : p .z ≡ (w .z .first + p .k * w .z .add) % 2 ^ 64
 
--- step 0, and a step on
+-- what is carried over twice as many steps, and a walk of such steps
+abbrev pub doubled : Carried → Carried
+doubled c = record { first = c .first; add = (c .add + c .add) % 2 ^ 64 }
+
+abbrev pub twiceOf : Walk → Walk
+twiceOf w = record { stride = w .stride + w .stride; side = doubled (w .side); i = doubled (w .i); z = doubled (w .z) }
+
+-- step 0, and a stride on
 abbrev pub startOf : Walk → Step
 startOf w = record { k = 0; side = w .side .first; i = w .i .first; z = w .z .first }
 
 abbrev pub nextOf : Walk → Step → Step
 nextOf w p =
     record {
-      k = p .k + 1;
+      k = p .k + w .stride;
       side = (p .side + w .side .add) % 2 ^ 64;
       i = (p .i + w .i .add) % 2 ^ 64;
       z = (p .z + w .z .add) % 2 ^ 64;

@@ -13,7 +13,9 @@ use crate::field::Field;
 use crate::field::field_of;
 use crate::field::is_within;
 use crate::field::kind_of;
+use crate::pattern::has_ground;
 use crate::pattern::ink_at;
+use crate::pattern::is_deep;
 use crate::pattern::is_joined;
 use crate::slope::Slope;
 use crate::slope::pixel_of;
@@ -72,7 +74,8 @@ fn put_step(
     requires { ⌜ OnWalk a b s p × (kind ≡ kindOf (style .mode)) × (firstOf (joinedIn style (style .mode)) ≤ p .k) × (field ≡ fieldOf pen kind (rowsOver (pen .frame) im zm)) ⌝ }
     ensures { λ r. ⌜ (Draws pen (λ rows. stepOffers pen rows style (style .mode) a b (p .k)) im zm 0 r) × (r ≤ 1) ⌝ }
 {
-    let ink = ink_at(style, p);
+    let mode = style.mode;
+    let ink = ink_at(style, is_deep(mode), has_ground(mode), p);
     if ink.drawn {
         let q = pixel_of(a, b, s, p.k, whole(p.side));
         return put_pixel(pen, kind, field, q.x, q.y, ink.i, ink.z, im, zm);

@@ -16,7 +16,9 @@ mod anywhere;
 mod course;
 mod field;
 mod inside;
+mod part;
 mod pattern;
+mod route;
 mod slope;
 mod walk;
 

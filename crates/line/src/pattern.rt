@@ -2,8 +2,9 @@
 ghost use mathlib.Core.Path.{_≡_};
 ghost use mathlib.Core.Bool.{cond};
 ghost use Prim.Native.Nat.{_/_, _^_};
-ghost use Rattle.line.specs.Segment.{isSet};
-ghost use Rattle.line.specs.Ink.{inkOf, joinedIn};
+ghost use Rattle.picture.specs.Picture.{isDeep};
+ghost use Rattle.line.specs.Segment.{isSet, kindOf};
+ghost use Rattle.line.specs.Ink.{hasGround, inkOf, joinedIn};
 use crate::Mode;
 use crate::Style;
 use crate::walk::Step;
@@ -35,27 +36,47 @@ pub(crate) fn colour_of(style: Style, set: bool) -> u16
     }
 }
 
-// What a step is drawn with.
-pub(crate) fn ink_at(style: Style, p: Step) -> Ink
+// What a step is drawn with, where lines of the mode have depths or not, and a ground or not.
+pub(crate) fn ink_at(style: Style, deep: bool, ground: bool, p: Step) -> Ink
+    requires { ⌜ (deep ≡ isDeep (kindOf (style .mode))) × (ground ≡ hasGround (style .mode)) ⌝ }
     ensures { λ r. ⌜ r ≡ inkOf style (style .mode) (isSet style (p .k)) (p .i / 2 ^ 48) (p .z / 2 ^ 48) ⌝ }
 {
     let set = is_set(style, p.k);
     let colour = colour_of(style, set);
-    let i = whole(p.i);
-    let z = whole(p.z);
-    let mode = style.mode;
-    match mode {
-        Mode::Zero => Ink {
+    let drawn = set | ground;
+    if deep {
+        return Ink {
             drawn: true,
-            i: colour,
-            z: 0,
-        },
-        Mode::One => Ink {
-            drawn: set,
-            i: colour,
-            z: 0,
-        },
-        Mode::Two => Ink { drawn: true, i, z },
+            i: whole(p.i),
+            z: whole(p.z),
+        };
+    }
+    Ink {
+        drawn,
+        i: colour,
+        z: 0,
+    }
+}
+
+// Whether lines of this mode have depths.
+pub(crate) fn is_deep(mode: Mode) -> bool
+    ensures { λ r. ⌜ r ≡ isDeep (kindOf mode) ⌝ }
+{
+    match mode {
+        Mode::Zero => false,
+        Mode::One => false,
+        Mode::Two => true,
+    }
+}
+
+// Whether a step is drawn whose pattern bit is clear.
+pub(crate) fn has_ground(mode: Mode) -> bool
+    ensures { λ r. ⌜ r ≡ hasGround mode ⌝ }
+{
+    match mode {
+        Mode::Zero => true,
+        Mode::One => false,
+        Mode::Two => true,
     }
 }
 

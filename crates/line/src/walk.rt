@@ -3,13 +3,14 @@
 ghost use mathlib.Core.Path.{_≡_};
 ghost use Prim.Native.Nat.{_/_, _^_, _≤_};
 ghost use Rattle.line.specs.Segment.{firstOf};
-ghost use Rattle.line.specs.Walk.{Tells, Carries, Stands, nextOf};
+ghost use Rattle.line.specs.Walk.{Tells, Carries, Stands, doubled, twiceOf, nextOf};
 use crate::slope::Slope;
 use picture::Carried;
 use picture::Vertex;
 
-// What stays from step to step.
+// What stays from step to step: how many steps are gone at once, and what is carried over them.
 pub(crate) struct Walk {
+    pub(crate) stride: u64,
     pub(crate) side: Carried,
     pub(crate) i: Carried,
     pub(crate) z: Carried,
@@ -48,14 +49,19 @@ fn carried(n: u16, first: u16, second: u16) -> Carried
     Carried { first: start, add }
 }
 
-// The walk from a to b.
+// The walk from a to b, step by step.
 pub(crate) fn walk_of(a: Vertex, b: Vertex, s: Slope) -> Walk
     ensures { λ r. ⌜ Carries a b s r ⌝ }
 {
     let side = carried(s.n, 0, s.m);
     let i = carried(s.n, a.i, b.i);
     let z = carried(s.n, a.z, b.z);
-    Walk { side, i, z }
+    Walk {
+        stride: 1,
+        side,
+        i,
+        z,
+    }
 }
 
 // The number of what is carried.
@@ -65,16 +71,43 @@ pub(crate) fn whole(k: u64) -> u16
     (k >> 48) as u16
 }
 
-// A step on.
+// What is carried over twice as many steps.
+fn double(c: Carried) -> Carried
+    ensures { λ r. ⌜ r ≡ doubled c ⌝ }
+{
+    let add = std::num::wrapping_add_u64(c.add, c.add);
+    Carried {
+        first: c.first,
+        add,
+    }
+}
+
+// The same walk, twice as many steps at once.
+pub(crate) fn twice(w: Walk) -> Walk
+    requires { ⌜ w .stride ≤ 2 ⌝ }
+    ensures { λ r. ⌜ r ≡ twiceOf w ⌝ }
+{
+    let side = double(w.side);
+    let i = double(w.i);
+    let z = double(w.z);
+    Walk {
+        stride: w.stride + w.stride,
+        side,
+        i,
+        z,
+    }
+}
+
+// A stride on.
 pub(crate) fn next(w: Walk, p: Step) -> Step
-    requires { ⌜ p .k ≤ 65535 ⌝ }
+    requires { ⌜ (p .k ≤ 65535) × (w .stride ≤ 4) ⌝ }
     ensures { λ r. ⌜ r ≡ nextOf w p ⌝ }
 {
     let side = std::num::wrapping_add_u64(p.side, w.side.add);
     let i = std::num::wrapping_add_u64(p.i, w.i.add);
     let z = std::num::wrapping_add_u64(p.z, w.z.add);
     Step {
-        k: p.k + 1,
+        k: p.k + w.stride,
         side,
         i,
         z,
@@ -83,6 +116,7 @@ pub(crate) fn next(w: Walk, p: Step) -> Step
 
 // The first step that is drawn: a segment that is joined to the one before it leaves out step 0.
 pub(crate) fn begin(w: Walk, joined: bool) -> Step
+    requires { ⌜ w .stride ≡ 1 ⌝ }
     ensures { λ r. ⌜ Stands w r × (r .k ≡ firstOf joined) ⌝ }
 {
     let p = Step {

@@ -7,7 +7,7 @@ use Rattle.picture.proofs.Spans.{reached-i, reached-z}
 use Rattle.line.specs.declared.walk.Step.{Step}
 use Rattle.line.specs.Segment.{firstOf, stepOffers, segmentOffers}
 use Rattle.line.specs.Ink.{joinedIn}
-use Rattle.line.proofs.Loops.{first-low, Walked, walked-start, walked-on, walked-rows, walked-next, walked-end, before-first}
+use Rattle.line.proofs.Loops.{first-low, Walked, walked-start, walked-on, walked-rows, walked-step, walked-end, before-first}
 use borrow.Author.Needs.{needs}
 use Rattle.line.proofs.anywhere.drawn_anywhere.Statement.{statement}
 use Rattle.line.proofs.anywhere.drawn_anywhere.Tie as tie
@@ -59,7 +59,7 @@ loop-less : tie.Need-loop-less Inv-loop μ-loop
 loop-less c = omega (arith, ap (λ (p : Step). p .k) (c .next .ensures), c .before .before .before .before .before .before .before .before .if1 .taken)
 
 loop-again : tie.Need-loop-again Inv-loop μ-loop
-loop-again c = let d = c .before .before .before .before .before .put-step .ensures in walked-next (c .before .before .before .before .before .before .before .before .before .before .loop .inv) (omega (arith, c .before .before .before .before .before .before .before .before .if1 .taken)) (d .0) (d .1) (c .next .ensures)
+loop-again c = let d = c .before .before .before .before .before .put-step .ensures in walked-step (c .before .before .before .before .before .before .before .before .before .before .loop .inv) (omega (arith, c .before .before .before .before .before .before .before .before .if1 .taken)) (d .0) (d .1) (c .next .ensures)
 
 same-length : tie.Need-same-length Inv-loop μ-loop
 same-length c = reached-i (c .before .before .loop .inv .so-far)

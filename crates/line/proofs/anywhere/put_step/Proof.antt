@@ -8,17 +8,23 @@ use borrow.Author.Needs.{needs}
 use Rattle.line.proofs.anywhere.put_step.Statement.{statement}
 use Rattle.line.proofs.anywhere.put_step.Tie as tie
 
+is-deep-requires : tie.Need-is-deep-requires
+is-deep-requires c κs = search needs
+
+has-ground-requires : tie.Need-has-ground-requires
+has-ground-requires c κs = search needs
+
 ink-at-requires : tie.Need-ink-at-requires
-ink-at-requires c κs = search needs
+ink-at-requires c κs = (c .before .is-deep .ensures, c .has-ground .ensures)
 
 whole-requires : tie.Need-whole-requires
 whole-requires c κs = search needs
 
 pixel-of-requires : tie.Need-pixel-of-requires
-pixel-of-requires c κs = let h = c .before .before .before .before .before .pre .0 in (h .on, c .whole .ensures ∙ h .side)
+pixel-of-requires c κs = let h = c .before .before .before .before .before .before .before .pre .0 in (h .on, c .whole .ensures ∙ h .side)
 
 put-pixel-requires : tie.Need-put-pixel-requires
-put-pixel-requires c κs = c .before .before .before .before .before .before .before .before .pre .3
+put-pixel-requires c κs = c .before .before .before .before .before .before .before .before .before .before .pre .3
 
 same-length : tie.Need-same-length
 same-length c = search needs
@@ -27,14 +33,14 @@ same-length-2 : tie.Need-same-length-2
 same-length-2 c = search needs
 
 returns : tie.Need-returns
-returns c = let s = c .before .before .before .before .before .before .before .before .before .before .before .before .before in
+returns c = let s = c .before .before .before .before .before .before .before .before .before .before .before .before .before .before .before in
     let a = s .args in
     put-step (a .pen) (rowsOf (a .pen .frame) (length (a .im .now)) (length (a .zm .now))) _ (a .im .now) (a .zm .now)
     (inked-step (a .pen) _ (a .style) (a .a) (a .b) (a .s) (a .p) _ (a .kind) _ (s .pre .0) (c .before .before .before .before .before .before .before .pixel-of .ensures) (s .pre .1) (s .pre .2) (c .before .before .before .before .before .before .before .before .before .before .ink-at .ensures) (c .before .before .before .before .before .before .before .before .before .if1 .taken))
     (c .before .before .before .before .put-pixel .ensures)
 
 returns-2 : tie.Need-returns-2
-returns-2 c = let s = c .before .before .before .before in
+returns-2 c = let s = c .before .before .before .before .before .before in
     let a = s .args in
     no-step (a .pen) (a .im .now) (a .zm .now)
     (blank-step (a .pen) (rowsOf (a .pen .frame) (length (a .im .now)) (length (a .zm .now))) (a .style) (a .a) (a .b) (a .p) _ (s .pre .2) (c .before .ink-at .ensures) (c .if1 .left))
@@ -43,6 +49,8 @@ pub put-step-spec : {M : Type 1} → statement M
 put-step-spec =
     tie.close
     (tie.spec
+    is-deep-requires
+    has-ground-requires
     ink-at-requires
     whole-requires
     pixel-of-requires

@@ -1,92 +1,83 @@
--- `inside::drawn_inside` meets its contract. The invariant of its loop: the steps below that where the walk stands are drawn. The measure
--- is the steps that are left. Assumes nothing.
-use mathlib.Core.Path.{refl, ap, _∙_}
-use Prim.Native.Nat.{_+_, _-_}
-use native.Mathlib.Omega.{arith}
-use Rattle.picture.proofs.Spans.{reached-i, reached-z}
-use Rattle.line.specs.declared.walk.Step.{Step}
-use Rattle.line.specs.Segment.{firstOf, stepOffers, segmentOffers}
-use Rattle.line.specs.Ink.{joinedIn}
-use Rattle.line.proofs.Loops.{first-low, Walked, walked-start, walked-on, walked-rows, walked-next, walked-end, before-first}
+-- `inside::drawn_inside` meets its contract, by how pixels lie. Assumes nothing.
+use mathlib.Core.Path.{sym, ap, _∙_}
+use borrow.Author.Tests.{eq-eqb, ne-eqb}
+use Rattle.line.specs.Segment.{firstOf}
+use Rattle.line.proofs.Routes.{lies-rows, lies-tiles, lies-shares}
 use borrow.Author.Needs.{needs}
 use Rattle.line.proofs.inside.drawn_inside.Statement.{statement}
 use Rattle.line.proofs.inside.drawn_inside.Tie as tie
 
-abbrev Inv-loop : tie.InvT-loop
-Inv-loop pen style a b im₀ zm₀ s n w c p₀ passed₀ im zm p passed =
-    Walked pen (λ rows. stepOffers pen rows style (style .mode) a b) (firstOf (joinedIn style (style .mode))) a b s w n im₀ zm₀ im zm p passed
+route-of-requires : tie.Need-route-of-requires
+route-of-requires c κs = search needs
 
-abbrev μ-loop : tie.MeasureT-loop
-μ-loop pen style a b im₀ zm₀ s n w c p₀ passed₀ im zm p passed = n + 1 - p .k
-
-slope-of-requires : tie.Need-slope-of-requires Inv-loop μ-loop
-slope-of-requires c κs = search needs
-
-cast-n : tie.Need-cast-n Inv-loop μ-loop
-cast-n c = omega (arith, c .struct-known .given)
-
-walk-of-requires : tie.Need-walk-of-requires Inv-loop μ-loop
-walk-of-requires c κs = search needs
-
-course-of-requires : tie.Need-course-of-requires Inv-loop μ-loop
-course-of-requires c κs = search needs
-
-is-joined-requires : tie.Need-is-joined-requires Inv-loop μ-loop
+is-joined-requires : tie.Need-is-joined-requires
 is-joined-requires c κs = search needs
 
-begin-requires : tie.Need-begin-requires Inv-loop μ-loop
+begin-requires : tie.Need-begin-requires
 begin-requires c κs = search needs
 
-loop-holds : tie.Need-loop-holds Inv-loop μ-loop
-loop-holds c = let a = c .before .before .before .before .before .before .before .before .args in
-    walked-start (before-first (a .pen) _ (a .style) (a .a) (a .b) (a .style .mode)) (first-low (joinedIn (a .style) (a .style .mode))) (c .before .before .before .before .before .slope-of .ensures) refl
-    (omega (arith, c .before .before .before .before .struct-known .given)) (c .before .before .before .walk-of .ensures) (c .begin .ensures .0, c .begin .ensures .1 ∙ ap firstOf (c .before .is-joined .ensures))
+lies-plain-requires : tie.Need-lies-plain-requires
+lies-plain-requires c κs = search needs
 
-put-inside-requires : tie.Need-put-inside-requires Inv-loop μ-loop
-put-inside-requires c κs = let h = c .before .before .before .before .loop .inv in
-    let s = c .before .before .before .before .before .before .before .before .before .before .before .before .before in
-    (walked-on h (omega (arith, c .before .before .if1 .taken)), c .before .before .before .before .before .before .before .course-of .ensures, h .begun, rw (walked-rows h) (s .pre .0), s .pre .1)
+trace-rows-requires : tie.Need-trace-rows-requires
+trace-rows-requires c κs = let s = c .before .before .before .before .before .before .before .before .before .before in
+    let frame = s .args .pen .frame in
+    (c .before .before .before .before .before .before .route-of .ensures, (c .before .before .before .before .begin .ensures .0, c .before .before .before .before .begin .ensures .1 ∙ ap firstOf (c .before .before .before .before .before .is-joined .ensures)), s .pre .0, s .pre .1, lies-rows frame (sym (c .before .before .before .lies-plain .ensures) ∙ c .before .before .if1 .taken))
 
-add-passed : tie.Need-add-passed Inv-loop μ-loop
-add-passed c = let h = c .before .before .before .before .before .before .before .before .before .loop .inv in omega (arith, h .count, h .small, c .before .before .before .before .before .before .before .if1 .taken, c .before .before .before .before .put-inside .ensures .1)
+same-length : tie.Need-same-length
+same-length c = search needs
 
-next-requires : tie.Need-next-requires Inv-loop μ-loop
-next-requires c κs = omega (arith, c .before .before .before .before .before .before .before .before .before .loop .inv .small, c .before .before .before .before .before .before .before .if1 .taken)
+same-length-2 : tie.Need-same-length-2
+same-length-2 c = search needs
 
-loop-less : tie.Need-loop-less Inv-loop μ-loop
-loop-less c = omega (arith, ap (λ (p : Step). p .k) (c .next .ensures), c .before .before .before .before .before .before .before .before .if1 .taken)
+returns : tie.Need-returns
+returns c = search needs
 
-loop-again : tie.Need-loop-again Inv-loop μ-loop
-loop-again c = let d = c .before .before .before .before .before .put-inside .ensures in walked-next (c .before .before .before .before .before .before .before .before .before .before .loop .inv) (omega (arith, c .before .before .before .before .before .before .before .before .if1 .taken)) (d .0) (d .1) (c .next .ensures)
+trace-tiles-requires : tie.Need-trace-tiles-requires
+trace-tiles-requires c κs = let s = c .before .before .before .before .before .before .before .before .before .before .before .before in
+    let frame = s .args .pen .frame in
+    (c .before .before .before .before .before .before .before .before .route-of .ensures, (c .before .before .before .before .before .before .begin .ensures .0, c .before .before .before .before .before .before .begin .ensures .1 ∙ ap firstOf (c .before .before .before .before .before .before .before .is-joined .ensures)), s .pre .0, s .pre .1, lies-tiles frame (sym (c .before .before .before .before .before .lies-plain .ensures) ∙ c .before .before .before .before .if1 .left) (eq-eqb _ _ (c .before .before .if2 .taken)))
 
-same-length : tie.Need-same-length Inv-loop μ-loop
-same-length c = reached-i (c .before .before .loop .inv .so-far)
+same-length-3 : tie.Need-same-length-3
+same-length-3 c = search needs
 
-same-length-2 : tie.Need-same-length-2 Inv-loop μ-loop
-same-length-2 c = reached-z (c .before .before .loop .inv .so-far)
+same-length-4 : tie.Need-same-length-4
+same-length-4 c = search needs
 
-returns : tie.Need-returns Inv-loop μ-loop
-unfolding segmentOffers
-returns c = walked-end (c .before .before .loop .inv) (omega (arith, c .if1 .left))
+returns-2 : tie.Need-returns-2
+returns-2 c = search needs
+
+trace-shares-requires : tie.Need-trace-shares-requires
+trace-shares-requires c κs = let s = c .before .before .before .before .before .before .before .before .before .before .before .before in
+    let frame = s .args .pen .frame in
+    (c .before .before .before .before .before .before .before .before .route-of .ensures, (c .before .before .before .before .before .before .begin .ensures .0, c .before .before .before .before .before .before .begin .ensures .1 ∙ ap firstOf (c .before .before .before .before .before .before .before .is-joined .ensures)), s .pre .0, s .pre .1, lies-shares frame (sym (c .before .before .before .before .before .lies-plain .ensures) ∙ c .before .before .before .before .if1 .left) (ne-eqb _ _ (c .before .before .if2 .left)))
+
+same-length-5 : tie.Need-same-length-5
+same-length-5 c = search needs
+
+same-length-6 : tie.Need-same-length-6
+same-length-6 c = search needs
+
+returns-3 : tie.Need-returns-3
+returns-3 c = search needs
 
 pub drawn-inside-spec : {M : Type 1} → statement M
 drawn-inside-spec =
     tie.close
     (tie.spec
-    Inv-loop
-    μ-loop
-    slope-of-requires
-    cast-n
-    walk-of-requires
-    course-of-requires
+    route-of-requires
     is-joined-requires
     begin-requires
-    loop-holds
-    put-inside-requires
-    add-passed
-    next-requires
-    loop-less
-    loop-again
+    lies-plain-requires
+    trace-rows-requires
     same-length
     same-length-2
-    returns)
+    returns
+    trace-tiles-requires
+    same-length-3
+    same-length-4
+    returns-2
+    trace-shares-requires
+    same-length-5
+    same-length-6
+    returns-3)

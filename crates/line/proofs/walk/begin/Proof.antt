@@ -15,7 +15,7 @@ returns : tie.Need-returns
 unfolding firstOf
 returns c = let s = c .before .before in
     let w = s .args .w in
-    rw (c .next .ensures, c .before .if1 .taken) (stands-next w (startOf w) (begins w (omega (arith, s .good)) (omega (arith, s .good)) (omega (arith, s .good))), refl)
+    rw (c .next .ensures, c .before .if1 .taken) (stands-next w (startOf w) (s .pre) (begins w (omega (arith, s .good)) (omega (arith, s .good)) (omega (arith, s .good))), omega (arith, s .pre))
 
 returns-2 : tie.Need-returns-2
 unfolding firstOf
@@ -24,9 +24,4 @@ returns-2 c = let s = c .before in
     rw (c .if1 .left) (begins w (omega (arith, s .good)) (omega (arith, s .good)) (omega (arith, s .good)), refl)
 
 pub begin-spec : {M : Type 1} → statement M
-begin-spec =
-    tie.close
-    (tie.spec
-    next-requires
-    returns
-    returns-2)
+begin-spec = tie.close (tie.spec next-requires returns returns-2)

@@ -2,6 +2,7 @@
 use borrow.Author.Needs.{needs}
 use Rattle.line.proofs.walk.next.Statement.{statement}
 use Rattle.line.proofs.walk.next.Tie as tie
+use Rattle.std.proofs.num.wrapping_add_u64.Reads as wrapping-add-u64-reads
 
 wrapping-add-u64-requires : tie.Need-wrapping-add-u64-requires
 wrapping-add-u64-requires c κs = search needs
@@ -16,7 +17,7 @@ add-t6 : tie.Need-add-t6
 add-t6 c = search needs
 
 returns : tie.Need-returns
-returns c = rw (c .before .before .before .wrapping-add-u64 .ensures, c .before .before .wrapping-add-u642 .ensures, c .before .wrapping-add-u643 .ensures)
+returns c = rw (c .before .before .before .before .wrapping-add-u64 .ensures, c .before .before .before .wrapping-add-u642 .ensures, c .before .before .wrapping-add-u643 .ensures)
 
 pub next-spec : {M : Type 1} → statement M
 next-spec =

@@ -1,0 +1,82 @@
+-- `inside::trace` meets its contract. The invariant of its loop: the steps below that where the walk stands are drawn. The measure
+-- is the steps that are left. Assumes nothing.
+use mathlib.Core.Path.{_≡_, refl}
+use Prim.Native.Nat.{_+_, _-_, _≤_}
+use native.Mathlib.Omega.{arith}
+use lib.ListN.{length}
+use Rattle.picture.proofs.Spans.{reached-i, reached-z}
+use Rattle.line.specs.Segment.{firstOf, stepOffers, segmentOffers}
+use Rattle.line.specs.Ink.{joinedIn}
+use Rattle.line.proofs.Loops.{first-low, Walked, walked-start, walked-on, walked-rows, walked-next, walked-end, before-first}
+use Rattle.line.proofs.Routes.{goes-on}
+use Rattle.line.proofs.inside.trace.Statement.{statement}
+use Rattle.line.proofs.inside.trace.Tie as tie
+
+abbrev Inv-loop : tie.InvT-loop
+Inv-loop pen style deep ground lies r a b im₀ zm₀ n p₀ passed₀ im zm p passed =
+    Walked pen (λ rows. stepOffers pen rows style (style .mode) a b) (firstOf (joinedIn style (style .mode))) a b (r .slope) (r .near) n im₀ zm₀ im zm p passed
+
+abbrev μ-loop : tie.MeasureT-loop
+μ-loop pen style deep ground lies r a b im₀ zm₀ n p₀ passed₀ im zm p passed = n + 1 - p .k
+
+cast-n : tie.Need-cast-n Inv-loop μ-loop
+cast-n c = omega (arith, c .struct-known .given)
+
+loop-holds : tie.Need-loop-holds Inv-loop μ-loop
+loop-holds c = let s = c .before .before .before in
+    let a = s .args in
+    walked-start (before-first (a .pen) _ (a .style) (a .a) (a .b) (a .style .mode)) (first-low (joinedIn (a .style) (a .style .mode))) (s .pre .0 .route .sloped) refl
+    (omega (arith, c .struct-known .given)) (s .pre .0 .route .carries) (s .pre .1)
+
+put-inside-requires : tie.Need-put-inside-requires Inv-loop μ-loop
+put-inside-requires c κs = let h = c .before .before .before .before .loop .inv in
+    let s = c .before .before .before .before .before .before .before .before in
+    (rw (walked-rows h) (s .pre .0), walked-on h (omega (arith, c .before .before .if1 .taken)), h .begun)
+
+add-passed : tie.Need-add-passed Inv-loop μ-loop
+add-passed c = let h = c .before .before .before .before .before .before .before .before .before .loop .inv in omega (arith, h .count, h .small, c .before .before .before .before .before .before .before .if1 .taken, c .before .before .before .before .put-inside .ensures .1)
+
+onward-requires : tie.Need-onward-requires Inv-loop μ-loop
+onward-requires c κs = (c .before .before .before .before .before .before .before .before .before .before .before .before .before .pre .0 .route, walked-on (c .before .before .before .before .before .before .before .before .before .loop .inv) (omega (arith, c .before .before .before .before .before .before .before .if1 .taken)))
+
+loop-less : tie.Need-loop-less Inv-loop μ-loop
+loop-less c = let s = c .before .before .before .before .before .before .before .before .before .before .before .before .before .before in
+    let a = s .args in
+    let h = c .before .before .before .before .before .before .before .before .before .before .loop .inv in
+    let g = goes-on (a .pen) (length (a .im .now)) (length (a .zm .now)) (a .style) (a .deep) (a .ground) (a .lies) (a .r) (a .a) (a .b) (s .pre .0) (h .stands) (walked-on h (omega (arith, c .before .before .before .before .before .before .before .before .if1 .taken)) .on) (c .onward .ensures) in
+    omega (arith, g .further, c .before .before .before .before .before .before .before .before .if1 .taken)
+
+loop-again : tie.Need-loop-again Inv-loop μ-loop
+loop-again c = let s = c .before .before .before .before .before .before .before .before .before .before .before .before .before .before in
+    let a = s .args in
+    let h = c .before .before .before .before .before .before .before .before .before .before .loop .inv in
+    let d = c .before .before .before .before .before .put-inside .ensures in
+    let g = goes-on (a .pen) (length (a .im .now)) (length (a .zm .now)) (a .style) (a .deep) (a .ground) (a .lies) (a .r) (a .a) (a .b) (s .pre .0) (h .stands) (walked-on h (omega (arith, c .before .before .before .before .before .before .before .before .if1 .taken)) .on) (c .onward .ensures) in
+    walked-next h (omega (arith, c .before .before .before .before .before .before .before .before .if1 .taken)) (d .0) (d .1) (g .stands) (g .further) (λ k x y l. g .between k x y l)
+
+same-length : tie.Need-same-length Inv-loop μ-loop
+same-length c = reached-i (c .before .before .loop .inv .so-far)
+
+same-length-2 : tie.Need-same-length-2 Inv-loop μ-loop
+same-length-2 c = reached-z (c .before .before .loop .inv .so-far)
+
+returns : tie.Need-returns Inv-loop μ-loop
+unfolding segmentOffers
+returns c = walked-end (c .before .before .loop .inv) (omega (arith, c .if1 .left))
+
+pub trace-spec : {M : Type 1} → statement M
+trace-spec =
+    tie.close
+    (tie.spec
+    Inv-loop
+    μ-loop
+    cast-n
+    loop-holds
+    put-inside-requires
+    add-passed
+    onward-requires
+    loop-less
+    loop-again
+    same-length
+    same-length-2
+    returns)
