@@ -28,14 +28,14 @@ use Rattle.registers.specs.declared.Figure.{Figure}
 use Rattle.registers.specs.declared.Parked.{Parked}
 use Rattle.registers.specs.declared.Region.{Region}
 use Rattle.registers.specs.declared.Registers.{Registers}
-use Rattle.registers.specs.Lines.{chipsIn, unitIn, pageIn, codeIn, lineOf}
-use Rattle.registers.specs.Record.{noVertex, opened, awaiting, nothingAwaited, regionOf, noRegion, window, settings, resetAs, resetOf, initOf, withPmode, withLmode, withZcontrol, withHcontrol, withLstatus, withTransparency, withPlanes, withSection, withModes, withWindow, withDash, withLatch, withFigure, withParked, withRegion}
+use Rattle.registers.specs.Lines.{shortestLine, largestPage, chipsIn, unitIn, pageIn, codeIn, lineOf}
+use Rattle.registers.specs.Record.{noNumber, loadNumber, patternLength, noVertex, opened, awaiting, nothingAwaited, regionOf, noRegion, window, settings, resetAs, resetOf, initOf, withPmode, withLmode, withZcontrol, withHcontrol, withLstatus, withTransparency, withPlanes, withSection, withModes, withWindow, withDash, withLatch, withFigure, withParked, withRegion}
 use Rattle.registers.specs.Region.{toward, moved, nextPixel}
-use Rattle.registers.specs.Subcommand.{subcommands, subcommandOf, wants}
+use Rattle.registers.specs.Subcommand.{largestAux, subcommands, subcommandOf, wants}
 use Rattle.registers.specs.Figure.{shapeOf, vertexOf, isPair, advanced, grownOf, figureAfter}
 use Rattle.registers.specs.Next.{value, awaited, joinedOf, counted, effectOf, parmOf, coordinateOf, imgNumber, transferredOf, after}
-use Rattle.registers.specs.Allowed.{isCoordinate, isBorder, onlyBits, zcontrolBits, hcontrolBits, lstatusBits, initAllowed, parameterAllowed, coordinateAllowed, allowed}
-use Rattle.registers.specs.Bounds.{frameFits, modesFit, windowFits, vertexFits, figureFits, eachCame, parkedFits, regionFits, inBounds}
+use Rattle.registers.specs.Allowed.{isCoordinate, isBorder, initAllowed, parameterAllowed, coordinateAllowed, allowed}
+use Rattle.registers.specs.Bounds.{largestLayout, frameFits, modesFit, windowFits, vertexFits, figureFits, eachCame, parkedFits, regionFits, inBounds}
 use Rattle.registers.specs.Refusal.{isUnmodelled, isAbove, table, lowest, isUnfit, refusalOf, next, readRefusalOf}
 use Rattle.registers.proofs.Truth.{and-both, All, chain-all, all-chain, chosen}
 use Rattle.registers.proofs.Table.{everywhere}
@@ -45,6 +45,7 @@ use Rattle.registers.proofs.Refusals.{Accepted, accepted-when, given-2,
 
 -- ---- the bounds, part by part
 
+-- each part breaks no bound
 pub record Sound (r : Registers) : Type 0 where
   pub started : leb (r .started) 1 ≡ true
   pub frame : frameFits (r .frame) ≡ true
@@ -80,12 +81,12 @@ module _ (r : Registers) where
   unfolding inBounds
   whole s = all-chain (leb (r .started) 1) tests (s .started, (s .frame, (s .modes, (s .window, (s .y, (s .figure, (s .parked, (s .region, tt))))))))
 
--- a part is replaced
+-- a part is replaced by one that breaks no bound
 module _ {r : Registers} (s : Sound r) where
   sound-modes : (m : Modes) → modesFit m ≡ true → Sound (withModes r m)
   sound-modes m h = record { started = s .started; frame = s .frame; modes = h; window = s .window; y = s .y; figure = s .figure; parked = s .parked; region = s .region }
 
-  sound-window : (w : Window) → windowFits w ≡ true → Sound (withWindow r w)
+  pub sound-window : (w : Window) → windowFits w ≡ true → Sound (withWindow r w)
   sound-window w h = record { started = s .started; frame = s .frame; modes = s .modes; window = h; y = s .y; figure = s .figure; parked = s .parked; region = s .region }
 
   sound-dash : (d : Dash) → Sound (withDash r d)
@@ -106,30 +107,30 @@ module _ {r : Registers} (s : Sound r) where
 -- ---- the modes, one of them replaced
 
 abbrev rest : Modes → List Bool
-rest m = leb (m .lmode) 2 ∷ onlyBits zcontrolBits (m .zcontrol) ∷ onlyBits hcontrolBits (m .hcontrol) ∷ onlyBits lstatusBits (m .lstatus) ∷ []
+rest m = parameterAllowed Lmode 0 (m .lmode) ∷ parameterAllowed Zcontrol 0 (m .zcontrol) ∷ parameterAllowed Hcontrol 0 (m .hcontrol) ∷ parameterAllowed Lstatus 0 (m .lstatus) ∷ []
 
-modes-fit : (m : Modes) → All (leb (m .pmode) 1 ∷ rest m) → modesFit m ≡ true
+modes-fit : (m : Modes) → All (parameterAllowed Pmode 0 (m .pmode) ∷ rest m) → modesFit m ≡ true
 unfolding modesFit
-modes-fit m = all-chain (leb (m .pmode) 1) (rest m)
+modes-fit m = all-chain (parameterAllowed Pmode 0 (m .pmode)) (rest m)
 
 module _ (m : Modes) (h : modesFit m ≡ true) where
-  each : All (leb (m .pmode) 1 ∷ rest m)
+  each : All (parameterAllowed Pmode 0 (m .pmode) ∷ rest m)
   unfolding modesFit
-  each = chain-all (leb (m .pmode) 1) (rest m) h
+  each = chain-all (parameterAllowed Pmode 0 (m .pmode)) (rest m) h
 
-  pmode-fits : (v : ℕ) → leb v 1 ≡ true → modesFit (withPmode m v) ≡ true
+  pmode-fits : (v : ℕ) → parameterAllowed Pmode 0 v ≡ true → modesFit (withPmode m v) ≡ true
   pmode-fits v e = modes-fit (withPmode m v) (e, each .1)
 
-  lmode-fits : (v : ℕ) → leb v 2 ≡ true → modesFit (withLmode m v) ≡ true
+  lmode-fits : (v : ℕ) → parameterAllowed Lmode 0 v ≡ true → modesFit (withLmode m v) ≡ true
   lmode-fits v e = modes-fit (withLmode m v) (each .0, (e, each .1 .1))
 
-  zcontrol-fits : (v : ℕ) → onlyBits zcontrolBits v ≡ true → modesFit (withZcontrol m v) ≡ true
+  zcontrol-fits : (v : ℕ) → parameterAllowed Zcontrol 0 v ≡ true → modesFit (withZcontrol m v) ≡ true
   zcontrol-fits v e = modes-fit (withZcontrol m v) (each .0, (each .1 .0, (e, each .1 .1 .1)))
 
-  hcontrol-fits : (v : ℕ) → onlyBits hcontrolBits v ≡ true → modesFit (withHcontrol m v) ≡ true
+  hcontrol-fits : (v : ℕ) → parameterAllowed Hcontrol 0 v ≡ true → modesFit (withHcontrol m v) ≡ true
   hcontrol-fits v e = modes-fit (withHcontrol m v) (each .0, (each .1 .0, (each .1 .1 .0, (e, each .1 .1 .1 .1))))
 
-  lstatus-fits : (v : ℕ) → onlyBits lstatusBits v ≡ true → modesFit (withLstatus m v) ≡ true
+  lstatus-fits : (v : ℕ) → parameterAllowed Lstatus 0 v ≡ true → modesFit (withLstatus m v) ≡ true
   lstatus-fits v e = modes-fit (withLstatus m v) (each .0, (each .1 .0, (each .1 .1 .0, (each .1 .1 .1 .0, (e, tt)))))
 
   -- the three that any number may be
@@ -197,12 +198,12 @@ effect-sound r Save l h a = sound-region h _ (corners-fit 2 _ _ _ _ refl (a 0 (o
 -- ---- what is awaited
 
 -- AUX up to 12 has a subcommand with parameters just where it is modelled
-pub aux-takes : (n : ℕ) → isAbove (Aux n) ≡ false → ltb 0 (wants (subcommandOf n)) ≡ not (isUnmodelled (Aux n))
+aux-takes : (n : ℕ) → isAbove (Aux n) ≡ false → ltb 0 (wants (subcommandOf n)) ≡ not (isUnmodelled (Aux n))
 unfolding subcommandOf
 aux-takes =
     everywhere (λ n s. isAbove (Aux n) ≡ false → ltb 0 (wants s) ≡ not (isUnmodelled (Aux n))) Nothing subcommands
     (same, (same, (same, (same, (same, (same, (same, (same, (same, (same, (same, (same, (same, (never, (never, (never, tt))))))))))))))))
-    (λ n h a. absurd (omega (arith, h, ltb-false 12 n a)))
+    (λ n h a. absurd (omega (arith, h, ltb-false largestAux n a)))
   where
     same : {a b : Bool} → a ≡ false → b ≡ b
     same e = refl
@@ -211,13 +212,13 @@ aux-takes =
     never e = absurd (true≢false e)
 
 -- no parameter has come
-awaiting-fits : (n : ℕ) → eqb n 13 || ltb 0 (wants (subcommandOf n)) ≡ true → parkedFits (awaiting n) ≡ true
+awaiting-fits : (n : ℕ) → eqb n noNumber || ltb 0 (wants (subcommandOf n)) ≡ true → parkedFits (awaiting n) ≡ true
 unfolding parkedFits
 awaiting-fits n e = and-both (and-both e (leb·zero (wants (subcommandOf n) - 1))) refl
 
 nothing-fits : parkedFits nothingAwaited ≡ true
 unfolding subcommandOf
-nothing-fits = awaiting-fits 13 refl
+nothing-fits = awaiting-fits noNumber refl
 
 aux-fits : (n : ℕ) → isUnmodelled (Aux n) ≡ false → isAbove (Aux n) ≡ false → parkedFits (awaiting n) ≡ true
 aux-fits n m a =
@@ -229,9 +230,9 @@ img-fits : (d : ℕ) → parkedFits (awaiting (imgNumber d)) ≡ true
 unfolding subcommandOf
 img-fits d = go (d % 2) (omega arith)
   where
-    go : (k : ℕ) → k < 2 → parkedFits (awaiting (14 + k)) ≡ true
-    go zero h = awaiting-fits 14 refl
-    go (suc zero) h = awaiting-fits 15 refl
+    go : (k : ℕ) → k < 2 → parkedFits (awaiting (loadNumber + k)) ≡ true
+    go zero h = awaiting-fits loadNumber refl
+    go (suc zero) h = awaiting-fits (loadNumber + 1) refl
     go (suc (suc k)) h = absurd (omega (arith, h))
 
 -- one more has come
@@ -239,9 +240,9 @@ module _ (p : Parked) (h : parkedFits p ≡ true) (v : ℕ) (a : parameterAllowe
   abbrev kind : Subcommand
   kind = subcommandOf (p .subcommand)
 
-  each-parked : All ((eqb (p .subcommand) 13 || ltb 0 (wants kind)) ∷ leb (p .came) (wants kind - 1) ∷ eachCame (parameterAllowed kind) (p .values) (p .came) ∷ [])
+  each-parked : All ((eqb (p .subcommand) noNumber || ltb 0 (wants kind)) ∷ leb (p .came) (wants kind - 1) ∷ eachCame (parameterAllowed kind) (p .values) (p .came) ∷ [])
   unfolding parkedFits
-  each-parked = chain-all (eqb (p .subcommand) 13 || ltb 0 (wants kind)) (_ ∷ _ ∷ []) h
+  each-parked = chain-all (eqb (p .subcommand) noNumber || ltb 0 (wants kind)) (_ ∷ _ ∷ []) h
 
   joined-came : eachCame (parameterAllowed kind) (set (p .values) (p .came) v) (p .came + 1) ≡ true
   joined-came = came-more (parameterAllowed kind) (p .values) (p .came) v (zero-allowed kind (p .came)) a (each-parked .1 .1 .0)
@@ -281,15 +282,15 @@ open-fits shape v s h = two-fit shape 0 v noVertex s refl h no-vertex
 pub vertices : (f : Figure) → figureFits f ≡ true → (vertexFits (f .first) ≡ true) × (vertexFits (f .second) ≡ true)
 unfolding figureFits
 vertices f h =
-    let q = chain-all (leb (f .shape) 3) (leb (f .pair) 1 ∷ vertexFits (f .first) ∷ vertexFits (f .second) ∷ leb (f .steps) 31 ∷ leb (f .dashed) 1 ∷ []) h in
+    let q = chain-all (leb (f .shape) 3) (leb (f .pair) 1 ∷ vertexFits (f .first) ∷ vertexFits (f .second) ∷ ltb (f .steps) patternLength ∷ leb (f .dashed) 1 ∷ []) h in
     (q .1 .1 .0, q .1 .1 .1 .0)
 
 -- a line after a segment: its steps are counted modulo 32
 advanced-fits : (dashed : Bool) (f : Figure) (v : Vertex) → vertexFits v ≡ true → figureFits (advanced dashed f v) ≡ true
 unfolding figureFits
 advanced-fits dashed f v h =
-    let low : advanced dashed f v .steps ≤ 31 = omega arith in
-    and-both (and-both (and-both (and-both (and-both refl refl) h) no-vertex) (le-leb _ _ low)) (chosen (λ (n : ℕ). leb n 1 ≡ true) dashed 1 0 (λ t. refl) (λ t. refl))
+    let low : advanced dashed f v .steps < patternLength = omega arith in
+    and-both (and-both (and-both (and-both (and-both refl refl) h) no-vertex) (lt-ltb _ _ low)) (chosen (λ (n : ℕ). leb n 1 ≡ true) dashed 1 0 (λ t. refl) (λ t. refl))
 
 grown-fits : (shape : Shape) (end dashed : Bool) (f : Figure) (v : Vertex) → figureFits f ≡ true → vertexFits v ≡ true → figureFits (grownOf shape end dashed f v) ≡ true
 unfolding grownOf
@@ -362,15 +363,16 @@ settings-sound started frame s f = record { started = s; frame = f; modes = refl
 init-sound : (r : Registers) → Sound r → (d : ℕ) → initAllowed d ≡ true → Sound (initOf r d)
 unfolding initAllowed
 init-sound r s d a =
-    let q = chain-all (eqb (chipsIn d) 0) (eqb (unitIn d) 0 ∷ leb (pageIn d) 7 ∷ not (eqb (lineOf (codeIn d)) 0) ∷ []) a in
+    let q = chain-all (eqb (chipsIn d) 0) (eqb (unitIn d) 0 ∷ leb (pageIn d) largestPage ∷ not (eqb (lineOf (codeIn d)) 0) ∷ []) a in
     settings-sound 1 (frameOf (lineOf (codeIn d)) (r .frame .layout)) refl
     (frame-laid (lineOf (codeIn d)) (r .frame) (line-fits (codeIn d) (omega arith) (eqb-false _ _ (not-true _ (q .1 .1 .1 .0)))) (s .frame))
 
 -- the record after reset breaks no bound, in any layout
-pub reset-kept-as : (layout : ℕ) → layout ≤ 7 → inBounds (resetAs layout) ≡ true
+pub reset-kept-as : (layout : ℕ) → layout ≤ largestLayout → inBounds (resetAs layout) ≡ true
 unfolding frameFits
-reset-kept-as layout h = whole (resetAs layout) (settings-sound 0 (frameOf 256 layout) refl (le-leb layout 7 h))
+reset-kept-as layout h = whole (resetAs layout) (settings-sound 0 (frameOf shortestLine layout) refl (le-leb layout largestLayout h))
 
+-- nor does it with rows one after the other
 pub reset-kept : inBounds resetOf ≡ true
 reset-kept = reset-kept-as 0 (omega arith)
 

@@ -7,6 +7,7 @@ ghost use Rattle.registers.specs.Bounds.{frameFits, modesFit, windowFits
 use crate::Figure;
 use crate::Modes;
 use crate::NOTHING;
+use crate::PATTERN_LENGTH;
 use crate::Parked;
 use crate::Region;
 use crate::Registers;
@@ -15,6 +16,9 @@ use crate::allow::HCONTROL_BITS;
 use crate::allow::LSTATUS_BITS;
 use crate::allow::ZCONTROL_BITS;
 use crate::allow::is_parameter_allowed;
+use crate::lines::LINE_UNIT;
+use crate::lines::LONGEST_LINE;
+use crate::lines::SHORTEST_LINE;
 use crate::subcommand::Subcommand;
 use crate::subcommand::subcommand_of;
 use crate::subcommand::wanted;
@@ -23,10 +27,16 @@ use picture::Vertex;
 use picture::limits::LARGEST_BORDER;
 use picture::limits::LARGEST_COORDINATE;
 
+// The largest layout: that of the last unit of a board of four.
+const LARGEST_LAYOUT: u16 = 7;
+
 fn frame_fits(f: Frame) -> bool
     ensures { λ r. ⌜ r ≡ frameFits f ⌝ }
 {
-    (256 <= f.line) & (f.line <= 8768) & (f.line % 64 == 0) & (f.layout <= 7)
+    (SHORTEST_LINE <= f.line)
+        & (f.line <= LONGEST_LINE)
+        & (f.line % LINE_UNIT == 0)
+        & (f.layout <= LARGEST_LAYOUT)
 }
 
 fn modes_fit(m: Modes) -> bool
@@ -63,7 +73,7 @@ fn figure_fits(f: Figure) -> bool
         & (f.pair <= 1)
         & vertex_fits(first)
         & vertex_fits(second)
-        & (f.steps <= 31)
+        & (f.steps < PATTERN_LENGTH)
         & (f.dashed <= 1)
 }
 
