@@ -37,6 +37,7 @@ use Rattle.former.specs.Former.{formerCoordinate, formerWindow, wasCoord
 
 -- ---- a record, part by part
 
+-- each part lies within the former limits
 pub record Inside (r : Registers) : Type 0 where
   pub window : wasWindow (r .window) ≡ true
   pub y : wasCoordinate (r .latch .y) ≡ true
@@ -49,12 +50,14 @@ module _ (r : Registers) where
   abbrev tests : List Bool
   tests = wasCoordinate (r .latch .y) ∷ wasVertex (r .figure .first) ∷ wasVertex (r .figure .second) ∷ wasParked (r .parked) ∷ wasRegion (r .region) ∷ []
 
+  -- a record within them has each part there
   pub inside-parts : wasRecord r ≡ true → Inside r
   unfolding wasRecord
   inside-parts e =
       let q = chain-all (wasWindow (r .window)) tests e in
       record { window = q .0; y = q .1 .0; first = q .1 .1 .0; second = q .1 .1 .1 .0; parked = q .1 .1 .1 .1 .0; region = q .1 .1 .1 .1 .1 .0 }
 
+  -- and a record of parts within them lies there
   pub inside-whole : Inside r → wasRecord r ≡ true
   unfolding wasRecord
   inside-whole s = all-chain (wasWindow (r .window)) tests (s .window, (s .y, (s .first, (s .second, (s .parked, (s .region, tt))))))
@@ -186,6 +189,7 @@ toward-was a b h k =
 abbrev region-tests : Region → List Bool
 region-tests g = wasCoordinate (g .x1) ∷ wasCoordinate (g .y1) ∷ wasCoordinate (g .x) ∷ wasCoordinate (g .y) ∷ []
 
+-- a region within them, number by number
 pub region-each : (g : Region) → wasRegion g ≡ true → All (wasCoordinate (g .x0) ∷ region-tests g)
 unfolding wasRegion
 region-each g = chain-all (wasCoordinate (g .x0)) (region-tests g)
@@ -212,6 +216,7 @@ first-in : (started : ℕ) (frame : Frame) → Inside (withWindow (settings star
 unfolding settings wasWindow wasVertex wasRegion
 first-in started frame = record { window = refl; y = refl; first = refl; second = refl; parked = refl; region = refl }
 
+-- so the record after reset lies within them
 pub reset-in : Inside (withWindow resetOf formerWindow)
 reset-in = first-in 0 _
 

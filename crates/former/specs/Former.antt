@@ -104,6 +104,7 @@ wasParked p = eachCame (λ k v. wasValue (subcommandOf (p .subcommand)) v) (p .v
 unfoldable pub wasRegion : Region → Bool
 wasRegion g = wasCoordinate (g .x0) && wasCoordinate (g .x1) && wasCoordinate (g .y1) && wasCoordinate (g .x) && wasCoordinate (g .y)
 
+-- and all of it
 unfoldable pub wasRecord : Registers → Bool
 wasRecord r =
     wasWindow (r .window)
