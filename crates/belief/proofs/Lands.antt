@@ -24,7 +24,7 @@ use Rattle.registers.specs.declared.Registers.{Registers}
 use Rattle.registers.specs.declared.shape.Completed.{Completed}
 use Rattle.registers.specs.declared.shape.Completed.the-variants.{Nothing, Triangle, Segment}
 use Rattle.registers.specs.Next.{penOf}
-use Rattle.registers.proofs.Forms.{AllVertices}
+use Rattle.registers.proofs.Completing.{AllVertices}
 use Rattle.chip.specs.Chip.{modeOf, isConstant, styleOf, wholeOffers, figureOffers}
 use Rattle.chip.proofs.Figures.{offers-held}
 use Rattle.belief.specs.Belief.{isAllOn, isSupposed}

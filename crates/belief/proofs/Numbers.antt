@@ -1,12 +1,11 @@
 -- The I and Z numbers that figures have: of 16 bits, as the words that brought them. The registers and the vertices that a figure keeps take
 -- them from words alone. Assumes nothing.
-use mathlib.Core.Path.{_≡_, refl, sym, subst}
+use mathlib.Core.Path.{_≡_, sym, subst}
 use mathlib.Core.Logic.{⊎-elim}
 use mathlib.Core.Bool.{Bool}
 use mathlib.Core.List.{List, [], _∷_, map, List·Memᴰ, List·Memᴰ·cases-cons, List·Memᴰ·not-nil}
-use Prim.Native.Nat.{ℕ, _+_, _/_, _%_, _≤_, zero-le}
+use Prim.Native.Nat.{ℕ, _/_, _%_, _≤_, zero-le}
 use native.Mathlib.Omega.{arith}
-use lib.Dec.{ltb}
 use Rattle.picture.specs.declared.Frame.{Frame}
 use Rattle.picture.specs.declared.Vertex.{Vertex}
 use Rattle.picture.specs.Place.{frameOf}
@@ -18,20 +17,18 @@ use Rattle.registers.specs.declared.word.Word.{Word}
 use Rattle.registers.specs.declared.word.Word.the-variants.{Init, Aux, Parm, At, Img, Ptrn, Reserved, Unmodelled, Unknown}
 use Rattle.registers.specs.declared.word.Coordinate.{Coordinate}
 use Rattle.registers.specs.declared.word.Coordinate.the-variants.{I, Z, Y, X, T1x, T2x, Lx, Px}
-use Rattle.registers.specs.declared.subcommand.Subcommand.{Subcommand}
-use Rattle.registers.specs.declared.subcommand.Subcommand.the-variants.{Nothing, Pmode, Lmode, Zcontrol, Hcontrol, Tpattern, Window, Section, Color, Lpattern, Mask, Lstatus, Imode, Load, Save}
 use Rattle.registers.specs.declared.shape.Shape.{Shape}
 use Rattle.registers.specs.declared.shape.Shape.the-variants.{Closed, Strip, Fan, Line}
 use Rattle.registers.specs.Lines.{codeIn, lineOf}
 use Rattle.registers.specs.Record.{noVertex, settings, resetAs}
-use Rattle.registers.specs.Subcommand.{wants}
 use Rattle.registers.specs.Word.{commands, decode, wordOf}
 use Rattle.registers.specs.Figure.{shapeOf, vertexOf, isPair, grownOf, figureAfter}
-use Rattle.registers.specs.Next.{awaited, effectOf, parmOf, coordinateOf, after, completedBy}
+use Rattle.registers.specs.Next.{parmOf, coordinateOf, after, completedBy}
 use Rattle.registers.specs.Refusal.{refusalOf}
 use Rattle.registers.proofs.Truth.{chosen}
 use Rattle.registers.proofs.Table.{everywhere}
-use Rattle.registers.proofs.Forms.{effect-figure, AllVertices, completed-has}
+use Rattle.registers.proofs.Effects.{parm-leaves}
+use Rattle.registers.proofs.Completing.{AllVertices, completed-has}
 
 -- ---- words
 
@@ -84,25 +81,6 @@ settings-small started frame = record { i = zero-le; z = zero-le; figure = recor
 pub reset-small : (layout : ℕ) → Small (resetAs layout)
 reset-small layout = settings-small 0 (frameOf 256 layout)
 
--- parameters leave the I and Z registers
-effect-latch : (r : Registers) (s : Subcommand) (l : List ℕ) → effectOf r s l .latch ≡ r .latch
-unfolding effectOf
-effect-latch r Nothing l = refl
-effect-latch r Pmode l = refl
-effect-latch r Lmode l = refl
-effect-latch r Zcontrol l = refl
-effect-latch r Hcontrol l = refl
-effect-latch r Tpattern l = refl
-effect-latch r Window l = refl
-effect-latch r Section l = refl
-effect-latch r Color l = refl
-effect-latch r Lpattern l = refl
-effect-latch r Mask l = refl
-effect-latch r Lstatus l = refl
-effect-latch r Imode l = refl
-effect-latch r Load l = refl
-effect-latch r Save l = refl
-
 grown-kept : (shape : Shape) (end dashed : Bool) (f : Figure) (v : Vertex) → Kept f → Numbers 65535 v → Kept (grownOf shape end dashed f v)
 unfolding grownOf
 grown-kept Closed end dashed f v k n = k
@@ -130,17 +108,13 @@ module _ (r : Registers) (s : Small r) where
   coordinate-small Px n h = record { i = s .i; z = s .z; figure = grown-small n }
 
   parm-small : (v : ℕ) → Small (parmOf r v)
-  unfolding parmOf
   parm-small v =
-      chosen Small (ltb (r .parked .came + 1) (wants (awaited r))) _ _
-      (λ t. record { i = s .i; z = s .z; figure = s .figure })
-      (λ t.
-      let same = sym (effect-latch r (awaited r) _) in
+      let k = parm-leaves r v in
       record {
-        i = subst (λ (l : Latch). l .i ≤ 65535) same (s .i);
-        z = subst (λ (l : Latch). l .z ≤ 65535) same (s .z);
-        figure = subst Kept (sym (effect-figure r (awaited r) _)) (s .figure);
-      })
+        i = subst (λ (l : Latch). l .i ≤ 65535) (sym (k .latch)) (s .i);
+        z = subst (λ (l : Latch). l .z ≤ 65535) (sym (k .latch)) (s .z);
+        figure = subst Kept (sym (k .figure)) (s .figure);
+      }
 
   -- words keep it so
   pub after-small : (w : Word) → Narrow w → Small (after r w)

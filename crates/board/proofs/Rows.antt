@@ -12,6 +12,7 @@ use Rattle.picture.specs.Limits.{mostRows}
 use Rattle.picture.specs.Place.{frameOf, plainFrame, layoutOf, isWhole, rowsIn, rowsOf}
 use Rattle.registers.specs.declared.Registers.{Registers}
 use Rattle.registers.specs.declared.word.Word.{Word}
+use Rattle.registers.specs.Lines.{lineUnit}
 use Rattle.machine.specs.Machine.{Memories}
 use Rattle.chip.specs.Units.{Ways, SameRows, Units}
 use Rattle.board.specs.Request.{RowsAgree}
@@ -30,7 +31,7 @@ either true x = refl
 either false x = refl
 
 -- of two units
-rows-two : (line n : ℕ) → line % 64 ≡ 0 → rowsOf (frameOf line 2) n n ≡ rowsOf (plainFrame line) (n * 2) (n * 2)
+rows-two : (line n : ℕ) → line % lineUnit ≡ 0 → rowsOf (frameOf line 2) n n ≡ rowsOf (plainFrame line) (n * 2) (n * 2)
 unfolding rowsOf isWhole rowsIn layoutOf
 rows-two line n h =
     let even : line % 2 ≡ 0 = omega arith in
@@ -38,7 +39,7 @@ rows-two line n h =
     rw (eq-eqb (line % 2) 0 even, same-min n, same-min (n * 2), parted 2 line n (omega arith) whole) (either (eqb line 0) (min (n * 2 / line) mostRows))
 
 -- of four
-rows-four : (line n : ℕ) → line % 64 ≡ 0 → rowsOf (frameOf line 4) n n ≡ rowsOf (plainFrame line) (n * 4) (n * 4)
+rows-four : (line n : ℕ) → line % lineUnit ≡ 0 → rowsOf (frameOf line 4) n n ≡ rowsOf (plainFrame line) (n * 4) (n * 4)
 unfolding rowsOf isWhole rowsIn layoutOf
 rows-four line n h =
     let even : line % 4 ≡ 0 = omega arith in
@@ -46,7 +47,7 @@ rows-four line n h =
     rw (eq-eqb (line % 4) 0 even, same-min n, same-min (n * 4), parted 4 line n (omega arith) whole) (either (eqb line 0) (min (n * 4 / line) mostRows))
 
 -- whatever the line length is that a record may have
-pub rows-natural : (units n : ℕ) → Ways units → (r : Registers) → r .frame .line % 64 ≡ 0 → SameRows units n (n * units) r
+pub rows-natural : (units n : ℕ) → Ways units → (r : Registers) → r .frame .line % lineUnit ≡ 0 → SameRows units n (n * units) r
 rows-natural units n (inl e) r h =
     let once : n ≡ n * 1 = omega arith in
     subst (λ (k : ℕ). SameRows k n (n * k) r) (sym e) (ap (λ (k : ℕ). rowsOf (plainFrame (r .frame .line)) k k) once)

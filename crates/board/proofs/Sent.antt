@@ -10,6 +10,7 @@ use borrow.Author.Tests.{eqb-true, ne-eqb}
 use Rattle.registers.specs.declared.word.Word.{Word}
 use Rattle.registers.specs.declared.word.Word.the-variants.{Unmodelled, Unknown}
 use Rattle.registers.specs.Word.{commands, decode}
+use Rattle.registers.specs.Bounds.{largestLayout}
 use Rattle.registers.proofs.Table.{everywhere}
 use Rattle.chip.specs.Units.{Ways, unitLayout}
 use Rattle.board.specs.Door.{isBoard, isSeveral, soloCode, soloWord, isTransfer, unitWord, commandOf, dataOf}
@@ -96,7 +97,7 @@ ways-some units (inr (inl e)) = omega arith
 ways-some units (inr (inr e)) = omega arith
 
 -- and the first unit's layout is one of eight
-pub first-layout : (units : ℕ) → Ways units → unitLayout units 0 ≤ 7
+pub first-layout : (units : ℕ) → Ways units → unitLayout units 0 ≤ largestLayout
 first-layout units (inl e) = rw e (omega arith)
 first-layout units (inr (inl e)) = rw e (omega arith)
 first-layout units (inr (inr e)) = rw e (omega arith)

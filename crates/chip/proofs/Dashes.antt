@@ -6,7 +6,7 @@ use mathlib.Core.Bool.{Bool, true, false, cond, not, false≢true}
 use mathlib.Core.List.{List, [], _∷_, _++_}
 use Prim.Native.Nat.{ℕ, zero, suc, _+_, _≤_}
 use native.Mathlib.Omega.{arith}
-use lib.Dec.{leb, ltb, eqb}
+use lib.Dec.{leb, eqb}
 use borrow.Author.Tests.{eq-eqb, ne-eqb, leb-true, not-true}
 use Rattle.picture.specs.Place.{rowsOf}
 use Rattle.picture.specs.Offer.{Offer}
@@ -22,17 +22,17 @@ use Rattle.registers.specs.declared.word.Word.the-variants.{Init, Aux, Parm, At
 use Rattle.registers.specs.declared.word.Coordinate.{Coordinate}
 use Rattle.registers.specs.declared.word.Coordinate.the-variants.{I, Z, Y, X, T1x, T2x, Lx, Px}
 use Rattle.registers.specs.declared.shape.Shape.{Shape}
-use Rattle.registers.specs.declared.shape.Shape.the-variants.{Closed, Line}
+use Rattle.registers.specs.declared.shape.Shape.the-variants.{Closed}
 use Rattle.registers.specs.declared.shape.Completed.the-variants.{Nothing, Segment}
 use Rattle.registers.specs.Record.{isOn, invBit, endBit}
 use Rattle.registers.specs.Figure.{shapeOf, vertexOf, isDashed, advanced, grownOf, completes, figureAfter, vertexCompletes}
-use Rattle.registers.specs.Next.{awaited, parmOf, coordinateOf, coordinateCompletes, after, completedBy, penOf}
+use Rattle.registers.specs.Next.{coordinateOf, coordinateCompletes, after, completedBy, penOf}
 use Rattle.registers.specs.Allowed.{xFits, pxFits, fits}
-use Rattle.registers.specs.Subcommand.{wants}
 use Rattle.registers.specs.Refusal.{refusalOf}
-use Rattle.registers.proofs.Truth.{both, chosen}
+use Rattle.registers.proofs.Truth.{both}
 use Rattle.registers.proofs.Refusals.{accepted-when}
-use Rattle.registers.proofs.Forms.{effect-figure, end-closes}
+use Rattle.registers.proofs.Effects.{parm-leaves}
+use Rattle.registers.proofs.Begun.{end-closes}
 use Rattle.machine.specs.Offers.{nextIn, eachIn}
 use Rattle.machine.proofs.Runs.{zero-or-not}
 use Rattle.machine.proofs.Offers.{next-accepted, offers-accepted, next-refused, offers-refused}
@@ -90,12 +90,6 @@ module _ (r : Registers) where
   px-unclosed : (shape : Shape) → pxFits shape (r .modes .lmode) ≡ true → shape ≢ Closed
   px-unclosed shape f c = false≢true (rw c at f)
 
-  -- parameters leave the figure
-  parm-figure : (v : ℕ) → parmOf r v .figure ≡ r .figure
-  unfolding parmOf
-  parm-figure v =
-      chosen (λ (s : Registers). s .figure ≡ r .figure) (ltb (r .parked .came + 1) (wants (awaited r))) _ _ (λ t. refl) (λ t. effect-figure r (awaited r) _)
-
   coordinate-either : (c : Coordinate) (n : ℕ) → coordinateDashes r c ≡ true → fits r (At c n) ≡ true → Still (At c n) ⊎ Ends (At c n)
   unfolding after completedBy coordinateOf coordinateCompletes
   coordinate-either I n t f = inl (record { figure = refl; completed = refl })
@@ -112,7 +106,7 @@ module _ (r : Registers) where
   unfolding after completedBy
   word-either (Init d) t f = absurd (false≢true t)
   word-either (Aux n) t f = inl (record { figure = refl; completed = refl })
-  word-either (Parm v) t f = inl (record { figure = parm-figure v; completed = refl })
+  word-either (Parm v) t f = inl (record { figure = parm-leaves r v .figure; completed = refl })
   word-either (At c n) t f = coordinate-either c n t f
   word-either (Img d) t f = inl (record { figure = refl; completed = refl })
   word-either (Ptrn v) t f = inl (record { figure = refl; completed = refl })

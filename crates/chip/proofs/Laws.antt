@@ -28,21 +28,21 @@ use Rattle.line.proofs.Members.{segment-member, segment-counts}
 use Rattle.registers.specs.declared.Registers.{Registers}
 use Rattle.registers.specs.declared.word.Word.{Word}
 use Rattle.registers.specs.declared.word.Word.the-variants.{Init, Aux, Parm, At, Img, Ptrn, Reserved, Unmodelled, Unknown}
-use Rattle.registers.specs.declared.word.Coordinate.{Coordinate}
-use Rattle.registers.specs.declared.word.Coordinate.the-variants.{I, Z, Y, X, T1x, T2x, Lx, Px}
 use Rattle.registers.specs.declared.shape.Completed.{Completed}
 use Rattle.registers.specs.declared.shape.Completed.the-variants.{Nothing, Triangle, Segment}
 use Rattle.registers.specs.declared.shape.Shape.the-variants.{Line}
 use Rattle.registers.specs.declared.subcommand.Subcommand.the-variants.{Hcontrol}
 use Rattle.registers.specs.Record.{isOn, invBit, iBit, zBit, resetAs}
 use Rattle.registers.specs.Figure.{shapeOf, vertexOf, completes, vertexCompletes}
-use Rattle.registers.specs.Next.{awaited, coordinateCompletes, after, completedBy, penOf}
-use Rattle.registers.specs.Bounds.{frameFits, inBounds}
+use Rattle.registers.specs.Next.{awaited, after, completedBy, penOf}
+use Rattle.registers.specs.Lines.{shortestLine, longestLine, lineUnit}
+use Rattle.registers.specs.Bounds.{largestLayout, frameFits, inBounds}
 use Rattle.registers.specs.Refusal.{isInit, isParm, isPtrn, refusalOf}
 use Rattle.registers.proofs.Truth.{both, chosen}
 use Rattle.registers.proofs.Kept.{parts, reset-kept-as, after-kept}
 use Rattle.registers.proofs.Refusals.{accepted-when}
-use Rattle.registers.proofs.Forms.{AllVertices, Near, completed-near, hcontrol-alone, hcontrol-init}
+use Rattle.registers.proofs.Enables.{hcontrol-alone, hcontrol-init}
+use Rattle.registers.proofs.Completing.{only-x-and-px, AllVertices, Near, completed-near}
 use Rattle.machine.specs.Run.{Ran, runFrom, runOf}
 use Rattle.machine.specs.Along.{Along}
 use Rattle.machine.specs.Machine.{Memories, rowsIn, stepOf}
@@ -62,7 +62,7 @@ pub step-kept : (r : Registers) (w : Word) (m : Memories) → inBounds r ≡ tru
 step-kept r w m h = step-either chip r w m (λ o. inBounds (o .registers) ≡ true) (λ e. after-kept (length (m .i)) (length (m .z)) r w e) (λ e. h)
 
 -- so does a run; from reset in any layout, no record breaks a bound
-pub run-kept : (layout : ℕ) → layout ≤ 7 → (ws : List Word) (m : Memories) → inBounds (runOf (stepOf chip) (resetAs layout) ws m .registers) ≡ true
+pub run-kept : (layout : ℕ) → layout ≤ largestLayout → (ws : List Word) (m : Memories) → inBounds (runOf (stepOf chip) (resetAs layout) ws m .registers) ≡ true
 run-kept layout low ws m =
     run-invariant chip ws _ (λ r. inBounds r ≡ true) (λ r w k e h. after-kept (length (k .i)) (length (k .z)) r w e) (reset-kept-as layout low)
 
@@ -151,38 +151,14 @@ run-beyond ws a at = run-above chip ws a at inside
 
 -- ---- lines of the modes 0 and 1
 
--- a word completes nothing, or what X and PX complete
-module _ (P : Completed → Type 0) (r : Registers) (none : P Nothing) (vertex-completes : (n : ℕ) → P (vertexCompletes r n)) where
-  coordinate-completes : (c : Coordinate) (n : ℕ) → P (coordinateCompletes r c n)
-  unfolding coordinateCompletes
-  coordinate-completes I n = none
-  coordinate-completes Z n = none
-  coordinate-completes Y n = none
-  coordinate-completes X n = vertex-completes n
-  coordinate-completes T1x n = none
-  coordinate-completes T2x n = none
-  coordinate-completes Lx n = none
-  coordinate-completes Px n = vertex-completes n
-
-  pub word-completes : (w : Word) → P (completedBy r w)
-  unfolding completedBy
-  word-completes (Init d) = none
-  word-completes (Aux n) = none
-  word-completes (Parm v) = none
-  word-completes (At c n) = coordinate-completes c n
-  word-completes (Img d) = none
-  word-completes (Ptrn v) = none
-  word-completes Reserved = none
-  word-completes Unmodelled = none
-  word-completes Unknown = none
-
 -- while a line is open, a word completes a segment of it or nothing
 pub line-completes : (P : Completed → Type 0) (r : Registers) → shapeOf (r .figure .shape) ≡ Line → P Nothing → ((a b : Vertex) → P (Segment a b)) → (w : Word)
     → P (completedBy r w)
 unfolding completes
 line-completes P r line none some =
-    word-completes P r none
-    (λ n. rw line (chosen P (isOn invBit (r .modes .lstatus)) Nothing (Segment (r .figure .first) (vertexOf r n)) (λ t. none) (λ t. some _ _)))
+    let segment : (n : ℕ) → P (vertexCompletes r n) = λ n.
+    rw line (chosen P (isOn invBit (r .modes .lstatus)) Nothing (Segment (r .figure .first) (vertexOf r n)) (λ t. none) (λ t. some _ _)) in
+    only-x-and-px (λ w f. P (f r)) (λ w. none) segment segment
 
 -- the modes 0 and 1 have no depth
 flat-mode : (n : ℕ) → n ≤ 1 → isDeep (kindOf (modeOf n)) ≡ false
@@ -251,32 +227,32 @@ larger-low a b h k = omega (arith, h .across, h .up, k .across, k .up)
 
 -- the line length, within the bounds
 module _ (r : Registers) (h : inBounds r ≡ true) where
-  line-parts : (leb 256 (r .frame .line) && leb (r .frame .line) 8768 ≡ true) × (eqb (r .frame .line % 64) 0 ≡ true)
+  line-parts : (leb shortestLine (r .frame .line) && leb (r .frame .line) longestLine ≡ true) × (eqb (r .frame .line % lineUnit) 0 ≡ true)
   unfolding frameFits
   line-parts =
-      both (leb 256 (r .frame .line) && leb (r .frame .line) 8768) (eqb (r .frame .line % 64) 0)
-      (both (leb 256 (r .frame .line) && leb (r .frame .line) 8768 && eqb (r .frame .line % 64) 0) (leb (r .frame .layout) 7) (parts r h .frame) .0)
+      both (leb shortestLine (r .frame .line) && leb (r .frame .line) longestLine) (eqb (r .frame .line % lineUnit) 0)
+      (both (leb shortestLine (r .frame .line) && leb (r .frame .line) longestLine && eqb (r .frame .line % lineUnit) 0) (leb (r .frame .layout) largestLayout) (parts r h .frame) .0)
 
-  pub line-low : r .frame .line ≤ 8768
-  line-low = leb-true _ _ (both (leb 256 (r .frame .line)) (leb (r .frame .line) 8768) (line-parts .0) .1)
+  pub line-low : r .frame .line ≤ longestLine
+  line-low = leb-true _ _ (both (leb shortestLine (r .frame .line)) (leb (r .frame .line) longestLine) (line-parts .0) .1)
 
-  pub line-whole : r .frame .line % 64 ≡ 0
+  pub line-whole : r .frame .line % lineUnit ≡ 0
   line-whole = eqb-true _ _ (line-parts .1)
 
 -- no more than the rows in use have
-whole-counts : (rows : ℕ) (r : Registers) (f : Completed) (p : Picture) → AllVertices Near f → rows ≤ mostRows → r .frame .line ≤ 8768
-    → drawn (penOf r) (wholeOffers rows r f) p .passed ≤ p .passed + mostRows * 8768
+whole-counts : (rows : ℕ) (r : Registers) (f : Completed) (p : Picture) → AllVertices Near f → rows ≤ mostRows → r .frame .line ≤ longestLine
+    → drawn (penOf r) (wholeOffers rows r f) p .passed ≤ p .passed + mostRows * longestLine
 unfolding wholeOffers
 whole-counts rows r Nothing p near h k = rw (drawn-nil (penOf r) p) (omega arith)
 whole-counts rows r (Triangle a b c) p near h k =
-    omega (arith, triangle-counts (penOf r) rows (isConstant r) a b c p, mul-le-mul {n₁ = rows} {m₁ = r .frame .line} {n₂ = mostRows} {m₂ = 8768} h k)
+    omega (arith, triangle-counts (penOf r) rows (isConstant r) a b c p, mul-le-mul {n₁ = rows} {m₁ = r .frame .line} {n₂ = mostRows} {m₂ = longestLine} h k)
 whole-counts rows r (Segment a b) p near h k = omega (arith, segment-counts (penOf r) rows (styleOf r) a b p, larger-low a b (near .0) (near .1))
 
-pub figure-counts : (rows : ℕ) (r : Registers) (f : Completed) (p : Picture) → AllVertices Near f → rows ≤ mostRows → r .frame .line ≤ 8768
-    → drawn (penOf r) (figureOffers rows r f) p .passed ≤ p .passed + mostRows * 8768
+pub figure-counts : (rows : ℕ) (r : Registers) (f : Completed) (p : Picture) → AllVertices Near f → rows ≤ mostRows → r .frame .line ≤ longestLine
+    → drawn (penOf r) (figureOffers rows r f) p .passed ≤ p .passed + mostRows * longestLine
 unfolding figureOffers
 figure-counts rows r f p near h k =
-    chosen (λ (os : List Offer). drawn (penOf r) os p .passed ≤ p .passed + mostRows * 8768) (isCut r f) [] (wholeOffers rows r f)
+    chosen (λ (os : List Offer). drawn (penOf r) os p .passed ≤ p .passed + mostRows * longestLine) (isCut r f) [] (wholeOffers rows r f)
     (λ t. rw (drawn-nil (penOf r) p) (omega arith)) (λ t. whole-counts rows r f p near h k)
 
 -- the count of one word is below 2 ^ 32

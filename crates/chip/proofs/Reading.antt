@@ -9,7 +9,7 @@ use borrow.Author.Tests.{eq-eqb, ne-eqb}
 use Rattle.registers.specs.declared.Registers.{Registers}
 use Rattle.registers.specs.Record.{resetAs}
 use Rattle.registers.specs.Next.{transferredOf}
-use Rattle.registers.specs.Bounds.{inBounds}
+use Rattle.registers.specs.Bounds.{largestLayout, inBounds}
 use Rattle.registers.proofs.Kept.{reset-kept-as, read-kept}
 use Rattle.machine.specs.Machine.{Memories}
 use Rattle.machine.specs.Offers.{State, state}
@@ -41,7 +41,7 @@ module _ (r : Registers) (m : Memories) where
       (λ e. subst (λ (a : Reading). inBounds (a .registers) ≡ true) (sym (read-refused e)) h)
 
 -- from reset, in any layout, no words and reads leave a record that breaks a bound
-pub calls-kept : (layout : ℕ) → layout ≤ 7 → (cs : List Call) (m : Memories) → inBounds (foldl called (state (resetAs layout) m) cs .registers) ≡ true
+pub calls-kept : (layout : ℕ) → layout ≤ largestLayout → (cs : List Call) (m : Memories) → inBounds (foldl called (state (resetAs layout) m) cs .registers) ≡ true
 calls-kept layout low cs m = go cs (state (resetAs layout) m) (reset-kept-as layout low)
   where
     go : (cs : List Call) (a : State Registers Memories) → inBounds (a .registers) ≡ true → inBounds (foldl called a cs .registers) ≡ true

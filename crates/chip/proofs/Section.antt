@@ -1,7 +1,6 @@
 -- What SECTION changes of a word: where no figure is cut the offers are those of before, and a cut triangle offers nothing. Assumes nothing.
 use mathlib.Core.Path.{_≡_, refl}
 use mathlib.Core.Bool.{Bool, true, false, _&&_, false≢true}
-use mathlib.Core.List.{[]}
 use Prim.Native.Nat.{ℕ, _≤_}
 use lib.Dec.{ltb}
 use borrow.Author.Tests.{le-ltb}
@@ -11,21 +10,21 @@ use Rattle.picture.proofs.Fold.{drawn-nil}
 use Rattle.picture.proofs.Stores.{filled-nil}
 use Rattle.registers.specs.declared.Registers.{Registers}
 use Rattle.registers.specs.declared.word.Word.{Word}
-use Rattle.registers.specs.declared.word.Word.the-variants.{Init, Aux, Parm, At, Img, Ptrn, Reserved, Unmodelled, Unknown}
 use Rattle.registers.specs.declared.shape.Shape.{Shape}
 use Rattle.registers.specs.declared.shape.Shape.the-variants.{Closed, Strip, Fan, Line}
 use Rattle.registers.specs.declared.shape.Completed.{Completed}
 use Rattle.registers.specs.declared.shape.Completed.the-variants.{Nothing, Triangle, Segment}
 use Rattle.registers.specs.Record.{isOn, sectionBit, invBit}
-use Rattle.registers.specs.Figure.{shapeOf, vertexOf, isPair, completes}
+use Rattle.registers.specs.Figure.{shapeOf, vertexOf, isPair, completes, vertexCompletes}
 use Rattle.registers.specs.Next.{completedBy, penOf}
 use Rattle.registers.specs.Refusal.{isPtrn}
 use Rattle.registers.proofs.Truth.{chosen}
+use Rattle.registers.proofs.Completing.{only-x-and-px}
 use Rattle.machine.specs.Machine.{Memories, rowsIn, stepOf}
 use Rattle.machine.proofs.Steps.{step-accepted, step-refused, step-either}
 use Rattle.chip.specs.Chip.{isConstant, isCut, figureOffers, chip}
 use Rattle.chip.specs.Section.{uncut, AsBefore, Sectioned}
-use Rattle.chip.proofs.Laws.{word-unstored, word-completes, line-completes}
+use Rattle.chip.proofs.Laws.{word-unstored, line-completes}
 
 -- ---- which figures are cut
 
@@ -70,7 +69,8 @@ module _ (r : Registers) where
     near-uncut : (w : Word) → isCut r (completedBy r w) ≡ false
     unfolding isCut
     near-uncut =
-        word-completes (λ f. isCut r f ≡ false) r refl (λ n. completes-near (shapeOf (r .figure .shape)) (isOn invBit (r .modes .lstatus)) n)
+        let new : (n : ℕ) → isCut r (vertexCompletes r n) ≡ false = completes-near (shapeOf (r .figure .shape)) (isOn invBit (r .modes .lstatus)) in
+        only-x-and-px (λ w f. isCut r (f r) ≡ false) (λ w. refl) new new
 
   -- while a line is open, none that a word completes
   line-uncut : shapeOf (r .figure .shape) ≡ Line → (w : Word) → isCut r (completedBy r w) ≡ false
@@ -87,16 +87,8 @@ module _ (r : Registers) (w : Word) (m : Memories) where
 
   -- one that completes a cut figure is not PTRN, which completes none
   cut-other : (w : Word) → isCut r (completedBy r w) ≡ true → isPtrn w ≡ false
-  unfolding completedBy isCut
-  cut-other (Init d) e = refl
-  cut-other (Aux n) e = refl
-  cut-other (Parm v) e = refl
-  cut-other (At c n) e = refl
-  cut-other (Img d) e = refl
-  cut-other (Ptrn v) e = absurd (false≢true e)
-  cut-other Reserved e = refl
-  cut-other Unmodelled e = refl
-  cut-other Unknown e = refl
+  unfolding isCut
+  cut-other = only-x-and-px (λ w f. isCut r (f r) ≡ true → isPtrn w ≡ false) (λ w e. absurd (false≢true e)) (λ n e. refl) (λ n e. refl)
 
   -- and passes nothing and changes no place
   pub cut-still : isCut r (completedBy r w) ≡ true → (stepOf chip r w m .passed ≡ 0) × (stepOf chip r w m .memories ≡ m)

@@ -23,7 +23,9 @@ use Rattle.picture.proofs.Fold.{drawn-i, drawn-z}
 use Rattle.picture.proofs.Stores.{filled-i, filled-z, filled-passed}
 use Rattle.registers.specs.declared.Registers.{Registers}
 use Rattle.registers.specs.declared.word.Word.{Word}
+use Rattle.registers.specs.Lines.{lineUnit}
 use Rattle.registers.specs.Record.{laid}
+use Rattle.registers.specs.Bounds.{largestLayout}
 use Rattle.registers.specs.Next.{after, penOf}
 use Rattle.registers.specs.Refusal.{isInit, refusalOf}
 use Rattle.registers.proofs.Refusals.{accepted-when}
@@ -66,12 +68,12 @@ ways-some : (ways : ℕ) → Ways ways → 0 < ways
 ways-some = by-ways (λ ways. 0 < ways) (omega arith) (omega arith) (omega arith)
 
 -- each unit has as much of a line whose length is a multiple of 64
-ways-whole : (line : ℕ) → line % 64 ≡ 0 → (ways : ℕ) → Ways ways → line ≡ line / ways * ways
+ways-whole : (line : ℕ) → line % lineUnit ≡ 0 → (ways : ℕ) → Ways ways → line ≡ line / ways * ways
 ways-whole line h = by-ways (λ ways. line ≡ line / ways * ways) (omega arith) (omega (arith, h)) (omega (arith, h))
 
 -- a unit's layout is one that a record may have
-layout-low : (ways : ℕ) → Ways ways → (u : ℕ) → u < ways → unitLayout ways u ≤ 7
-layout-low = by-ways (λ ways. (u : ℕ) → u < ways → unitLayout ways u ≤ 7) (λ u l. omega arith) (λ u l. omega (arith, l)) (λ u l. omega (arith, l))
+layout-low : (ways : ℕ) → Ways ways → (u : ℕ) → u < ways → unitLayout ways u ≤ largestLayout
+layout-low = by-ways (λ ways. (u : ℕ) → u < ways → unitLayout ways u ≤ largestLayout) (λ u l. omega arith) (λ u l. omega (arith, l)) (λ u l. omega (arith, l))
 
 -- ---- where the pixels of a unit lie
 

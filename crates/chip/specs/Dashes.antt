@@ -18,7 +18,7 @@ use Rattle.registers.specs.declared.word.Coordinate.the-variants.{I, Z, Y, X, T
 use Rattle.registers.specs.declared.shape.Shape.the-variants.{Line}
 use Rattle.registers.specs.declared.shape.Completed.{Completed}
 use Rattle.registers.specs.declared.shape.Completed.the-variants.{Nothing, Triangle, Segment}
-use Rattle.registers.specs.Record.{isOn, invBit, endBit, noFigure}
+use Rattle.registers.specs.Record.{isOn, invBit, endBit, patternLength, noFigure}
 use Rattle.registers.specs.Figure.{shapeOf, vertexOf, isDashed}
 use Rattle.registers.specs.Next.{after, completedBy, penOf}
 use Rattle.registers.specs.Refusal.{refusalOf}
@@ -95,7 +95,7 @@ pub record Begun (r : Registers) : Type 0 where
 
 -- a line has gone on by the steps of the segment to a vertex
 abbrev pub Advanced : Registers → ℕ → Registers → Type 0
-Advanced r n s = s .figure .steps ≡ (r .figure .steps + larger (r .figure .first) (vertexOf r n)) % 32
+Advanced r n s = s .figure .steps ≡ (r .figure .steps + larger (r .figure .first) (vertexOf r n)) % patternLength
 
 -- a word completes the segment to a vertex, and no figure is open after it
 abbrev pub Closes : Registers → ℕ → Word → Type 0

@@ -11,7 +11,9 @@ use Rattle.picture.specs.Place.{frameOf, plainFrame, layoutOf, rowsOf}
 use Rattle.picture.specs.Offer.{Offer}
 use Rattle.registers.specs.declared.Registers.{Registers}
 use Rattle.registers.specs.declared.word.Word.{Word}
+use Rattle.registers.specs.Lines.{lineUnit}
 use Rattle.registers.specs.Record.{laid}
+use Rattle.registers.specs.Bounds.{largestLayout}
 use Rattle.registers.specs.Next.{after}
 use Rattle.registers.specs.Refusal.{isInit, isPtrn, refusalOf}
 use Rattle.machine.specs.Run.{Outcome}
@@ -57,7 +59,7 @@ pub record Together (ways n n′ : ℕ) (r : Registers) (w : Word) (b : ℕ → 
 
 pub record Units : Type 0 where
   -- a word gets the same number in every layout
-  pub number : (k ni nz : ℕ) (r : Registers) (w : Word) → k ≤ 7 → refusalOf ni nz (laid k r) w ≡ refusalOf ni nz (laid 0 r) w
+  pub number : (k ni nz : ℕ) (r : Registers) (w : Word) → k ≤ largestLayout → refusalOf ni nz (laid k r) w ≡ refusalOf ni nz (laid 0 r) w
   -- and over memories of whichever length, if both have one
   pub lengths : (n n′ : ℕ) (r : Registers) (w : Word) → refusalOf n n r w ≡ refusalOf n′ n′ r w
   -- it leaves the same record, but for the layout
@@ -73,7 +75,7 @@ pub record Units : Type 0 where
   -- what is offered lies in the line, and in the rows
   pub inside : (rows : ℕ) (r : Registers) (w : Word) (o : Offer) → List·Memᴰ o (chip .offers rows r w) → (o .x < r .frame .line) × (o .y < rows)
   -- an accepted word finds a line length that is a multiple of 64, so that one, two or four units have as much of it each
-  pub whole : (ni nz : ℕ) (r : Registers) (w : Word) → refusalOf ni nz r w ≡ 0 → r .frame .line % 64 ≡ 0
+  pub whole : (ni nz : ℕ) (r : Registers) (w : Word) → refusalOf ni nz r w ≡ 0 → r .frame .line % lineUnit ≡ 0
   -- a word's count is small, so that those of four units add up in 64 bits
   pub count : (r : Registers) (w : Word) (m : Memories) → stepOf chip r w m .passed < 2 ^ 32
   -- so the units of a board, whose memories have one length each side and read together are the one chip's, stay that with every word, if as many rows are

@@ -21,14 +21,14 @@ use Rattle.registers.specs.Subcommand.{subcommandOf}
 use Rattle.registers.specs.Figure.{shapeOf}
 use Rattle.registers.specs.Next.{awaited, transferredOf, after}
 use Rattle.registers.specs.Allowed.{isBorder, parameterAllowed, allowed}
-use Rattle.registers.specs.Bounds.{frameFits, modesFit, windowFits, vertexFits, figureFits, valuesFit, parkedFits, regionFits, inBounds}
+use Rattle.registers.specs.Bounds.{frameFits, modesFit, windowFits, vertexFits, figureFits, parkedFits, regionFits, inBounds}
 use Rattle.registers.specs.Refusal.{isInit}
 use Rattle.registers.proofs.Refusals.{accepted-when, read-when}
-use Rattle.registers.proofs.Kept.{parts, whole, reset-kept, after-kept, read-kept}
-use Rattle.former.specs.Former.{formerCoordinate, formerBorder, formerRows, wasCoordinate, wasBorder, wasValue, wasNumber, wasWord, wasWindow, wasVertex, wasValues, wasRegion, wasRecord, wasUnfit, wasBarred, wasRefused, formerWindow, formerReset, wasAfter, wasRows, former, wasReadRefused}
+use Rattle.registers.proofs.Kept.{parts, whole, sound-window, reset-kept, after-kept, read-kept}
+use Rattle.former.specs.Former.{formerCoordinate, formerBorder, formerRows, wasCoordinate, wasBorder, wasValue, wasNumber, wasWord, wasWindow, wasVertex, wasRegion, wasRecord, wasUnfit, wasBarred, wasRefused, formerWindow, formerReset, wasAfter, wasRows, former, wasReadRefused}
 use Rattle.former.specs.Document.{numberAfter, Document01}
 use Rattle.former.specs.Request.{kept}
-use Rattle.former.proofs.Words.{was-taken, read-taken, sound-same}
+use Rattle.former.proofs.Words.{was-taken, read-taken}
 use Rattle.former.proofs.Kept.{inside-parts, inside-whole, transferred-in, reset-in, after-in}
 
 -- ---- rows
@@ -94,7 +94,7 @@ fit ni nz r e h k = rw (eq-eqb ni nz e, h, k)
 -- a record in bounds is so with the former window
 narrowed : (r : Registers) → inBounds r ≡ true → inBounds (withWindow r formerWindow) ≡ true
 unfolding windowFits
-narrowed r h = whole (withWindow r formerWindow) (sound-same r formerWindow refl (parts r h))
+narrowed r h = whole (withWindow r formerWindow) (sound-window (parts r h) formerWindow refl)
 
 begun : (n : ℕ) → wasUnfit n n formerReset ≡ false
 begun n = fit n n formerReset refl (narrowed resetOf reset-kept) (inside-whole formerReset reset-in)
@@ -121,7 +121,7 @@ cases : (n : ℕ)
     → (numberAfter n (Init 0 ∷ []) (At Y 8191) ≡ 0) × (numberAfter n (Init 0 ∷ []) (At Y 8192) ≡ 9)
     × (numberAfter n (Init 0 ∷ Aux 6 ∷ []) (Parm 8192) ≡ 0) × (numberAfter n (Init 0 ∷ Aux 6 ∷ []) (Parm 8193) ≡ 9)
     × (numberAfter n (Init 0 ∷ []) (At X 9000) ≡ 9)
-unfolding wasRefused wasAfter after settings lineOf subcommandOf shapeOf wasRecord wasWindow wasVertex wasValues wasRegion inBounds frameFits modesFit windowFits vertexFits figureFits valuesFit parkedFits regionFits
+unfolding wasRefused wasAfter after settings lineOf subcommandOf shapeOf wasRecord wasWindow wasVertex wasRegion inBounds frameFits modesFit windowFits vertexFits figureFits parkedFits regionFits
 cases n = let like = eq-eqb n n refl in (rw like, rw like, rw like, rw like, rw like)
 
 -- ---- all of it

@@ -38,7 +38,7 @@ use Rattle.registers.specs.declared.shape.Completed.{Completed}
 use Rattle.registers.specs.declared.shape.Completed.the-variants.{Nothing, Triangle, Segment}
 use Rattle.registers.specs.Record.{withWindow}
 use Rattle.registers.specs.Next.{penOf, isDeepPicture}
-use Rattle.registers.proofs.Forms.{AllVertices}
+use Rattle.registers.proofs.Completing.{AllVertices}
 use Rattle.chip.specs.Chip.{isConstant, styleOf, wholeOffers, isCut, figureOffers, wordStores}
 use Rattle.former.specs.Former.{formerCoordinate, wasRows}
 use Rattle.former.specs.Request.{Widened, kept, first}

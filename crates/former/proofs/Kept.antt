@@ -3,11 +3,11 @@
 use mathlib.Core.Path.{_≡_, refl}
 use mathlib.Core.Bool.{Bool, true}
 use mathlib.Core.List.{List, [], _∷_}
-use Prim.Native.Nat.{ℕ, _+_, _-_, _≤_}
+use Prim.Native.Nat.{ℕ, _+_, _-_, _≤_, _<_}
 use native.Mathlib.Omega.{arith}
 use lib.Dec.{ltb, eqb}
 use lib.ListN.{set}
-use borrow.Author.Tests.{ltb-true, le-leb, leb-true}
+use borrow.Author.Tests.{ltb-true, ltb-false, le-leb, leb-true}
 use Rattle.picture.specs.declared.Frame.{Frame}
 use Rattle.picture.specs.declared.Vertex.{Vertex}
 use Rattle.registers.specs.declared.Modes.{Modes}
@@ -32,58 +32,62 @@ use Rattle.registers.specs.Subcommand.{subcommandOf, wants}
 use Rattle.registers.specs.Figure.{shapeOf, vertexOf, isPair, grownOf}
 use Rattle.registers.specs.Next.{value, awaited, effectOf, parmOf, coordinateOf, transferredOf, after}
 use Rattle.registers.proofs.Truth.{and-both, All, chain-all, all-chain, chosen}
-use Rattle.registers.proofs.Kept.{set-keeps}
-use Rattle.former.specs.Former.{formerCoordinate, formerWindow, wasCoordinate, wasValue, wasNumber, wasWord, wasWindow, wasVertex, wasValues, wasRegion, wasRecord, wasAfter}
+use Rattle.registers.proofs.Parking.{came-each, came-more}
+use Rattle.former.specs.Former.{formerCoordinate, formerWindow, wasCoordinate, wasBorder, wasValue, wasNumber, wasWord, wasWindow, wasVertex, wasParked, wasRegion, wasRecord, wasAfter}
 
 -- ---- a record, part by part
 
+-- each part lies within the former limits
 pub record Inside (r : Registers) : Type 0 where
   pub window : wasWindow (r .window) ≡ true
   pub y : wasCoordinate (r .latch .y) ≡ true
   pub first : wasVertex (r .figure .first) ≡ true
   pub second : wasVertex (r .figure .second) ≡ true
-  pub values : wasValues (awaited r) (r .parked .values) ≡ true
+  pub parked : wasParked (r .parked) ≡ true
   pub region : wasRegion (r .region) ≡ true
 
 module _ (r : Registers) where
   abbrev tests : List Bool
-  tests = wasCoordinate (r .latch .y) ∷ wasVertex (r .figure .first) ∷ wasVertex (r .figure .second) ∷ wasValues (awaited r) (r .parked .values) ∷ wasRegion (r .region) ∷ []
+  tests = wasCoordinate (r .latch .y) ∷ wasVertex (r .figure .first) ∷ wasVertex (r .figure .second) ∷ wasParked (r .parked) ∷ wasRegion (r .region) ∷ []
 
+  -- a record within them has each part there
   pub inside-parts : wasRecord r ≡ true → Inside r
   unfolding wasRecord
   inside-parts e =
       let q = chain-all (wasWindow (r .window)) tests e in
-      record { window = q .0; y = q .1 .0; first = q .1 .1 .0; second = q .1 .1 .1 .0; values = q .1 .1 .1 .1 .0; region = q .1 .1 .1 .1 .1 .0 }
+      record { window = q .0; y = q .1 .0; first = q .1 .1 .0; second = q .1 .1 .1 .0; parked = q .1 .1 .1 .1 .0; region = q .1 .1 .1 .1 .1 .0 }
 
+  -- and a record of parts within them lies there
   pub inside-whole : Inside r → wasRecord r ≡ true
   unfolding wasRecord
-  inside-whole s = all-chain (wasWindow (r .window)) tests (s .window, (s .y, (s .first, (s .second, (s .values, (s .region, tt))))))
+  inside-whole s = all-chain (wasWindow (r .window)) tests (s .window, (s .y, (s .first, (s .second, (s .parked, (s .region, tt))))))
 
 -- a part is replaced
 module _ {r : Registers} (s : Inside r) where
   in-modes : (m : Modes) → Inside (withModes r m)
-  in-modes m = record { window = s .window; y = s .y; first = s .first; second = s .second; values = s .values; region = s .region }
+  in-modes m = record { window = s .window; y = s .y; first = s .first; second = s .second; parked = s .parked; region = s .region }
 
   in-window : (w : Window) → wasWindow w ≡ true → Inside (withWindow r w)
-  in-window w h = record { window = h; y = s .y; first = s .first; second = s .second; values = s .values; region = s .region }
+  in-window w h = record { window = h; y = s .y; first = s .first; second = s .second; parked = s .parked; region = s .region }
 
   in-dash : (d : Dash) → Inside (withDash r d)
-  in-dash d = record { window = s .window; y = s .y; first = s .first; second = s .second; values = s .values; region = s .region }
+  in-dash d = record { window = s .window; y = s .y; first = s .first; second = s .second; parked = s .parked; region = s .region }
 
   in-latch : (l : Latch) → wasCoordinate (l .y) ≡ true → Inside (withLatch r l)
-  in-latch l h = record { window = s .window; y = h; first = s .first; second = s .second; values = s .values; region = s .region }
+  in-latch l h = record { window = s .window; y = h; first = s .first; second = s .second; parked = s .parked; region = s .region }
 
   in-figure : (f : Figure) → (wasVertex (f .first) ≡ true) × (wasVertex (f .second) ≡ true) → Inside (withFigure r f)
-  in-figure f h = record { window = s .window; y = s .y; first = h .0; second = h .1; values = s .values; region = s .region }
+  in-figure f h = record { window = s .window; y = s .y; first = h .0; second = h .1; parked = s .parked; region = s .region }
 
-  in-parked : (p : Parked) → wasValues (subcommandOf (p .subcommand)) (p .values) ≡ true → Inside (withParked r p)
-  in-parked p h = record { window = s .window; y = s .y; first = s .first; second = s .second; values = h; region = s .region }
+  in-parked : (p : Parked) → wasParked p ≡ true → Inside (withParked r p)
+  in-parked p h = record { window = s .window; y = s .y; first = s .first; second = s .second; parked = h; region = s .region }
 
   in-region : (g : Region) → wasRegion g ≡ true → Inside (withRegion r g)
-  in-region g h = record { window = s .window; y = s .y; first = s .first; second = s .second; values = s .values; region = h }
+  in-region g h = record { window = s .window; y = s .y; first = s .first; second = s .second; parked = s .parked; region = h }
 
 -- ---- parameters
 
+-- 0 lay within them, as each parameter
 zero-was : (s : Subcommand) → wasValue s 0 ≡ true
 zero-was Nothing = refl
 zero-was Pmode = refl
@@ -101,30 +105,9 @@ zero-was Imode = refl
 zero-was Load = refl
 zero-was Save = refl
 
--- the four values, one by one
-abbrev others : Subcommand → List ℕ → List Bool
-others s l = wasValue s (value l 1) ∷ wasValue s (value l 2) ∷ wasValue s (value l 3) ∷ []
-
-each-was : (s : Subcommand) (l : List ℕ) → wasValues s l ≡ true → All (wasValue s (value l 0) ∷ others s l)
-unfolding wasValues
-each-was s l = chain-all (wasValue s (value l 0)) (others s l)
-
-all-was : (s : Subcommand) (l : List ℕ) → All (wasValue s (value l 0) ∷ others s l) → wasValues s l ≡ true
-unfolding wasValues
-all-was s l = all-chain (wasValue s (value l 0)) (others s l)
-
-zeros-were : (s : Subcommand) → wasValues s (0 ∷ 0 ∷ 0 ∷ 0 ∷ 0 ∷ []) ≡ true
-zeros-were s = let z = zero-was s in all-was s _ (z, (z, (z, (z, tt))))
-
-values-set : (s : Subcommand) (l : List ℕ) (k v : ℕ) → wasValue s v ≡ true → wasValues s l ≡ true → wasValues s (set l k v) ≡ true
-values-set s l k v a e =
-    let q = each-was s l e in
-    let keep : (n : ℕ) → wasValue s (value l n) ≡ true → wasValue s (value (set l k v) n) ≡ true = λ n p. set-keeps (wasValue s) l k v n a p in
-    all-was s (set l k v) (keep 0 (q .0), (keep 1 (q .1 .0), (keep 2 (q .1 .1 .0), (keep 3 (q .1 .1 .1 .0), tt))))
-
-borders-were : (l : List ℕ) → wasValues Win l ≡ true → wasWindow (window (value l 0) (value l 1) (value l 2) (value l 3)) ≡ true
-unfolding wasValues wasWindow
-borders-were l f = f
+borders-were : (left top right bottom : ℕ) → All (wasBorder left ∷ wasBorder top ∷ wasBorder right ∷ wasBorder bottom ∷ []) → wasWindow (window left top right bottom) ≡ true
+unfolding wasWindow
+borders-were left top right bottom = all-chain (wasBorder left) (wasBorder top ∷ wasBorder right ∷ wasBorder bottom ∷ [])
 
 corners-were : (way x0 y0 x1 y1 : ℕ) → All (wasCoordinate x0 ∷ wasCoordinate y0 ∷ wasCoordinate x1 ∷ wasCoordinate y1 ∷ []) → wasRegion (regionOf way x0 y0 x1 y1) ≡ true
 unfolding wasRegion
@@ -132,29 +115,34 @@ corners-were way x0 y0 x1 y1 q =
     all-chain (wasCoordinate x0) (wasCoordinate x1 ∷ wasCoordinate y1 ∷ wasCoordinate x0 ∷ wasCoordinate y0 ∷ [])
     (q .0, (q .1 .1 .0, (q .1 .1 .1 .0, (q .0, (q .1 .0, tt)))))
 
-effect-in : (r : Registers) (s : Subcommand) (l : List ℕ) → Inside r → wasValues s l ≡ true → Inside (effectOf r s l)
+effect-in : (r : Registers) (s : Subcommand) (l : List ℕ) → Inside r → ((k : ℕ) → k < wants s → wasValue s (value l k) ≡ true) → Inside (effectOf r s l)
 unfolding effectOf
-effect-in r Nothing l h f = h
-effect-in r Pmode l h f = in-modes h _
-effect-in r Lmode l h f = in-modes h _
-effect-in r Zcontrol l h f = in-modes h _
-effect-in r Hcontrol l h f = in-modes h _
-effect-in r Tpattern l h f = in-modes h _
-effect-in r Win l h f = in-window h _ (borders-were l f)
-effect-in r Section l h f = in-modes h _
-effect-in r Color l h f = in-dash h _
-effect-in r Lpattern l h f = in-dash h _
-effect-in r Mask l h f = in-modes h _
-effect-in r Lstatus l h f = in-modes h _
-effect-in r Imode l h f = h
-effect-in r Load l h f = in-region h _ (corners-were 1 _ _ _ _ (each-was Load l f))
-effect-in r Save l h f = in-region h _ (corners-were 2 _ _ _ _ (each-was Save l f))
+effect-in r Nothing l h a = h
+effect-in r Pmode l h a = in-modes h _
+effect-in r Lmode l h a = in-modes h _
+effect-in r Zcontrol l h a = in-modes h _
+effect-in r Hcontrol l h a = in-modes h _
+effect-in r Tpattern l h a = in-modes h _
+effect-in r Win l h a = in-window h _ (borders-were _ _ _ _ (a 0 (omega arith), (a 1 (omega arith), (a 2 (omega arith), (a 3 (omega arith), tt)))))
+effect-in r Section l h a = in-modes h _
+effect-in r Color l h a = in-dash h _
+effect-in r Lpattern l h a = in-dash h _
+effect-in r Mask l h a = in-modes h _
+effect-in r Lstatus l h a = in-modes h _
+effect-in r Imode l h a = h
+effect-in r Load l h a = in-region h _ (corners-were 1 _ _ _ _ (a 0 (omega arith), (a 1 (omega arith), (a 2 (omega arith), (a 3 (omega arith), tt)))))
+effect-in r Save l h a = in-region h _ (corners-were 2 _ _ _ _ (a 0 (omega arith), (a 1 (omega arith), (a 2 (omega arith), (a 3 (omega arith), tt)))))
 
 parm-in : (r : Registers) (v : ℕ) → Inside r → wasValue (awaited r) v ≡ true → Inside (parmOf r v)
 unfolding parmOf
 parm-in r v s a =
-    let q = values-set (awaited r) (r .parked .values) (r .parked .came) v a (s .values) in
-    chosen Inside (ltb (r .parked .came + 1) (wants (awaited r))) _ _ (λ t. in-parked s _ q) (λ t. in-parked (effect-in r (awaited r) _ s q) nothingAwaited (zeros-were _))
+    let test : ℕ → ℕ → Bool = λ k. wasValue (awaited r) in
+    let l = set (r .parked .values) (r .parked .came) v in
+    let q = came-more test (r .parked .values) (r .parked .came) v (zero-was (awaited r)) a (s .parked) in
+    chosen Inside (ltb (r .parked .came + 1) (wants (awaited r))) _ _ (λ t. in-parked s _ q)
+    (λ t.
+    let last = ltb-false (r .parked .came + 1) (wants (awaited r)) t in
+    in-parked (effect-in r (awaited r) l s (λ k h. came-each test l (r .parked .came + 1) q k (omega (arith, h, last)))) nothingAwaited refl)
 
 -- ---- coordinates
 
@@ -201,6 +189,7 @@ toward-was a b h k =
 abbrev region-tests : Region → List Bool
 region-tests g = wasCoordinate (g .x1) ∷ wasCoordinate (g .y1) ∷ wasCoordinate (g .x) ∷ wasCoordinate (g .y) ∷ []
 
+-- a region within them, number by number
 pub region-each : (g : Region) → wasRegion g ≡ true → All (wasCoordinate (g .x0) ∷ region-tests g)
 unfolding wasRegion
 region-each g = chain-all (wasCoordinate (g .x0)) (region-tests g)
@@ -224,9 +213,10 @@ transferred-in r s = in-region s _ (pixel-was (r .region) (s .region))
 
 -- what INIT and reset set, with the former window
 first-in : (started : ℕ) (frame : Frame) → Inside (withWindow (settings started frame) formerWindow)
-unfolding settings wasWindow wasVertex wasValues wasRegion subcommandOf
-first-in started frame = record { window = refl; y = refl; first = refl; second = refl; values = refl; region = refl }
+unfolding settings wasWindow wasVertex wasRegion
+first-in started frame = record { window = refl; y = refl; first = refl; second = refl; parked = refl; region = refl }
 
+-- so the record after reset lies within them
 pub reset-in : Inside (withWindow resetOf formerWindow)
 reset-in = first-in 0 _
 
@@ -234,10 +224,10 @@ reset-in = first-in 0 _
 pub after-in : (r : Registers) (w : Word) → Inside r → wasWord r w ≡ true → Inside (wasAfter r w)
 unfolding wasAfter after
 after-in r (Init d) s h = first-in 1 _
-after-in r (Aux n) s h = in-parked s _ (zeros-were _)
+after-in r (Aux n) s h = in-parked s _ refl
 after-in r (Parm v) s h = parm-in r v s h
 after-in r (At c n) s h = coordinate-in r s c n h
-after-in r (Img d) s h = in-parked s _ (zeros-were _)
+after-in r (Img d) s h = in-parked s _ refl
 after-in r (Ptrn v) s h = transferred-in r s
 after-in r Reserved s h = s
 after-in r Unmodelled s h = s

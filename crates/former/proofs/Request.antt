@@ -14,14 +14,11 @@ use Rattle.picture.specs.Store.{Store, filled, readOf}
 use Rattle.registers.specs.declared.Window.{Window}
 use Rattle.registers.specs.declared.Registers.{Registers}
 use Rattle.registers.specs.declared.word.Word.{Word}
-use Rattle.registers.specs.declared.word.Word.the-variants.{Init, Aux, Parm, At, Img, Ptrn, Reserved, Unmodelled, Unknown}
-use Rattle.registers.specs.declared.word.Coordinate.{Coordinate}
-use Rattle.registers.specs.declared.word.Coordinate.the-variants.{I, Z, Y, X, T1x, T2x, Lx, Px}
 use Rattle.registers.specs.Record.{settings, resetOf, withWindow}
-use Rattle.registers.specs.Figure.{shapeOf, vertexOf}
-use Rattle.registers.specs.Next.{isDeepPicture, transferredOf, coordinateCompletes, completedBy, penOf}
+use Rattle.registers.specs.Figure.{vertexCompletes}
+use Rattle.registers.specs.Next.{isDeepPicture, transferredOf, completedBy, penOf}
 use Rattle.registers.proofs.Truth.{both}
-use Rattle.registers.proofs.Forms.{AllVertices, completes-has}
+use Rattle.registers.proofs.Completing.{only-x-and-px, AllVertices, vertex-has}
 use Rattle.machine.specs.Run.{Outcome, Ran, ran, advance, runFrom, runOf}
 use Rattle.machine.specs.Machine.{Memories, memories, rowsIn, drawing, accepted, numberOf, stepOf}
 use Rattle.machine.proofs.Runs.{advance-accepted, run-first}
@@ -31,7 +28,7 @@ use Rattle.chip.specs.declared.transfer.Reading.{Reading}
 use Rattle.chip.specs.Read.{readAs, pixelOf, reading}
 use Rattle.chip.specs.Stream.{wordsOf, flawOf, running}
 use Rattle.chip.proofs.Reading.{read-accepted}
-use Rattle.former.specs.Former.{formerCoordinate, wasCoordinate, wasNumber, wasWord, wasVertex, wasRecord, formerReset, wasAfter, wasRows, former, wasPixel, wasReadNumber, wasReading}
+use Rattle.former.specs.Former.{formerCoordinate, wasCoordinate, wasWord, wasVertex, wasRecord, formerReset, wasAfter, wasRows, former, wasPixel, wasReadNumber, wasReading}
 use Rattle.former.specs.Request.{formerly, Widened, first, Alike, Same, SameWord, SameRead, Request12}
 use Rattle.former.proofs.Words.{Taken, was-taken, wider-taken, read-taken, after-alike}
 use Rattle.former.proofs.Drawing.{Former, row-same, figure-same, stores-same, drawn-same, filled-same}
@@ -44,31 +41,11 @@ unfolding wasVertex
 near v h = let q = both (wasCoordinate (v .x)) (wasCoordinate (v .y)) h in record { across = leb-true _ _ (q .0); up = leb-true _ _ (q .1) }
 
 module _ (r : Registers) (s : Inside r) where
-  vertex-near : (n : ℕ) → wasCoordinate n ≡ true → Former (vertexOf r n)
-  vertex-near n h = record { across = leb-true _ _ h; up = leb-true _ _ (s .y) }
-
-  coordinate-near : (c : Coordinate) (n : ℕ) → wasNumber c n ≡ true → AllVertices Former (coordinateCompletes r c n)
-  unfolding coordinateCompletes
-  coordinate-near I n h = tt
-  coordinate-near Z n h = tt
-  coordinate-near Y n h = tt
-  coordinate-near X n h = completes-has Former r (near _ (s .first)) (near _ (s .second)) (shapeOf (r .figure .shape)) _ (vertexOf r n) (vertex-near n h)
-  coordinate-near T1x n h = tt
-  coordinate-near T2x n h = tt
-  coordinate-near Lx n h = tt
-  coordinate-near Px n h = completes-has Former r (near _ (s .first)) (near _ (s .second)) (shapeOf (r .figure .shape)) _ (vertexOf r n) (vertex-near n h)
+  vertex-near : (n : ℕ) → wasCoordinate n ≡ true → AllVertices Former (vertexCompletes r n)
+  vertex-near n h = vertex-has Former r (near _ (s .first)) (near _ (s .second)) n (record { across = leb-true _ _ h; up = leb-true _ _ (s .y) })
 
   completed-near : (w : Word) → wasWord r w ≡ true → AllVertices Former (completedBy r w)
-  unfolding completedBy
-  completed-near (Init d) h = tt
-  completed-near (Aux n) h = tt
-  completed-near (Parm v) h = tt
-  completed-near (At c n) h = coordinate-near c n h
-  completed-near (Img d) h = tt
-  completed-near (Ptrn v) h = tt
-  completed-near Reserved h = tt
-  completed-near Unmodelled h = tt
-  completed-near Unknown h = tt
+  completed-near = only-x-and-px (λ w f. wasWord r w ≡ true → AllVertices Former (f r)) (λ w h. tt) vertex-near vertex-near
 
 -- and the region's row
 region-low : (r : Registers) → wasRecord r ≡ true → r .region .y ≤ formerCoordinate
@@ -77,23 +54,7 @@ region-low r h = leb-true _ _ (region-each (r .region) (inside-parts r h .region
 -- ---- a word
 
 completed-same : (r : Registers) (v : Window) (w : Word) → completedBy (withWindow r v) w ≡ completedBy r w
-unfolding completedBy coordinateCompletes
-completed-same r v (Init d) = refl
-completed-same r v (Aux n) = refl
-completed-same r v (Parm n) = refl
-completed-same r v (At I n) = refl
-completed-same r v (At Z n) = refl
-completed-same r v (At Y n) = refl
-completed-same r v (At X n) = refl
-completed-same r v (At T1x n) = refl
-completed-same r v (At T2x n) = refl
-completed-same r v (At Lx n) = refl
-completed-same r v (At Px n) = refl
-completed-same r v (Img d) = refl
-completed-same r v (Ptrn n) = refl
-completed-same r v Reserved = refl
-completed-same r v Unmodelled = refl
-completed-same r v Unknown = refl
+completed-same r v = only-x-and-px (λ w f. f (withWindow r v) ≡ f r) (λ w. refl) (λ n. refl) (λ n. refl)
 
 module _ (r : Registers) (v : Window) (h : Widened (r .window) v) (w : Word) (m : Memories) (t : Taken (length (m .i)) (length (m .z)) r w) where
   abbrev now : Registers

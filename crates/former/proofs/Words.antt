@@ -13,7 +13,6 @@ use Rattle.registers.specs.declared.word.Word.the-variants.{Init, Aux, Parm, At
 use Rattle.registers.specs.declared.word.Coordinate.{Coordinate}
 use Rattle.registers.specs.declared.word.Coordinate.the-variants.{I, Z, Y, X, T1x, T2x, Lx, Px}
 use Rattle.registers.specs.declared.subcommand.Subcommand.{Subcommand}
-use Rattle.registers.specs.declared.subcommand.Subcommand.the-variants.{Nothing, Pmode, Lmode, Zcontrol, Hcontrol, Tpattern, Window as Win, Section, Color, Lpattern, Mask, Lstatus, Imode, Load, Save}
 use Rattle.registers.specs.Record.{nothingAwaited, settings, withWindow, withParked}
 use Rattle.registers.specs.Subcommand.{wants}
 use Rattle.registers.specs.Next.{awaited, joinedOf, counted, effectOf, parmOf, coordinateOf, after}
@@ -21,8 +20,9 @@ use Rattle.registers.specs.Allowed.{allowed, fits}
 use Rattle.registers.specs.Bounds.{windowFits}
 use Rattle.registers.specs.Refusal.{tableOf, table, isUnfit, refusalOf, readTable, readRefusalOf}
 use Rattle.registers.proofs.Truth.{neither}
+use Rattle.registers.proofs.Effects.{effect-has}
 use Rattle.registers.proofs.Refusals.{accepted-when, read-when, lowest-none}
-use Rattle.registers.proofs.Kept.{Sound, parts, whole}
+use Rattle.registers.proofs.Kept.{parts, whole, sound-window}
 use Rattle.former.specs.Former.{wasWord, wasRecord, wasUnfit, wasBarred, wasRefused, wasAfter, wasReadRefused}
 use Rattle.former.specs.Request.{Widened, kept, first, Alike}
 
@@ -75,9 +75,6 @@ module _ (r : Registers) (v : Window) where
   fits-same Unmodelled = refl
   fits-same Unknown = refl
 
-  pub sound-same : windowFits v ≡ true → Sound r → Sound (withWindow r v)
-  sound-same h s = record { started = s .started; frame = s .frame; modes = s .modes; window = h; y = s .y; figure = s .figure; parked = s .parked; region = s .region }
-
 -- today's window of a record that breaks no bound breaks none
 window-fits : (w v : Window) → Widened w v → windowFits w ≡ true → windowFits v ≡ true
 unfolding windowFits
@@ -93,7 +90,7 @@ wider-taken ni nz r v w h e =
     (record {
       known = a .known;
       same = a .same;
-      sound = whole (withWindow r v) (sound-same r v (window-fits (r .window) v h (s .window)) s);
+      sound = whole (withWindow r v) (sound-window s v (window-fits (r .window) v h (s .window)));
       begun = a .begun;
       assigned = a .assigned;
       modelled = a .modelled;
@@ -116,29 +113,22 @@ read-taken ni nz r v h e =
     let fit = neither (isUnfit ni nz r) (not (wasRecord r)) (q .0) in
     let a = read-when ni nz r .0 (lowest-none 1 (readTable (isUnfit ni nz r) r) .1 (fit .0, q .1)) in
     let s = parts r (a .sound) in
-    let sound = whole (withWindow r v) (sound-same r v (window-fits (r .window) v h (s .window)) s) in
+    let sound = whole (withWindow r v) (sound-window s v (window-fits (r .window) v h (s .window))) in
     (read-when ni nz (withWindow r v) .1 (record { same = a .same; sound = sound; begun = a .begun; idle = a .idle; outward = a .outward }), not-false _ (fit .1))
 
 -- ---- the record after a word
 
 module _ (r : Registers) (v : Window) (h : Widened (r .window) v) where
   effect-alike : (s : Subcommand) (p : List ℕ) → Alike (withParked (effectOf r s p) nothingAwaited) (withParked (effectOf (withWindow r v) s p) nothingAwaited)
-  unfolding effectOf
-  effect-alike Nothing p = record { window = h; rest = refl }
-  effect-alike Pmode p = record { window = h; rest = refl }
-  effect-alike Lmode p = record { window = h; rest = refl }
-  effect-alike Zcontrol p = record { window = h; rest = refl }
-  effect-alike Hcontrol p = record { window = h; rest = refl }
-  effect-alike Tpattern p = record { window = h; rest = refl }
-  effect-alike Win p = record { window = kept refl; rest = refl }
-  effect-alike Section p = record { window = h; rest = refl }
-  effect-alike Color p = record { window = h; rest = refl }
-  effect-alike Lpattern p = record { window = h; rest = refl }
-  effect-alike Mask p = record { window = h; rest = refl }
-  effect-alike Lstatus p = record { window = h; rest = refl }
-  effect-alike Imode p = record { window = h; rest = refl }
-  effect-alike Load p = record { window = h; rest = refl }
-  effect-alike Save p = record { window = h; rest = refl }
+  effect-alike s p =
+      effect-has (λ u. Alike (withParked (u r) nothingAwaited) (withParked (u (withWindow r v)) nothingAwaited)) s p
+      (record {
+        none = record { window = h; rest = refl };
+        modes = λ f k. record { window = h; rest = refl };
+        window = λ w. record { window = kept refl; rest = refl };
+        dash = λ f. record { window = h; rest = refl };
+        region = λ g k. record { window = h; rest = refl };
+      })
 
   parm-alike : (n : ℕ) → Alike (parmOf r n) (parmOf (withWindow r v) n)
   unfolding parmOf

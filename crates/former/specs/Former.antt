@@ -3,12 +3,12 @@
 -- rows lie one after the other.
 use Prim.Native.Nat.{ℕ, min}
 use mathlib.Core.Bool.{Bool, true, cond, not, _&&_, _||_}
-use mathlib.Core.List.{List}
 use lib.Dec.{leb, eqb}
 use lib.ListN.{length, getD}
 use Rattle.picture.specs.declared.Vertex.{Vertex}
 use Rattle.picture.specs.Place.{placeOf, rowsOf, inMemory}
 use Rattle.registers.specs.declared.Window.{Window}
+use Rattle.registers.specs.declared.Parked.{Parked}
 use Rattle.registers.specs.declared.Region.{Region}
 use Rattle.registers.specs.declared.Registers.{Registers}
 use Rattle.registers.specs.declared.word.Word.{Word}
@@ -18,8 +18,10 @@ use Rattle.registers.specs.declared.word.Coordinate.the-variants.{I, Z, Y, X, T
 use Rattle.registers.specs.declared.subcommand.Subcommand.{Subcommand}
 use Rattle.registers.specs.declared.subcommand.Subcommand.the-variants.{Nothing, Pmode, Lmode, Zcontrol, Hcontrol, Tpattern, Window as Win, Section, Color, Lpattern, Mask, Lstatus, Imode, Load, Save}
 use Rattle.registers.specs.Record.{window, withWindow, resetOf}
-use Rattle.registers.specs.Next.{value, awaited, isDeepPicture, transferredOf, after, completedBy, penOf}
+use Rattle.registers.specs.Subcommand.{subcommandOf}
+use Rattle.registers.specs.Next.{awaited, isDeepPicture, transferredOf, after, completedBy, penOf}
 use Rattle.registers.specs.Allowed.{allowed}
+use Rattle.registers.specs.Bounds.{eachCame}
 use Rattle.registers.specs.Refusal.{isInit, tableOf, lowest, isUnfit, readTable}
 use Rattle.machine.specs.Machine.{Machine, Memories}
 use Rattle.chip.specs.declared.transfer.Reading.{Reading}
@@ -89,26 +91,27 @@ wasWord r Reserved = true
 wasWord r Unmodelled = true
 wasWord r Unknown = true
 
--- a record, part by part: the window, the Y register, the vertices, what is parked, the region
+-- a record, part by part: the window, the Y register, the vertices, the values that have come, the region
 unfoldable pub wasWindow : Window → Bool
 wasWindow w = wasBorder (w .left) && wasBorder (w .top) && wasBorder (w .right) && wasBorder (w .bottom)
 
 unfoldable pub wasVertex : Vertex → Bool
 wasVertex v = wasCoordinate (v .x) && wasCoordinate (v .y)
 
-unfoldable pub wasValues : Subcommand → List ℕ → Bool
-wasValues s p = wasValue s (value p 0) && wasValue s (value p 1) && wasValue s (value p 2) && wasValue s (value p 3)
+abbrev pub wasParked : Parked → Bool
+wasParked p = eachCame (λ k v. wasValue (subcommandOf (p .subcommand)) v) (p .values) (p .came)
 
 unfoldable pub wasRegion : Region → Bool
 wasRegion g = wasCoordinate (g .x0) && wasCoordinate (g .x1) && wasCoordinate (g .y1) && wasCoordinate (g .x) && wasCoordinate (g .y)
 
+-- and all of it
 unfoldable pub wasRecord : Registers → Bool
 wasRecord r =
     wasWindow (r .window)
     && wasCoordinate (r .latch .y)
     && wasVertex (r .figure .first)
     && wasVertex (r .figure .second)
-    && wasValues (awaited r) (r .parked .values)
+    && wasParked (r .parked)
     && wasRegion (r .region)
 
 -- ---- the machine

@@ -17,7 +17,7 @@ use Rattle.registers.specs.Refusal.{isUnknown, isCold, refusalOf}
 use Rattle.registers.proofs.Truth.{both, and-both}
 use Rattle.registers.proofs.Commands.{decode-unknown}
 use Rattle.registers.proofs.Refusals.{given-1, given-11, given-12, given-13, given-most}
-use Rattle.registers.proofs.Forms.{accepted-begun}
+use Rattle.registers.proofs.Begun.{accepted-begun}
 use Rattle.machine.specs.Run.{Outcome, outcome, Ran, ran, advance, runFrom}
 use Rattle.machine.specs.Machine.{Memories, stepOf}
 use Rattle.machine.proofs.Runs.{advance-accepted, advance-refused, advance-stays, Comes, took, halted, stood, comes}

@@ -1,19 +1,15 @@
 -- What the table of numbers asks of a word, told by its command and data, as document 01 tells it. All questions are answered together, for
 -- the sixteen commands one by one and for those above. Assumes nothing.
-use mathlib.Core.Path.{_≡_, refl, sym, ap, _∙_}
+use mathlib.Core.Path.{_≡_, refl, ap}
 use mathlib.Core.Bool.{false, _&&_, _||_}
-use mathlib.Core.Logic.{_↔_}
 use Prim.Native.Nat.{ℕ, _<_, _≤_}
 use native.Mathlib.Omega.{arith}
 use lib.Dec.{T, ltb, eqb, ltb→lt}
-use borrow.Author.Tests.{lt-ltb, ltb-true, ne-eqb}
-use Rattle.registers.specs.declared.word.Word.{Word}
+use borrow.Author.Tests.{lt-ltb, ne-eqb}
 use Rattle.registers.specs.declared.word.Word.the-variants.{Unknown}
-use Rattle.registers.specs.declared.Registers.{Registers}
 use Rattle.registers.specs.Word.{commands, decode}
-use Rattle.registers.specs.Refusal.{Asked, asked, askedOf, isInit, isParm, isUnknown, isReserved, isUnmodelled, isAbove, isPtrn, refusalOf}
+use Rattle.registers.specs.Refusal.{Asked, asked, askedOf, isInit, isParm, isUnknown, isReserved, isUnmodelled, isAbove, isPtrn}
 use Rattle.registers.proofs.Table.{everywhere}
-use Rattle.registers.proofs.Refusals.{given-1}
 
 module _ (d : ℕ) where
   abbrev ofCommand : ℕ → Asked
@@ -59,9 +55,3 @@ module _ (c d : ℕ) where
   -- 0 is PTRN
   pub decode-ptrn : isPtrn (decode c d) ≡ eqb c 0
   decode-ptrn = ap (λ (a : Asked). a .ptrn) (told d c)
-
-  -- 1 is given exactly when the command is above 15
-  pub refusal-1 : (ni nz : ℕ) (r : Registers) → (refusalOf ni nz r (decode c d) ≡ 1) ↔ (15 < c)
-  refusal-1 ni nz r =
-      let q = given-1 ni nz r (decode c d) in
-      (λ e. ltb-true 15 c (sym decode-unknown ∙ q .0 e), λ h. q .1 (decode-unknown ∙ lt-ltb 15 c h))

@@ -28,22 +28,24 @@ use Rattle.registers.specs.declared.Figure.{Figure}
 use Rattle.registers.specs.declared.Parked.{Parked}
 use Rattle.registers.specs.declared.Region.{Region}
 use Rattle.registers.specs.declared.Registers.{Registers}
-use Rattle.registers.specs.Lines.{chipsIn, unitIn, pageIn, codeIn, lineOf}
-use Rattle.registers.specs.Record.{noVertex, opened, awaiting, nothingAwaited, regionOf, noRegion, window, settings, resetAs, resetOf, initOf, withPmode, withLmode, withZcontrol, withHcontrol, withLstatus, withTransparency, withPlanes, withSection, withModes, withWindow, withDash, withLatch, withFigure, withParked, withRegion}
+use Rattle.registers.specs.Lines.{shortestLine, largestPage, chipsIn, unitIn, pageIn, codeIn, lineOf}
+use Rattle.registers.specs.Record.{noNumber, loadNumber, patternLength, noVertex, opened, awaiting, nothingAwaited, regionOf, noRegion, window, settings, resetAs, resetOf, initOf, withPmode, withLmode, withZcontrol, withHcontrol, withLstatus, withTransparency, withPlanes, withSection, withModes, withWindow, withDash, withLatch, withFigure, withParked, withRegion}
 use Rattle.registers.specs.Region.{toward, moved, nextPixel}
-use Rattle.registers.specs.Subcommand.{subcommands, subcommandOf, wants}
+use Rattle.registers.specs.Subcommand.{largestAux, subcommands, subcommandOf, wants}
 use Rattle.registers.specs.Figure.{shapeOf, vertexOf, isPair, advanced, grownOf, figureAfter}
 use Rattle.registers.specs.Next.{value, awaited, joinedOf, counted, effectOf, parmOf, coordinateOf, imgNumber, transferredOf, after}
-use Rattle.registers.specs.Allowed.{isCoordinate, isBorder, onlyBits, zcontrolBits, hcontrolBits, lstatusBits, initAllowed, parameterAllowed, coordinateAllowed, allowed}
-use Rattle.registers.specs.Bounds.{frameFits, modesFit, windowFits, vertexFits, figureFits, valueFits, valuesFit, parkedFits, regionFits, inBounds}
+use Rattle.registers.specs.Allowed.{isCoordinate, isBorder, initAllowed, parameterAllowed, coordinateAllowed, allowed}
+use Rattle.registers.specs.Bounds.{largestLayout, frameFits, modesFit, windowFits, vertexFits, figureFits, eachCame, parkedFits, regionFits, inBounds}
 use Rattle.registers.specs.Refusal.{isUnmodelled, isAbove, table, lowest, isUnfit, refusalOf, next, readRefusalOf}
 use Rattle.registers.proofs.Truth.{and-both, All, chain-all, all-chain, chosen}
 use Rattle.registers.proofs.Table.{everywhere}
+use Rattle.registers.proofs.Parking.{came-each, came-more}
 use Rattle.registers.proofs.Lengths.{line-fits, frame-laid}
 use Rattle.registers.proofs.Refusals.{Accepted, accepted-when, given-2, read-when, read-2}
 
 -- ---- the bounds, part by part
 
+-- each part breaks no bound
 pub record Sound (r : Registers) : Type 0 where
   pub started : leb (r .started) 1 ≡ true
   pub frame : frameFits (r .frame) ≡ true
@@ -79,12 +81,12 @@ module _ (r : Registers) where
   unfolding inBounds
   whole s = all-chain (leb (r .started) 1) tests (s .started, (s .frame, (s .modes, (s .window, (s .y, (s .figure, (s .parked, (s .region, tt))))))))
 
--- a part is replaced
+-- a part is replaced by one that breaks no bound
 module _ {r : Registers} (s : Sound r) where
   sound-modes : (m : Modes) → modesFit m ≡ true → Sound (withModes r m)
   sound-modes m h = record { started = s .started; frame = s .frame; modes = h; window = s .window; y = s .y; figure = s .figure; parked = s .parked; region = s .region }
 
-  sound-window : (w : Window) → windowFits w ≡ true → Sound (withWindow r w)
+  pub sound-window : (w : Window) → windowFits w ≡ true → Sound (withWindow r w)
   sound-window w h = record { started = s .started; frame = s .frame; modes = s .modes; window = h; y = s .y; figure = s .figure; parked = s .parked; region = s .region }
 
   sound-dash : (d : Dash) → Sound (withDash r d)
@@ -105,30 +107,30 @@ module _ {r : Registers} (s : Sound r) where
 -- ---- the modes, one of them replaced
 
 abbrev rest : Modes → List Bool
-rest m = leb (m .lmode) 2 ∷ onlyBits zcontrolBits (m .zcontrol) ∷ onlyBits hcontrolBits (m .hcontrol) ∷ onlyBits lstatusBits (m .lstatus) ∷ []
+rest m = parameterAllowed Lmode 0 (m .lmode) ∷ parameterAllowed Zcontrol 0 (m .zcontrol) ∷ parameterAllowed Hcontrol 0 (m .hcontrol) ∷ parameterAllowed Lstatus 0 (m .lstatus) ∷ []
 
-modes-fit : (m : Modes) → All (leb (m .pmode) 1 ∷ rest m) → modesFit m ≡ true
+modes-fit : (m : Modes) → All (parameterAllowed Pmode 0 (m .pmode) ∷ rest m) → modesFit m ≡ true
 unfolding modesFit
-modes-fit m = all-chain (leb (m .pmode) 1) (rest m)
+modes-fit m = all-chain (parameterAllowed Pmode 0 (m .pmode)) (rest m)
 
 module _ (m : Modes) (h : modesFit m ≡ true) where
-  each : All (leb (m .pmode) 1 ∷ rest m)
+  each : All (parameterAllowed Pmode 0 (m .pmode) ∷ rest m)
   unfolding modesFit
-  each = chain-all (leb (m .pmode) 1) (rest m) h
+  each = chain-all (parameterAllowed Pmode 0 (m .pmode)) (rest m) h
 
-  pmode-fits : (v : ℕ) → leb v 1 ≡ true → modesFit (withPmode m v) ≡ true
+  pmode-fits : (v : ℕ) → parameterAllowed Pmode 0 v ≡ true → modesFit (withPmode m v) ≡ true
   pmode-fits v e = modes-fit (withPmode m v) (e, each .1)
 
-  lmode-fits : (v : ℕ) → leb v 2 ≡ true → modesFit (withLmode m v) ≡ true
+  lmode-fits : (v : ℕ) → parameterAllowed Lmode 0 v ≡ true → modesFit (withLmode m v) ≡ true
   lmode-fits v e = modes-fit (withLmode m v) (each .0, (e, each .1 .1))
 
-  zcontrol-fits : (v : ℕ) → onlyBits zcontrolBits v ≡ true → modesFit (withZcontrol m v) ≡ true
+  zcontrol-fits : (v : ℕ) → parameterAllowed Zcontrol 0 v ≡ true → modesFit (withZcontrol m v) ≡ true
   zcontrol-fits v e = modes-fit (withZcontrol m v) (each .0, (each .1 .0, (e, each .1 .1 .1)))
 
-  hcontrol-fits : (v : ℕ) → onlyBits hcontrolBits v ≡ true → modesFit (withHcontrol m v) ≡ true
+  hcontrol-fits : (v : ℕ) → parameterAllowed Hcontrol 0 v ≡ true → modesFit (withHcontrol m v) ≡ true
   hcontrol-fits v e = modes-fit (withHcontrol m v) (each .0, (each .1 .0, (each .1 .1 .0, (e, each .1 .1 .1 .1))))
 
-  lstatus-fits : (v : ℕ) → onlyBits lstatusBits v ≡ true → modesFit (withLstatus m v) ≡ true
+  lstatus-fits : (v : ℕ) → parameterAllowed Lstatus 0 v ≡ true → modesFit (withLstatus m v) ≡ true
   lstatus-fits v e = modes-fit (withLstatus m v) (each .0, (each .1 .0, (each .1 .1 .0, (each .1 .1 .1 .0, (e, tt)))))
 
   -- the three that any number may be
@@ -143,101 +145,28 @@ module _ (m : Modes) (h : modesFit m ≡ true) where
 
 -- ---- parameters
 
--- a parameter that is allowed may be parked
-value-fits : (s : Subcommand) (k v : ℕ) → parameterAllowed s k v ≡ true → valueFits s v ≡ true
-value-fits Nothing k v a = refl
-value-fits Pmode k v a = refl
-value-fits Lmode k v a = refl
-value-fits Zcontrol k v a = refl
-value-fits Hcontrol k v a = refl
-value-fits Tpattern k v a = refl
-value-fits Win k v a = chosen (λ (b : Bool). b ≡ true → isBorder v ≡ true) (ltb k 4) (isBorder v) (eqb v 0) (λ t e. e) (λ t e. rw (eqb-true v 0 e)) a
-value-fits Section k v a = refl
-value-fits Color k v a = refl
-value-fits Lpattern k v a = refl
-value-fits Mask k v a = refl
-value-fits Lstatus k v a = refl
-value-fits Imode k v a = refl
-value-fits Load k v a = a
-value-fits Save k v a = a
+-- 0 is allowed of each parameter
+zero-allowed : (s : Subcommand) (k : ℕ) → parameterAllowed s k 0 ≡ true
+zero-allowed Nothing k = refl
+zero-allowed Pmode k = refl
+zero-allowed Lmode k = refl
+zero-allowed Zcontrol k = refl
+zero-allowed Hcontrol k = refl
+zero-allowed Tpattern k = refl
+zero-allowed Win k = chosen (λ (b : Bool). b ≡ true) (ltb k 4) (isBorder 0) (eqb 0 0) (λ t. refl) (λ t. refl)
+zero-allowed Section k = refl
+zero-allowed Color k = refl
+zero-allowed Lpattern k = refl
+zero-allowed Mask k = refl
+zero-allowed Lstatus k = refl
+zero-allowed Imode k = refl
+zero-allowed Load k = refl
+zero-allowed Save k = refl
 
--- and so may 0
-zero-fits : (s : Subcommand) → valueFits s 0 ≡ true
-zero-fits Nothing = refl
-zero-fits Pmode = refl
-zero-fits Lmode = refl
-zero-fits Zcontrol = refl
-zero-fits Hcontrol = refl
-zero-fits Tpattern = refl
-zero-fits Win = refl
-zero-fits Section = refl
-zero-fits Color = refl
-zero-fits Lpattern = refl
-zero-fits Mask = refl
-zero-fits Lstatus = refl
-zero-fits Imode = refl
-zero-fits Load = refl
-zero-fits Save = refl
-
--- the four values that are bounded, one by one
-abbrev others : Subcommand → List ℕ → List Bool
-others s l = valueFits s (value l 1) ∷ valueFits s (value l 2) ∷ valueFits s (value l 3) ∷ []
-
-each-fits : (s : Subcommand) (l : List ℕ) → valuesFit s l ≡ true → All (valueFits s (value l 0) ∷ others s l)
-unfolding valuesFit
-each-fits s l = chain-all (valueFits s (value l 0)) (others s l)
-
-all-fit : (s : Subcommand) (l : List ℕ) → All (valueFits s (value l 0) ∷ others s l) → valuesFit s l ≡ true
-unfolding valuesFit
-all-fit s l = all-chain (valueFits s (value l 0)) (others s l)
-
-zeros-fit : (s : Subcommand) → valuesFit s (0 ∷ 0 ∷ 0 ∷ 0 ∷ 0 ∷ []) ≡ true
-zeros-fit s = let z = zero-fits s in all-fit s _ (z, (z, (z, (z, tt))))
-
--- what is so of a new value and of those that were there is so of all
-pub set-keeps : (P : ℕ → Bool) (l : List ℕ) (i v k : ℕ) → P v ≡ true → P (value l k) ≡ true → P (value (set l i v) k) ≡ true
-set-keeps P [] i v k p q = q
-set-keeps P (x ∷ xs) zero v zero p q = p
-set-keeps P (x ∷ xs) zero v (suc k) p q = q
-set-keeps P (x ∷ xs) (suc i) v zero p q = q
-set-keeps P (x ∷ xs) (suc i) v (suc k) p q = set-keeps P xs i v k p q
-
--- an allowed parameter beside those that are parked
-values-set : (s : Subcommand) (l : List ℕ) (k v : ℕ) → parameterAllowed s k v ≡ true → valuesFit s l ≡ true → valuesFit s (set l k v) ≡ true
-values-set s l k v a e =
-    let q = each-fits s l e in
-    let b = value-fits s k v a in
-    let keep : (n : ℕ) → valueFits s (value l n) ≡ true → valueFits s (value (set l k v) n) ≡ true = λ n p. set-keeps (valueFits s) l k v n b p in
-    all-fit s (set l k v) (keep 0 (q .0), (keep 1 (q .1 .0), (keep 2 (q .1 .1 .0), (keep 3 (q .1 .1 .1 .0), tt))))
-
--- a first parameter is the only one
-alone : (P : ℕ → Bool) (l : List ℕ) (k v : ℕ) → k ≡ 0 → P 0 ≡ true → P v ≡ true → P (value (set l k v) 0) ≡ true
-alone P [] k v e z p = z
-alone P (x ∷ xs) zero v e z p = p
-alone P (x ∷ xs) (suc k) v e z p = absurd (omega (arith, e))
-
--- once the last has come the first is such as the subcommand allows
-first-allowed : (s : Subcommand) (l : List ℕ) (k v : ℕ) → k ≤ wants s - 1 → valuesFit s (set l k v) ≡ true → parameterAllowed s k v ≡ true
-    → parameterAllowed s 0 (value (set l k v) 0) ≡ true
-first-allowed Nothing l k v h f a = refl
-first-allowed Pmode l k v h f a = alone (parameterAllowed Pmode 0) l k v (omega (arith, h)) refl a
-first-allowed Lmode l k v h f a = alone (parameterAllowed Lmode 0) l k v (omega (arith, h)) refl a
-first-allowed Zcontrol l k v h f a = alone (parameterAllowed Zcontrol 0) l k v (omega (arith, h)) refl a
-first-allowed Hcontrol l k v h f a = alone (parameterAllowed Hcontrol 0) l k v (omega (arith, h)) refl a
-first-allowed Tpattern l k v h f a = refl
-first-allowed Win l k v h f a = each-fits Win (set l k v) f .0
-first-allowed Section l k v h f a = refl
-first-allowed Color l k v h f a = refl
-first-allowed Lpattern l k v h f a = refl
-first-allowed Mask l k v h f a = refl
-first-allowed Lstatus l k v h f a = alone (parameterAllowed Lstatus 0) l k v (omega (arith, h)) refl a
-first-allowed Imode l k v h f a = alone (parameterAllowed Imode 0) l k v (omega (arith, h)) refl a
-first-allowed Load l k v h f a = each-fits Load (set l k v) f .0
-first-allowed Save l k v h f a = each-fits Save (set l k v) f .0
-
-borders-fit : (l : List ℕ) → valuesFit Win l ≡ true → windowFits (window (value l 0) (value l 1) (value l 2) (value l 3)) ≡ true
-unfolding valuesFit windowFits
-borders-fit l f = f
+-- borders make a window
+borders-fit : (left top right bottom : ℕ) → All (isBorder left ∷ isBorder top ∷ isBorder right ∷ isBorder bottom ∷ []) → windowFits (window left top right bottom) ≡ true
+unfolding windowFits
+borders-fit left top right bottom = all-chain (isBorder left) (isBorder top ∷ isBorder right ∷ isBorder bottom ∷ [])
 
 -- corners make a region, whatever its way
 corners-fit : (way x0 y0 x1 y1 : ℕ) → leb way 2 ≡ true → All (isCoordinate x0 ∷ isCoordinate y0 ∷ isCoordinate x1 ∷ isCoordinate y1 ∷ [])
@@ -247,33 +176,34 @@ corners-fit way x0 y0 x1 y1 w q =
     all-chain (leb way 2) (isCoordinate x0 ∷ isCoordinate x1 ∷ isCoordinate y1 ∷ isCoordinate x0 ∷ isCoordinate y0 ∷ [])
     (w, (q .0, (q .1 .1 .0, (q .1 .1 .1 .0, (q .0, (q .1 .0, tt))))))
 
-effect-sound : (r : Registers) (s : Subcommand) (l : List ℕ) → Sound r → parameterAllowed s 0 (value l 0) ≡ true → valuesFit s l ≡ true → Sound (effectOf r s l)
+-- parameters that are allowed, each for its place, take effect within the bounds
+effect-sound : (r : Registers) (s : Subcommand) (l : List ℕ) → Sound r → ((k : ℕ) → k < wants s → parameterAllowed s k (value l k) ≡ true) → Sound (effectOf r s l)
 unfolding effectOf
-effect-sound r Nothing l h a f = h
-effect-sound r Pmode l h a f = sound-modes h _ (pmode-fits (r .modes) (h .modes) (value l 0) a)
-effect-sound r Lmode l h a f = sound-modes h _ (lmode-fits (r .modes) (h .modes) (value l 0) a)
-effect-sound r Zcontrol l h a f = sound-modes h _ (zcontrol-fits (r .modes) (h .modes) (value l 0) a)
-effect-sound r Hcontrol l h a f = sound-modes h _ (hcontrol-fits (r .modes) (h .modes) (value l 0) a)
-effect-sound r Tpattern l h a f = sound-modes h _ (transparency-fits (r .modes) (h .modes) (value l 0))
-effect-sound r Win l h a f = sound-window h _ (borders-fit l f)
-effect-sound r Section l h a f = sound-modes h _ (section-fits (r .modes) (h .modes) (value l 0))
-effect-sound r Color l h a f = sound-dash h _
-effect-sound r Lpattern l h a f = sound-dash h _
-effect-sound r Mask l h a f = sound-modes h _ (planes-fits (r .modes) (h .modes) (value l 0))
-effect-sound r Lstatus l h a f = sound-modes h _ (lstatus-fits (r .modes) (h .modes) (value l 0) a)
-effect-sound r Imode l h a f = h
-effect-sound r Load l h a f = sound-region h _ (corners-fit 1 _ _ _ _ refl (each-fits Load l f))
-effect-sound r Save l h a f = sound-region h _ (corners-fit 2 _ _ _ _ refl (each-fits Save l f))
+effect-sound r Nothing l h a = h
+effect-sound r Pmode l h a = sound-modes h _ (pmode-fits (r .modes) (h .modes) (value l 0) (a 0 (omega arith)))
+effect-sound r Lmode l h a = sound-modes h _ (lmode-fits (r .modes) (h .modes) (value l 0) (a 0 (omega arith)))
+effect-sound r Zcontrol l h a = sound-modes h _ (zcontrol-fits (r .modes) (h .modes) (value l 0) (a 0 (omega arith)))
+effect-sound r Hcontrol l h a = sound-modes h _ (hcontrol-fits (r .modes) (h .modes) (value l 0) (a 0 (omega arith)))
+effect-sound r Tpattern l h a = sound-modes h _ (transparency-fits (r .modes) (h .modes) (value l 0))
+effect-sound r Win l h a = sound-window h _ (borders-fit _ _ _ _ (a 0 (omega arith), (a 1 (omega arith), (a 2 (omega arith), (a 3 (omega arith), tt)))))
+effect-sound r Section l h a = sound-modes h _ (section-fits (r .modes) (h .modes) (value l 0))
+effect-sound r Color l h a = sound-dash h _
+effect-sound r Lpattern l h a = sound-dash h _
+effect-sound r Mask l h a = sound-modes h _ (planes-fits (r .modes) (h .modes) (value l 0))
+effect-sound r Lstatus l h a = sound-modes h _ (lstatus-fits (r .modes) (h .modes) (value l 0) (a 0 (omega arith)))
+effect-sound r Imode l h a = h
+effect-sound r Load l h a = sound-region h _ (corners-fit 1 _ _ _ _ refl (a 0 (omega arith), (a 1 (omega arith), (a 2 (omega arith), (a 3 (omega arith), tt)))))
+effect-sound r Save l h a = sound-region h _ (corners-fit 2 _ _ _ _ refl (a 0 (omega arith), (a 1 (omega arith), (a 2 (omega arith), (a 3 (omega arith), tt)))))
 
 -- ---- what is awaited
 
 -- AUX up to 12 has a subcommand with parameters just where it is modelled
-pub aux-takes : (n : ℕ) → isAbove (Aux n) ≡ false → ltb 0 (wants (subcommandOf n)) ≡ not (isUnmodelled (Aux n))
+aux-takes : (n : ℕ) → isAbove (Aux n) ≡ false → ltb 0 (wants (subcommandOf n)) ≡ not (isUnmodelled (Aux n))
 unfolding subcommandOf
 aux-takes =
     everywhere (λ n s. isAbove (Aux n) ≡ false → ltb 0 (wants s) ≡ not (isUnmodelled (Aux n))) Nothing subcommands
     (same, (same, (same, (same, (same, (same, (same, (same, (same, (same, (same, (same, (same, (never, (never, (never, tt))))))))))))))))
-    (λ n h a. absurd (omega (arith, h, ltb-false 12 n a)))
+    (λ n h a. absurd (omega (arith, h, ltb-false largestAux n a)))
   where
     same : {a b : Bool} → a ≡ false → b ≡ b
     same e = refl
@@ -282,13 +212,13 @@ aux-takes =
     never e = absurd (true≢false e)
 
 -- no parameter has come
-awaiting-fits : (n : ℕ) → eqb n 13 || ltb 0 (wants (subcommandOf n)) ≡ true → parkedFits (awaiting n) ≡ true
+awaiting-fits : (n : ℕ) → eqb n noNumber || ltb 0 (wants (subcommandOf n)) ≡ true → parkedFits (awaiting n) ≡ true
 unfolding parkedFits
-awaiting-fits n e = and-both (and-both e (leb·zero (wants (subcommandOf n) - 1))) (zeros-fit (subcommandOf n))
+awaiting-fits n e = and-both (and-both e (leb·zero (wants (subcommandOf n) - 1))) refl
 
 nothing-fits : parkedFits nothingAwaited ≡ true
 unfolding subcommandOf
-nothing-fits = awaiting-fits 13 refl
+nothing-fits = awaiting-fits noNumber refl
 
 aux-fits : (n : ℕ) → isUnmodelled (Aux n) ≡ false → isAbove (Aux n) ≡ false → parkedFits (awaiting n) ≡ true
 aux-fits n m a =
@@ -300,9 +230,9 @@ img-fits : (d : ℕ) → parkedFits (awaiting (imgNumber d)) ≡ true
 unfolding subcommandOf
 img-fits d = go (d % 2) (omega arith)
   where
-    go : (k : ℕ) → k < 2 → parkedFits (awaiting (14 + k)) ≡ true
-    go zero h = awaiting-fits 14 refl
-    go (suc zero) h = awaiting-fits 15 refl
+    go : (k : ℕ) → k < 2 → parkedFits (awaiting (loadNumber + k)) ≡ true
+    go zero h = awaiting-fits loadNumber refl
+    go (suc zero) h = awaiting-fits (loadNumber + 1) refl
     go (suc (suc k)) h = absurd (omega (arith, h))
 
 -- one more has come
@@ -310,28 +240,29 @@ module _ (p : Parked) (h : parkedFits p ≡ true) (v : ℕ) (a : parameterAllowe
   abbrev kind : Subcommand
   kind = subcommandOf (p .subcommand)
 
-  each-parked : All ((eqb (p .subcommand) 13 || ltb 0 (wants kind)) ∷ leb (p .came) (wants kind - 1) ∷ valuesFit kind (p .values) ∷ [])
+  each-parked : All ((eqb (p .subcommand) noNumber || ltb 0 (wants kind)) ∷ leb (p .came) (wants kind - 1) ∷ eachCame (parameterAllowed kind) (p .values) (p .came) ∷ [])
   unfolding parkedFits
-  each-parked = chain-all (eqb (p .subcommand) 13 || ltb 0 (wants kind)) (_ ∷ _ ∷ []) h
+  each-parked = chain-all (eqb (p .subcommand) noNumber || ltb 0 (wants kind)) (_ ∷ _ ∷ []) h
 
-  joined-values : valuesFit kind (set (p .values) (p .came) v) ≡ true
-  joined-values = values-set kind (p .values) (p .came) v a (each-parked .1 .1 .0)
-
-  joined-first : parameterAllowed kind 0 (value (set (p .values) (p .came) v) 0) ≡ true
-  joined-first = first-allowed kind (p .values) (p .came) v (leb-true _ _ (each-parked .1 .0)) joined-values a
+  joined-came : eachCame (parameterAllowed kind) (set (p .values) (p .came) v) (p .came + 1) ≡ true
+  joined-came = came-more (parameterAllowed kind) (p .values) (p .came) v (zero-allowed kind (p .came)) a (each-parked .1 .1 .0)
 
   counted-fits : p .came + 1 < wants kind → parkedFits (counted (joinedOf p v)) ≡ true
   unfolding parkedFits
   counted-fits l =
       let room : p .came + 1 ≤ wants kind - 1 = omega (arith, l) in
-      and-both (and-both (each-parked .0) (le-leb _ _ room)) joined-values
+      and-both (and-both (each-parked .0) (le-leb _ _ room)) joined-came
+
+  -- with the last all are allowed
+  last-allowed : wants kind ≤ p .came + 1 → (k : ℕ) → k < wants kind → parameterAllowed kind k (value (set (p .values) (p .came) v) k) ≡ true
+  last-allowed l k h = came-each (parameterAllowed kind) (set (p .values) (p .came) v) (p .came + 1) joined-came k (omega (arith, l, h))
 
 parm-sound : (r : Registers) (v : ℕ) → Sound r → allowed r (Parm v) ≡ true → Sound (parmOf r v)
 unfolding parmOf
 parm-sound r v s a =
     chosen Sound (ltb (r .parked .came + 1) (wants (awaited r))) _ _
     (λ t. sound-parked s _ (counted-fits (r .parked) (s .parked) v a (ltb-true _ _ t)))
-    (λ t. sound-parked (effect-sound r (awaited r) _ s (joined-first (r .parked) (s .parked) v a) (joined-values (r .parked) (s .parked) v a)) nothingAwaited nothing-fits)
+    (λ t. sound-parked (effect-sound r (awaited r) _ s (last-allowed (r .parked) (s .parked) v a (ltb-false _ _ t))) nothingAwaited nothing-fits)
 
 -- ---- coordinates
 
@@ -351,15 +282,15 @@ open-fits shape v s h = two-fit shape 0 v noVertex s refl h no-vertex
 pub vertices : (f : Figure) → figureFits f ≡ true → (vertexFits (f .first) ≡ true) × (vertexFits (f .second) ≡ true)
 unfolding figureFits
 vertices f h =
-    let q = chain-all (leb (f .shape) 3) (leb (f .pair) 1 ∷ vertexFits (f .first) ∷ vertexFits (f .second) ∷ leb (f .steps) 31 ∷ leb (f .dashed) 1 ∷ []) h in
+    let q = chain-all (leb (f .shape) 3) (leb (f .pair) 1 ∷ vertexFits (f .first) ∷ vertexFits (f .second) ∷ ltb (f .steps) patternLength ∷ leb (f .dashed) 1 ∷ []) h in
     (q .1 .1 .0, q .1 .1 .1 .0)
 
 -- a line after a segment: its steps are counted modulo 32
 advanced-fits : (dashed : Bool) (f : Figure) (v : Vertex) → vertexFits v ≡ true → figureFits (advanced dashed f v) ≡ true
 unfolding figureFits
 advanced-fits dashed f v h =
-    let low : advanced dashed f v .steps ≤ 31 = omega arith in
-    and-both (and-both (and-both (and-both (and-both refl refl) h) no-vertex) (le-leb _ _ low)) (chosen (λ (n : ℕ). leb n 1 ≡ true) dashed 1 0 (λ t. refl) (λ t. refl))
+    let low : advanced dashed f v .steps < patternLength = omega arith in
+    and-both (and-both (and-both (and-both (and-both refl refl) h) no-vertex) (lt-ltb _ _ low)) (chosen (λ (n : ℕ). leb n 1 ≡ true) dashed 1 0 (λ t. refl) (λ t. refl))
 
 grown-fits : (shape : Shape) (end dashed : Bool) (f : Figure) (v : Vertex) → figureFits f ≡ true → vertexFits v ≡ true → figureFits (grownOf shape end dashed f v) ≡ true
 unfolding grownOf
@@ -432,15 +363,16 @@ settings-sound started frame s f = record { started = s; frame = f; modes = refl
 init-sound : (r : Registers) → Sound r → (d : ℕ) → initAllowed d ≡ true → Sound (initOf r d)
 unfolding initAllowed
 init-sound r s d a =
-    let q = chain-all (eqb (chipsIn d) 0) (eqb (unitIn d) 0 ∷ leb (pageIn d) 7 ∷ not (eqb (lineOf (codeIn d)) 0) ∷ []) a in
+    let q = chain-all (eqb (chipsIn d) 0) (eqb (unitIn d) 0 ∷ leb (pageIn d) largestPage ∷ not (eqb (lineOf (codeIn d)) 0) ∷ []) a in
     settings-sound 1 (frameOf (lineOf (codeIn d)) (r .frame .layout)) refl
     (frame-laid (lineOf (codeIn d)) (r .frame) (line-fits (codeIn d) (omega arith) (eqb-false _ _ (not-true _ (q .1 .1 .1 .0)))) (s .frame))
 
 -- the record after reset breaks no bound, in any layout
-pub reset-kept-as : (layout : ℕ) → layout ≤ 7 → inBounds (resetAs layout) ≡ true
+pub reset-kept-as : (layout : ℕ) → layout ≤ largestLayout → inBounds (resetAs layout) ≡ true
 unfolding frameFits
-reset-kept-as layout h = whole (resetAs layout) (settings-sound 0 (frameOf 256 layout) refl (le-leb layout 7 h))
+reset-kept-as layout h = whole (resetAs layout) (settings-sound 0 (frameOf shortestLine layout) refl (le-leb layout largestLayout h))
 
+-- nor does it with rows one after the other
 pub reset-kept : inBounds resetOf ≡ true
 reset-kept = reset-kept-as 0 (omega arith)
 

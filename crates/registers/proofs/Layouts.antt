@@ -12,12 +12,13 @@ use Rattle.registers.specs.declared.word.Word.the-variants.{Init, Aux, P
 use Rattle.registers.specs.declared.word.Coordinate.{Coordinate}
 use Rattle.registers.specs.declared.word.Coordinate.the-variants.{I, Z, Y, X, T1x, T2x, Lx, Px}
 use Rattle.registers.specs.declared.subcommand.Subcommand.{Subcommand}
-use Rattle.registers.specs.declared.subcommand.Subcommand.the-variants.{Nothing as None, Pmode, Lmode, Zcontrol, Hcontrol, Tpattern, Window, Section, Color, Lpattern, Mask, Lstatus, Imode, Load, Save}
 use Rattle.registers.specs.Record.{nothingAwaited, withParked, laid, settings, resetAs, resetOf}
 use Rattle.registers.specs.Subcommand.{wants}
-use Rattle.registers.specs.Next.{awaited, joinedOf, counted, effectOf, parmOf, coordinateOf, coordinateCompletes, after, completedBy}
-use Rattle.registers.specs.Bounds.{frameFits, inBounds}
+use Rattle.registers.specs.Next.{awaited, joinedOf, counted, effectOf, parmOf, coordinateOf, after, completedBy}
+use Rattle.registers.specs.Bounds.{largestLayout, frameFits, inBounds}
 use Rattle.registers.specs.Refusal.{table, lowest, isUnfit, refusalOf, readTable, readRefusalOf}
+use Rattle.registers.proofs.Effects.{effect-has}
+use Rattle.registers.proofs.Completing.{only-x-and-px}
 
 -- reset in a layout is reset, laid so
 pub reset-laid : (k : ℕ) → resetAs k ≡ laid k resetOf
@@ -28,22 +29,8 @@ reset-laid k = refl
 
 -- parameters do to the record in a layout what they do to it
 effect-laid : (k : ℕ) (r : Registers) (s : Subcommand) (p : List ℕ) → effectOf (laid k r) s p ≡ laid k (effectOf r s p)
-unfolding effectOf
-effect-laid k r None p = refl
-effect-laid k r Pmode p = refl
-effect-laid k r Lmode p = refl
-effect-laid k r Zcontrol p = refl
-effect-laid k r Hcontrol p = refl
-effect-laid k r Tpattern p = refl
-effect-laid k r Window p = refl
-effect-laid k r Section p = refl
-effect-laid k r Color p = refl
-effect-laid k r Lpattern p = refl
-effect-laid k r Mask p = refl
-effect-laid k r Lstatus p = refl
-effect-laid k r Imode p = refl
-effect-laid k r Load p = refl
-effect-laid k r Save p = refl
+effect-laid k r s p =
+    effect-has (λ u. u (laid k r) ≡ laid k (u r)) s p (record { none = refl; modes = λ f h. refl; window = λ w. refl; dash = λ f. refl; region = λ g h. refl })
 
 parm-laid : (k : ℕ) (r : Registers) (v : ℕ) → parmOf (laid k r) v ≡ laid k (parmOf r v)
 unfolding parmOf
@@ -79,38 +66,18 @@ after-laid k r Reserved = refl
 after-laid k r Unmodelled = refl
 after-laid k r Unknown = refl
 
-coordinate-completes : (k : ℕ) (r : Registers) (c : Coordinate) (n : ℕ) → coordinateCompletes (laid k r) c n ≡ coordinateCompletes r c n
-unfolding coordinateCompletes
-coordinate-completes k r I n = refl
-coordinate-completes k r Z n = refl
-coordinate-completes k r Y n = refl
-coordinate-completes k r X n = refl
-coordinate-completes k r T1x n = refl
-coordinate-completes k r T2x n = refl
-coordinate-completes k r Lx n = refl
-coordinate-completes k r Px n = refl
-
 -- the figure that it completes
 pub completed-laid : (k : ℕ) (r : Registers) (w : Word) → completedBy (laid k r) w ≡ completedBy r w
-unfolding completedBy
-completed-laid k r (Init d) = refl
-completed-laid k r (Aux n) = refl
-completed-laid k r (Parm v) = refl
-completed-laid k r (At c n) = coordinate-completes k r c n
-completed-laid k r (Img d) = refl
-completed-laid k r (Ptrn v) = refl
-completed-laid k r Reserved = refl
-completed-laid k r Unmodelled = refl
-completed-laid k r Unknown = refl
+completed-laid k r = only-x-and-px (λ w f. f (laid k r) ≡ f r) (λ w. refl) (λ n. refl) (λ n. refl)
 
 -- ---- numbers
 
--- a layout up to 7 breaks no bound
-pub bounds-laid : (k : ℕ) (r : Registers) → k ≤ 7 → inBounds (laid k r) ≡ inBounds (laid 0 r)
+-- a layout up to the largest breaks no bound
+bounds-laid : (k : ℕ) (r : Registers) → k ≤ largestLayout → inBounds (laid k r) ≡ inBounds (laid 0 r)
 unfolding inBounds frameFits
-bounds-laid k r h = rw (le-leb k 7 h)
+bounds-laid k r h = rw (le-leb k largestLayout h)
 
-unfit-laid : (k ni nz : ℕ) (r : Registers) → k ≤ 7 → isUnfit ni nz (laid k r) ≡ isUnfit ni nz (laid 0 r)
+unfit-laid : (k ni nz : ℕ) (r : Registers) → k ≤ largestLayout → isUnfit ni nz (laid k r) ≡ isUnfit ni nz (laid 0 r)
 unfit-laid k ni nz r h = rw (bounds-laid k r h)
 
 -- of lengths that are equal it does not matter which they are
@@ -130,20 +97,22 @@ table-laid u k r Unmodelled = refl
 table-laid u k r Unknown = refl
 
 -- the number that a word gets
-pub number-laid : (k ni nz : ℕ) (r : Registers) (w : Word) → k ≤ 7 → refusalOf ni nz (laid k r) w ≡ refusalOf ni nz (laid 0 r) w
+pub number-laid : (k ni nz : ℕ) (r : Registers) (w : Word) → k ≤ largestLayout → refusalOf ni nz (laid k r) w ≡ refusalOf ni nz (laid 0 r) w
 unfolding refusalOf
 number-laid k ni nz r w h =
     ap (lowest 1) (table-laid (isUnfit ni nz (laid k r)) k r w ∙ ap (λ (u : Bool). table u (laid 0 r) w) (unfit-laid k ni nz r h))
 
+-- over memories of whichever length, if both have one
 pub number-even : (n n′ : ℕ) (r : Registers) (w : Word) → refusalOf n n r w ≡ refusalOf n′ n′ r w
 unfolding refusalOf
 number-even n n′ r w = ap (λ (u : Bool). lowest 1 (table u r w)) (unfit-even n n′ r)
 
 -- and the read call
-pub read-laid : (k ni nz : ℕ) (r : Registers) → k ≤ 7 → readRefusalOf ni nz (laid k r) ≡ readRefusalOf ni nz (laid 0 r)
+pub read-laid : (k ni nz : ℕ) (r : Registers) → k ≤ largestLayout → readRefusalOf ni nz (laid k r) ≡ readRefusalOf ni nz (laid 0 r)
 unfolding readRefusalOf
 read-laid k ni nz r h = ap (λ (u : Bool). lowest 2 (readTable u (laid 0 r))) (unfit-laid k ni nz r h)
 
+-- over memories of whichever length, if both have one
 pub read-even : (n n′ : ℕ) (r : Registers) → readRefusalOf n n r ≡ readRefusalOf n′ n′ r
 unfolding readRefusalOf
 read-even n n′ r = ap (λ (u : Bool). lowest 2 (readTable u r)) (unfit-even n n′ r)

@@ -7,10 +7,10 @@ use Prim.Native.Nat.{ℕ, _%_, _<_}
 use lib.Dec.{T, leb, eqb}
 use lib.ListN.{getD}
 use borrow.Author.Tests.{eqb-true}
-use Rattle.registers.specs.Lines.{lineOf}
+use Rattle.registers.specs.Lines.{shortestLine, longestLine, lineUnit, lineOf}
 use Rattle.picture.specs.declared.Frame.{Frame}
 use Rattle.picture.specs.Place.{frameOf, plainFrame}
-use Rattle.registers.specs.Bounds.{frameFits}
+use Rattle.registers.specs.Bounds.{largestLayout, frameFits}
 use Rattle.registers.proofs.Truth.{both, and-both}
 use Rattle.registers.proofs.Table.{at}
 
@@ -42,6 +42,7 @@ module _ (k : ℕ) (h : k < 64) where
   unfolding lengths right listed lineOf frameFits
   tested = holds _ (at right lengths tt k h)
 
+  -- an entry of the table is the line length of its code
   pub line-at : getD lengths k 0 ≡ lineOf k
   unfolding right
   line-at = eqb-true _ _ (both (eqb (getD lengths k 0) (lineOf k)) (listed (getD lengths k 0)) tested .0)
@@ -59,5 +60,5 @@ module _ (k : ℕ) (h : k < 64) where
 pub frame-laid : (line : ℕ) (f : Frame) → frameFits (plainFrame line) ≡ true → frameFits f ≡ true → frameFits (frameOf line (f .layout)) ≡ true
 unfolding frameFits
 frame-laid line f h k =
-    let q = both (leb 256 line && leb line 8768 && eqb (line % 64) 0) true h in
-    and-both (q .0) (both (leb 256 (f .line) && leb (f .line) 8768 && eqb (f .line % 64) 0) (leb (f .layout) 7) k .1)
+    let q = both (leb shortestLine line && leb line longestLine && eqb (line % lineUnit) 0) true h in
+    and-both (q .0) (both (leb shortestLine (f .line) && leb (f .line) longestLine && eqb (f .line % lineUnit) 0) (leb (f .layout) largestLayout) k .1)

@@ -147,9 +147,11 @@ module _ (ni nz : ℕ) (r : Registers) (w : Word) where
   pub given-11 : refusalOf ni nz r w ≡ 11 → ⊥
   given-11 e = false≢true (given 10 .0 e .0)
 
+  -- nor is 12
   pub given-12 : refusalOf ni nz r w ≡ 12 → ⊥
   given-12 e = false≢true (given 11 .0 e .0)
 
+  -- nor is 13
   pub given-13 : refusalOf ni nz r w ≡ 13 → ⊥
   given-13 e = false≢true (given 12 .0 e .0)
 

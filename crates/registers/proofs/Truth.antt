@@ -8,6 +8,7 @@ pub both : (a b : Bool) → a && b ≡ true → (a ≡ true) × (b ≡ true)
 both true b e = (refl, e)
 both false b e = absurd (false≢true e)
 
+-- two tests that hold, hold together
 pub and-both : {a b : Bool} → a ≡ true → b ≡ true → a && b ≡ true
 and-both p q = rw (p, q)
 
@@ -21,6 +22,7 @@ abbrev pub chain : Bool → List Bool → Bool
 chain a [] = a
 chain a (b ∷ bs) = chain (a && b) bs
 
+-- each of them holds
 abbrev pub All : List Bool → Type 0
 All [] = Unit {0}
 All (b ∷ bs) = (b ≡ true) × All bs

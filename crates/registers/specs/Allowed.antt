@@ -14,7 +14,8 @@ use Rattle.registers.specs.declared.subcommand.Subcommand.the-variants.{
 use Rattle.registers.specs.declared.shape.Shape.{Shape}
 use Rattle.registers.specs.declared.shape.Shape.the-variants.{Closed, Strip, Fan, Line}
 use Rattle.registers.specs.declared.Registers.{Registers}
-use Rattle.registers.specs.Lines.{codeIn, chipsIn, unitIn, pageIn, lineOf}
+use Rattle.registers.specs.Lines.{largestPage, codeIn, chipsIn, unitIn, pageIn, lineOf}
+use Rattle.registers.specs.Record.{allBits}
 use Rattle.registers.specs.Figure.{shapeOf}
 use Rattle.registers.specs.Next.{awaited}
 
@@ -27,7 +28,7 @@ isBorder n = leb n largestBorder
 
 -- a word of 16 bits has only bits of a mask
 abbrev pub onlyBits : ℕ → ℕ → Bool
-onlyBits mask n = eqb (bitAnd n (65535 - mask)) 0
+onlyBits mask n = eqb (bitAnd n (allBits - mask)) 0
 
 -- the bits that ZCONTROL, HCONTROL and LSTATUS may have
 abbrev pub zcontrolBits : ℕ
@@ -43,9 +44,9 @@ lstatusBits = 0x0030
 abbrev pub imgBits : ℕ
 imgBits = 0x0005
 
--- INIT: chips and unit 0, page code at most 7, the line code one that is listed
+-- INIT: chips and unit 0, page code at most the largest, the line code one that is listed
 unfoldable pub initAllowed : ℕ → Bool
-initAllowed d = eqb (chipsIn d) 0 && eqb (unitIn d) 0 && leb (pageIn d) 7 && not (eqb (lineOf (codeIn d)) 0)
+initAllowed d = eqb (chipsIn d) 0 && eqb (unitIn d) 0 && leb (pageIn d) largestPage && not (eqb (lineOf (codeIn d)) 0)
 
 -- a parameter of a subcommand of which k have come before it
 abbrev pub parameterAllowed : Subcommand → ℕ → ℕ → Bool
@@ -76,6 +77,7 @@ coordinateAllowed T2x n = isCoordinate n
 coordinateAllowed Lx n = isCoordinate n
 coordinateAllowed Px n = isCoordinate n
 
+-- what is allowed of a word's data, by the registers as they are
 abbrev pub allowed : Registers → Word → Bool
 allowed r (Init d) = initAllowed d
 allowed r (Aux n) = true
@@ -100,6 +102,7 @@ pxFits Strip lmode = false
 pxFits Fan lmode = false
 pxFits Line lmode = leb lmode 1
 
+-- a coordinate fits the open figure; all but X and PX fit any
 abbrev pub coordinateFits : Coordinate → Shape → ℕ → Bool
 coordinateFits I shape lmode = true
 coordinateFits Z shape lmode = true
@@ -110,6 +113,7 @@ coordinateFits T2x shape lmode = true
 coordinateFits Lx shape lmode = true
 coordinateFits Px shape lmode = pxFits shape lmode
 
+-- a word fits the open figure; all but coordinates fit any
 abbrev pub fits : Registers → Word → Bool
 fits r (Init d) = true
 fits r (Aux n) = true

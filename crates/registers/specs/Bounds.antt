@@ -1,5 +1,5 @@
 -- The bounds on the fields of the register record (docs/REGISTERS.md lists them; number 2).
-use Prim.Native.Nat.{ℕ, _-_, _%_}
+use Prim.Native.Nat.{ℕ, zero, suc, _-_, _%_}
 use mathlib.Core.Bool.{Bool, true, _&&_, _||_}
 use mathlib.Core.List.{List}
 use lib.Dec.{leb, ltb, eqb}
@@ -11,62 +11,59 @@ use Rattle.registers.specs.declared.Figure.{Figure}
 use Rattle.registers.specs.declared.Parked.{Parked}
 use Rattle.registers.specs.declared.Region.{Region}
 use Rattle.registers.specs.declared.Registers.{Registers}
-use Rattle.registers.specs.declared.subcommand.Subcommand.{Subcommand}
-use Rattle.registers.specs.declared.subcommand.Subcommand.the-variants.{Nothing, Pmode, Lmode, Zcontrol, Hcontrol, Tpattern, Window as Win, Section, Color, Lpattern, Mask, Lstatus, Imode, Load, Save}
+use Rattle.registers.specs.declared.subcommand.Subcommand.the-variants.{Pmode, Lmode, Zcontrol, Hcontrol, Lstatus}
+use Rattle.registers.specs.Lines.{shortestLine, longestLine, lineUnit}
+use Rattle.registers.specs.Record.{noNumber, patternLength}
 use Rattle.registers.specs.Subcommand.{subcommandOf, wants}
 use Rattle.registers.specs.Next.{value}
-use Rattle.registers.specs.Allowed.{isCoordinate, isBorder, onlyBits, zcontrolBits, hcontrolBits, lstatusBits}
+use Rattle.registers.specs.Allowed.{isCoordinate, isBorder, parameterAllowed}
 
--- the line length is a multiple of 64 from 256 to 8768, and the layout rows, tiles, or what a unit of a board of two or of four has
+-- the largest layout: that of the last unit of a board of four
+abbrev pub largestLayout : ℕ
+largestLayout = 7
+
+-- the line length is a multiple of `lineUnit` from the shortest to the longest that are listed, and the layout rows, tiles, or what a unit of a board of two or of four has
 unfoldable pub frameFits : Frame → Bool
-frameFits f = leb 256 (f .line) && leb (f .line) 8768 && eqb (f .line % 64) 0 && leb (f .layout) 7
+frameFits f = leb shortestLine (f .line) && leb (f .line) longestLine && eqb (f .line % lineUnit) 0 && leb (f .layout) largestLayout
 
--- the words of the modes are such as AUX allows
+-- the words of the modes are such as AUX allows; three of them may be any numbers
 unfoldable pub modesFit : Modes → Bool
-modesFit m = leb (m .pmode) 1 && leb (m .lmode) 2 && onlyBits zcontrolBits (m .zcontrol) && onlyBits hcontrolBits (m .hcontrol) && onlyBits lstatusBits (m .lstatus)
+modesFit m =
+    parameterAllowed Pmode 0 (m .pmode)
+    && parameterAllowed Lmode 0 (m .lmode)
+    && parameterAllowed Zcontrol 0 (m .zcontrol)
+    && parameterAllowed Hcontrol 0 (m .hcontrol)
+    && parameterAllowed Lstatus 0 (m .lstatus)
 
+-- the window has borders; it may be empty
 unfoldable pub windowFits : Window → Bool
 windowFits w = isBorder (w .left) && isBorder (w .top) && isBorder (w .right) && isBorder (w .bottom)
 
+-- a vertex has coordinates
 unfoldable pub vertexFits : Vertex → Bool
 vertexFits v = isCoordinate (v .x) && isCoordinate (v .y)
 
+-- the shape is closed or one of three, and both vertices have coordinates, also where they are not in use
 unfoldable pub figureFits : Figure → Bool
-figureFits f = leb (f .shape) 3 && leb (f .pair) 1 && vertexFits (f .first) && vertexFits (f .second) && leb (f .steps) 31 && leb (f .dashed) 1
+figureFits f = leb (f .shape) 3 && leb (f .pair) 1 && vertexFits (f .first) && vertexFits (f .second) && ltb (f .steps) patternLength && leb (f .dashed) 1
 
--- a value that is parked while a subcommand is awaited: WINDOW has borders, IMG coordinates
-abbrev pub valueFits : Subcommand → ℕ → Bool
-valueFits Nothing v = true
-valueFits Pmode v = true
-valueFits Lmode v = true
-valueFits Zcontrol v = true
-valueFits Hcontrol v = true
-valueFits Tpattern v = true
-valueFits Win v = isBorder v
-valueFits Section v = true
-valueFits Color v = true
-valueFits Lpattern v = true
-valueFits Mask v = true
-valueFits Lstatus v = true
-valueFits Imode v = true
-valueFits Load v = isCoordinate v
-valueFits Save v = isCoordinate v
+-- a test holds of each value that has come, with its place
+abbrev pub eachCame : (ℕ → ℕ → Bool) → List ℕ → ℕ → Bool
+eachCame test values zero = true
+eachCame test values (suc k) = eachCame test values k && test k (value values k)
 
--- the first four of them; a fifth is only judged
-unfoldable pub valuesFit : Subcommand → List ℕ → Bool
-valuesFit s p = valueFits s (value p 0) && valueFits s (value p 1) && valueFits s (value p 2) && valueFits s (value p 3)
-
--- a number that takes parameters is awaited, or 13 for none; fewer have come than it takes
+-- a number that takes parameters is awaited, or none; fewer have come than it takes, and each is allowed for its place
 unfoldable pub parkedFits : Parked → Bool
 parkedFits p =
-    (eqb (p .subcommand) 13 || ltb 0 (wants (subcommandOf (p .subcommand))))
+    (eqb (p .subcommand) noNumber || ltb 0 (wants (subcommandOf (p .subcommand))))
     && leb (p .came) (wants (subcommandOf (p .subcommand)) - 1)
-    && valuesFit (subcommandOf (p .subcommand)) (p .values)
+    && eachCame (parameterAllowed (subcommandOf (p .subcommand))) (p .values) (p .came)
 
 -- the region's way is 0, 1 or 2, and it has coordinates
 unfoldable pub regionFits : Region → Bool
 regionFits g = leb (g .way) 2 && isCoordinate (g .x0) && isCoordinate (g .x1) && isCoordinate (g .y1) && isCoordinate (g .x) && isCoordinate (g .y)
 
+-- the record breaks no bound
 unfoldable pub inBounds : Registers → Bool
 inBounds r =
     leb (r .started) 1

@@ -12,7 +12,7 @@ use Rattle.registers.specs.declared.shape.Shape.{Shape}
 use Rattle.registers.specs.declared.shape.Shape.the-variants.{Closed, Strip, Fan, Line}
 use Rattle.registers.specs.declared.shape.Completed.{Completed}
 use Rattle.registers.specs.declared.shape.Completed.the-variants.{Nothing, Triangle, Segment}
-use Rattle.registers.specs.Record.{isOn, invBit, endBit, noVertex, noFigure}
+use Rattle.registers.specs.Record.{isOn, invBit, endBit, patternLength, noVertex, noFigure}
 
 -- the shape that the record's number stands for
 abbrev pub shapes : List Shape
@@ -29,12 +29,13 @@ vertexOf r x = record { x = x; y = r .latch .y; i = r .latch .i; z = r .latch .z
 abbrev pub isPair : Figure → Bool
 isPair f = eqb (f .pair) 1
 
+-- a figure with two vertices
 abbrev pub paired : ℕ → Vertex → Vertex → Figure
 paired shape a b = record { shape = shape; pair = 1; first = a; second = b; steps = 0; dashed = 0 }
 
--- a line after the segment to a vertex, which is the start of the next one: the steps since LX, modulo 32, and whether the segment was dashed
+-- a line after the segment to a vertex, which is the start of the next one: the steps since LX, modulo the pattern's bits, and whether the segment was dashed
 abbrev pub advanced : Bool → Figure → Vertex → Figure
-advanced dashed f v = record { shape = 3; pair = 0; first = v; second = noVertex; steps = (f .steps + larger (f .first) v) % 32; dashed = cond dashed 1 0 }
+advanced dashed f v = record { shape = 3; pair = 0; first = v; second = noVertex; steps = (f .steps + larger (f .first) v) % patternLength; dashed = cond dashed 1 0 }
 
 -- the figure after one more vertex: of a strip the last two are kept, of a fan the first and the last; the end of a segment is the
 -- start of the next one, and with END 1 the line closes after the segment

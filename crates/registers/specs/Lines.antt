@@ -5,6 +5,20 @@ use mathlib.Core.List.{List, [], _∷_}
 use lib.Dec.{leb, ltb}
 use lib.ListN.{length, getD}
 
+-- the shortest and the longest that are listed, and what all are multiples of
+abbrev pub shortestLine : ℕ
+shortestLine = 256
+
+abbrev pub longestLine : ℕ
+longestLine = 8768
+
+abbrev pub lineUnit : ℕ
+lineUnit = 64
+
+-- the largest page code
+abbrev pub largestPage : ℕ
+largestPage = 7
+
 -- codes from `first` on have these lengths; any other code is looked for in the rest
 abbrev pub from : ℕ → ℕ → List ℕ → ℕ → ℕ
 from code first lengths rest = cond (leb first code && ltb code (first + length lengths)) (getD lengths (code - first) 0) rest

@@ -16,7 +16,7 @@ use Rattle.registers.specs.declared.Parked.{Parked}
 use Rattle.registers.specs.declared.Registers.{Registers}
 use Rattle.registers.specs.declared.shape.Completed.{Completed}
 use Rattle.registers.specs.declared.shape.Completed.the-variants.{Nothing as None}
-use Rattle.registers.specs.Record.{isOn, depthBit, iBit, zBit, pictureBit, awaiting, nothingAwaited, opened, regionOf, withPmode, withLmode, withZcontrol, withHcontrol, withLstatus, withTransparency, withPlanes, withSection, latch, window, dash, withModes, withWindow, withDash, withLatch, withFigure, withParked, withRegion, initOf}
+use Rattle.registers.specs.Record.{isOn, depthBit, iBit, zBit, pictureBit, loadNumber, awaiting, nothingAwaited, opened, regionOf, withPmode, withLmode, withZcontrol, withHcontrol, withLstatus, withTransparency, withPlanes, withSection, latch, window, dash, withModes, withWindow, withDash, withLatch, withFigure, withParked, withRegion, initOf}
 use Rattle.registers.specs.Region.{nextPixel}
 use Rattle.registers.specs.Subcommand.{subcommandOf, wants}
 use Rattle.registers.specs.Figure.{vertexOf, figureAfter, vertexCompletes}
@@ -99,7 +99,7 @@ coordinateCompletes r Px n = vertexCompletes r n
 
 -- the number under which IMG's parameters are awaited: by bit 0 of its data to memory, or from memory
 abbrev pub imgNumber : ℕ → ℕ
-imgNumber d = 14 + d % 2
+imgNumber d = loadNumber + d % 2
 
 -- pictures go to and from Z, and not I
 abbrev pub isDeepPicture : Registers → Bool

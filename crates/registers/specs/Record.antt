@@ -17,13 +17,17 @@ use Rattle.registers.specs.declared.Figure.{Figure}
 use Rattle.registers.specs.declared.Parked.{Parked}
 use Rattle.registers.specs.declared.Region.{Region}
 use Rattle.registers.specs.declared.Registers.{Registers}
-use Rattle.registers.specs.Lines.{codeIn, lineOf}
+use Rattle.registers.specs.Lines.{shortestLine, codeIn, lineOf}
 
 -- ---- bits of the words that are kept as sent
 
 -- a bit of a word, told by its mask, is 1
 abbrev pub isOn : ℕ → ℕ → Bool
 isOn mask word = not (eqb (bitAnd word mask) 0)
+
+-- all bits of a word of sixteen
+abbrev pub allBits : ℕ
+allBits = 65535
 
 -- ZCONTROL bit 6: depth test; bit 5: sectioning, of the constant kind
 abbrev pub depthBit : ℕ
@@ -51,16 +55,28 @@ endBit = 16
 
 -- ---- parts
 
+-- no vertex is kept
 abbrev pub noVertex : Vertex
 noVertex = record { x = 0; y = 0; i = 0; z = 0 }
 
--- the parameters of an AUX number, or of IMG (14 and 15), are awaited, and none has come
+-- in place of an AUX number: nothing is awaited; IMG's parameters are, for a region to memory; with one more, from memory
+abbrev pub noNumber : ℕ
+noNumber = 13
+
+abbrev pub loadNumber : ℕ
+loadNumber = 14
+
+-- the parameters of an AUX number, or of IMG, are awaited, and none has come
 abbrev pub awaiting : ℕ → Parked
 awaiting number = record { subcommand = number; came = 0; values = 0 ∷ 0 ∷ 0 ∷ 0 ∷ 0 ∷ [] }
 
 -- nothing is awaited, and nothing parked
 abbrev pub nothingAwaited : Parked
-nothingAwaited = awaiting 13
+nothingAwaited = awaiting noNumber
+
+-- the bits of a line's pattern, by which its steps are counted
+abbrev pub patternLength : ℕ
+patternLength = 32
 
 -- a figure with its first vertex, of which no step is made
 abbrev pub opened : ℕ → Vertex → Figure
@@ -156,7 +172,7 @@ laid layout r =
 -- INIT sets: Gouraud; line mode 1; depth test and sectioning off; hardware bits 0, so both write enables are off; INV 1, END 0;
 -- transparency FFFF; planes FFFF; section depth FFFF
 abbrev pub firstModes : Modes
-firstModes = record { pmode = 0; lmode = 1; zcontrol = 0; hcontrol = 0; lstatus = invBit; transparency = 65535; planes = 65535; section = 65535 }
+firstModes = record { pmode = 0; lmode = 1; zcontrol = 0; hcontrol = 0; lstatus = invBit; transparency = allBits; planes = allBits; section = allBits }
 
 -- window from 0 to the largest border both ways
 abbrev pub firstWindow : Window
@@ -170,16 +186,16 @@ settings started frame =
       frame = frame;
       modes = firstModes;
       window = firstWindow;
-      dash = dash 1 0 65535 65535;
+      dash = dash 1 0 allBits allBits;
       latch = latch 0 0 0;
       figure = noFigure;
       parked = nothingAwaited;
       region = noRegion;
     }
 
--- after reset: the same with line length 256, the layout that is chosen, and no INIT accepted yet
+-- after reset: the same with the shortest line length, the layout that is chosen, and no INIT accepted yet
 abbrev pub resetAs : ℕ → Registers
-resetAs layout = settings 0 (frameOf 256 layout)
+resetAs layout = settings 0 (frameOf shortestLine layout)
 
 -- with rows one after the other
 abbrev pub resetOf : Registers

@@ -7,7 +7,7 @@ use lib.Dec.{ltb, eqb}
 use Rattle.registers.specs.declared.word.Word.{Word}
 use Rattle.registers.specs.declared.word.Word.the-variants.{Init, Aux, Parm, At, Img, Ptrn, Reserved, Unmodelled, Unknown}
 use Rattle.registers.specs.declared.Registers.{Registers}
-use Rattle.registers.specs.Subcommand.{wants}
+use Rattle.registers.specs.Subcommand.{largestAux, unmodelledAux, wants}
 use Rattle.registers.specs.Next.{awaited, after}
 use Rattle.registers.specs.Allowed.{allowed, fits}
 use Rattle.registers.specs.Bounds.{inBounds}
@@ -29,6 +29,7 @@ pub record Asked : Type 0 where
   pub parm : Bool
   pub ptrn : Bool
 
+-- the answers together
 abbrev pub asked : Bool → Bool → Bool → Bool → Bool → Bool → Bool → Asked
 asked unknown reserved unmodelled above init parm ptrn =
     record { unknown = unknown; reserved = reserved; unmodelled = unmodelled; above = above; init = init; parm = parm; ptrn = ptrn }
@@ -36,7 +37,7 @@ asked unknown reserved unmodelled above init parm ptrn =
 -- word by word: unknown, reserved, not modelled, AUX above 12, INIT, PARM, PTRN
 abbrev pub askedOf : Word → Asked
 askedOf (Init d) = asked false false false false true false false
-askedOf (Aux n) = asked false false (eqb n 11) (ltb 12 n) false false false
+askedOf (Aux n) = asked false false (eqb n unmodelledAux) (ltb largestAux n) false false false
 askedOf (Parm v) = asked false false false false false true false
 askedOf (At c n) = asked false false false false false false false
 askedOf (Img d) = asked false false false false false false false
@@ -45,6 +46,7 @@ askedOf Reserved = asked false true false false false false false
 askedOf Unmodelled = asked false false true false false false false
 askedOf Unknown = asked true false false false false false false
 
+-- each answer by itself
 abbrev pub isUnknown : Word → Bool
 isUnknown w = askedOf w .unknown
 

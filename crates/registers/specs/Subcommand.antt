@@ -6,6 +6,13 @@ use lib.ListN.{getD}
 use Rattle.registers.specs.declared.subcommand.Subcommand.{Subcommand}
 use Rattle.registers.specs.declared.subcommand.Subcommand.the-variants.{Nothing, Pmode, Lmode, Zcontrol, Hcontrol, Tpattern, Window, Section, Color, Lpattern, Mask, Lstatus, Imode, Load, Save}
 
+-- the largest AUX number, and the one that is not modelled
+abbrev pub largestAux : ℕ
+largestAux = 12
+
+abbrev pub unmodelledAux : ℕ
+unmodelledAux = 11
+
 -- AUX 0 to 12, in order; 11 is not modelled; after 13, which stands for none, IMG to memory and from memory
 abbrev pub subcommands : List Subcommand
 subcommands =

@@ -18,11 +18,17 @@ pub(crate) const LSTATUS_BITS: u16 = 0x0030;
 // The bits that IMG may have: 0 its direction, 2 not used.
 pub(crate) const IMG_BITS: u16 = 0x0005;
 
-// INIT's data: chips and unit 0, a page code up to 7, a line code that is listed.
+// The largest page code.
+const LARGEST_PAGE: u16 = 7;
+
+// INIT's data: chips and unit 0, a page code up to the largest, a line code that is listed.
 pub(crate) fn is_init_allowed(data: u16) -> bool
     ensures { λ r. ⌜ r ≡ initAllowed «data» ⌝ }
 {
-    (data / 64 % 4 == 0) & (data / 16 % 4 == 0) & (data % 16 <= 7) & !(line_length(data) == 0)
+    (data / 64 % 4 == 0)
+        & (data / 16 % 4 == 0)
+        & (data % 16 <= LARGEST_PAGE)
+        & !(line_length(data) == 0)
 }
 
 // A parameter of a subcommand of which k have come before it.

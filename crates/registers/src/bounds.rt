@@ -1,10 +1,13 @@
 // The bounds on the fields of the record.
 ghost use mathlib.Core.Path.{_≡_};
 ghost use Prim.Native.Nat.{_-_};
-ghost use Rattle.registers.specs.Bounds.{frameFits, modesFit, windowFits, vertexFits, figureFits, valueFits, valuesFit, parkedFits, regionFits, inBounds};
+ghost use Rattle.registers.specs.Next.{value};
+ghost use Rattle.registers.specs.Allowed.{parameterAllowed};
+ghost use Rattle.registers.specs.Bounds.{frameFits, modesFit, windowFits, vertexFits, figureFits, eachCame, parkedFits, regionFits, inBounds};
 use crate::Figure;
 use crate::Modes;
 use crate::NOTHING;
+use crate::PATTERN_LENGTH;
 use crate::Parked;
 use crate::Region;
 use crate::Registers;
@@ -12,6 +15,10 @@ use crate::Window;
 use crate::allow::HCONTROL_BITS;
 use crate::allow::LSTATUS_BITS;
 use crate::allow::ZCONTROL_BITS;
+use crate::allow::is_parameter_allowed;
+use crate::lines::LINE_UNIT;
+use crate::lines::LONGEST_LINE;
+use crate::lines::SHORTEST_LINE;
 use crate::subcommand::Subcommand;
 use crate::subcommand::subcommand_of;
 use crate::subcommand::wanted;
@@ -20,10 +27,16 @@ use picture::Vertex;
 use picture::limits::LARGEST_BORDER;
 use picture::limits::LARGEST_COORDINATE;
 
+// The largest layout: that of the last unit of a board of four.
+const LARGEST_LAYOUT: u16 = 7;
+
 fn frame_fits(f: Frame) -> bool
     ensures { λ r. ⌜ r ≡ frameFits f ⌝ }
 {
-    (256 <= f.line) & (f.line <= 8768) & (f.line % 64 == 0) & (f.layout <= 7)
+    (SHORTEST_LINE <= f.line)
+        & (f.line <= LONGEST_LINE)
+        & (f.line % LINE_UNIT == 0)
+        & (f.layout <= LARGEST_LAYOUT)
 }
 
 fn modes_fit(m: Modes) -> bool
@@ -60,42 +73,30 @@ fn figure_fits(f: Figure) -> bool
         & (f.pair <= 1)
         & vertex_fits(first)
         & vertex_fits(second)
-        & (f.steps <= 31)
+        & (f.steps < PATTERN_LENGTH)
         & (f.dashed <= 1)
 }
 
-// A value that is parked while a subcommand is awaited: WINDOW has borders, IMG coordinates.
-fn value_fits(s: Subcommand, v: u16) -> bool
-    ensures { λ r. ⌜ r ≡ valueFits s v ⌝ }
+// Parameter k of those parked; 0 past the fifth.
+fn value_at(values: [u16; 5], k: u16) -> u16
+    ensures { λ r. ⌜ r ≡ value values k ⌝ }
 {
-    match s {
-        Subcommand::Nothing => true,
-        Subcommand::Pmode => true,
-        Subcommand::Lmode => true,
-        Subcommand::Zcontrol => true,
-        Subcommand::Hcontrol => true,
-        Subcommand::Tpattern => true,
-        Subcommand::Window => v <= LARGEST_BORDER,
-        Subcommand::Section => true,
-        Subcommand::Color => true,
-        Subcommand::Lpattern => true,
-        Subcommand::Mask => true,
-        Subcommand::Lstatus => true,
-        Subcommand::Imode => true,
-        Subcommand::Load => v <= LARGEST_COORDINATE,
-        Subcommand::Save => v <= LARGEST_COORDINATE,
-    }
+    let at = k as usize;
+    if at < 5 { values[at] } else { 0 }
 }
 
-// The first four of them; a fifth is only judged.
-fn values_fit(s: Subcommand, p: [u16; 5]) -> bool
-    ensures { λ r. ⌜ r ≡ valuesFit s p ⌝ }
+// Each value that has come is allowed for its place.
+fn are_allowed(s: Subcommand, values: [u16; 5], came: u16) -> bool
+    ensures { λ r. ⌜ r ≡ eachCame (parameterAllowed s) values came ⌝ }
 {
-    let first = value_fits(s, p[0]);
-    let second = value_fits(s, p[1]);
-    let third = value_fits(s, p[2]);
-    let fourth = value_fits(s, p[3]);
-    first & second & third & fourth
+    let mut all = true;
+    let mut k: u16 = 0;
+    while k < came {
+        let v = value_at(values, k);
+        all = all & is_parameter_allowed(s, k, v);
+        k += 1;
+    }
+    all
 }
 
 // One less, and 0 for 0.
@@ -105,6 +106,7 @@ pub(crate) fn less_one(n: u16) -> u16
     if n == 0 { 0 } else { n - 1 }
 }
 
+// Values are looked at only where there are no more of them than may have come.
 fn parked_fits(p: Parked) -> bool
     ensures { λ r. ⌜ r ≡ parkedFits p ⌝ }
 {
@@ -112,7 +114,11 @@ fn parked_fits(p: Parked) -> bool
     let values = p.values;
     let takes = wanted(s);
     let most = less_one(takes);
-    ((p.subcommand == NOTHING) | (0 < takes)) & (p.came <= most) & values_fit(s, values)
+    if ((p.subcommand == NOTHING) | (0 < takes)) & (p.came <= most) {
+        are_allowed(s, values, p.came)
+    } else {
+        false
+    }
 }
 
 fn region_fits(g: Region) -> bool

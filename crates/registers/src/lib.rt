@@ -29,6 +29,12 @@ pub(crate) const INV: u16 = 32;
 
 pub(crate) const END: u16 = 16;
 
+// All bits of a word of sixteen.
+pub(crate) const ALL_BITS: u16 = 65535;
+
+// The bits of a line's pattern, by which its steps are counted.
+pub(crate) const PATTERN_LENGTH: u16 = 32;
+
 // In place of an AUX number: nothing is awaited; IMG's parameters are, for a region to memory; with one more, from memory.
 pub(crate) const NOTHING: u16 = 13;
 

@@ -2,6 +2,13 @@
 ghost use mathlib.Core.Path.{_≡_};
 ghost use Rattle.registers.specs.Lines.{codeIn, lineOf};
 
+// The shortest and the longest that are listed, and what all are multiples of.
+pub(crate) const SHORTEST_LINE: u16 = 256;
+
+pub(crate) const LONGEST_LINE: u16 = 8768;
+
+pub(crate) const LINE_UNIT: u16 = 64;
+
 // From a line length code to the line length; 0 for a code that is not listed.
 const LENGTHS: [u16; 64] = [
     256,

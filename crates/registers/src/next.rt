@@ -5,6 +5,7 @@ ghost use Rattle.registers.specs.Record.{awaiting, withParked, withFigur
 ghost use Rattle.registers.specs.Figure.{vertexOf, figureAfter, vertexCompletes};
 ghost use Rattle.registers.specs.Next.{effectOf, joinedOf, parmOf, openOf, lineOpenOf, coordinateOf, coordinateCompletes, penOf, imgNumber, isDeepPicture};
 ghost use Rattle.registers.specs.Region.{nextPixel};
+use crate::ALL_BITS;
 use crate::DEPTH;
 use crate::Dash;
 use crate::END;
@@ -21,6 +22,7 @@ use crate::Registers;
 use crate::Window;
 use crate::Z_ENABLE;
 use crate::Z_PICTURE;
+use crate::lines::SHORTEST_LINE;
 use crate::lines::line_length;
 use crate::shape::Completed;
 use crate::subcommand::Subcommand;
@@ -75,9 +77,9 @@ impl Registers {
                 zcontrol: 0,
                 hcontrol: 0,
                 lstatus: INV,
-                transparency: 65535,
-                planes: 65535,
-                section: 65535,
+                transparency: ALL_BITS,
+                planes: ALL_BITS,
+                section: ALL_BITS,
             },
             window: Window {
                 left: 0,
@@ -88,8 +90,8 @@ impl Registers {
             dash: Dash {
                 foreground: 1,
                 background: 0,
-                high: 65535,
-                low: 65535,
+                high: ALL_BITS,
+                low: ALL_BITS,
             },
             latch: Latch { i: 0, z: 0, y: 0 },
             figure: figure,
@@ -103,7 +105,7 @@ impl Registers {
         ensures { λ r. ⌜ r ≡ resetOf ⌝ }
     {
         let frame = Frame {
-            line: 256,
+            line: SHORTEST_LINE,
             layout: 0,
         };
         Registers::set(0, frame)
@@ -114,7 +116,7 @@ impl Registers {
         ensures { λ r. ⌜ r ≡ resetAs 1 ⌝ }
     {
         let frame = Frame {
-            line: 256,
+            line: SHORTEST_LINE,
             layout: TILED,
         };
         Registers::set(0, frame)

@@ -4,6 +4,7 @@ ghost use mathlib.Core.Bool.{false, not};
 ghost use mathlib.Core.List.{[], _∷_};
 ghost use lib.Dec.{ltb};
 ghost use Rattle.registers.specs.declared.word.Word.the-variants.{Aux};
+ghost use Rattle.registers.specs.Subcommand.{largestAux};
 ghost use Rattle.registers.specs.Refusal.{isUnknown, isUnmodelled, awaits, table, lowest, refusalOf, readRefusalOf};
 use crate::Registers;
 use crate::allow::IMG_BITS;
@@ -12,6 +13,8 @@ use crate::allow::is_coordinate_allowed;
 use crate::allow::is_init_allowed;
 use crate::allow::is_parameter_allowed;
 use crate::shape::shape_of;
+use crate::subcommand::LARGEST_AUX;
+use crate::subcommand::UNMODELLED_AUX;
 use crate::subcommand::subcommand_of;
 use crate::subcommand::wanted;
 use crate::word::Word;
@@ -42,18 +45,18 @@ fn init_number(allowed: bool) -> u64
 
 // AUX can get 3, 5, 6 and 8.
 fn aux_number(cold: bool, waits: bool, number: u16) -> u64
-    ensures { λ r. ⌜ r ≡ lowest 3 (cold ∷ false ∷ isUnmodelled (Aux number) ∷ waits ∷ false ∷ ltb 12 number ∷ []) ⌝ }
+    ensures { λ r. ⌜ r ≡ lowest 3 (cold ∷ false ∷ isUnmodelled (Aux number) ∷ waits ∷ false ∷ ltb largestAux number ∷ []) ⌝ }
 {
     if cold {
         return 3;
     }
-    if number == 11 {
+    if number == UNMODELLED_AUX {
         return 5;
     }
     if waits {
         return 6;
     }
-    if 12 < number {
+    if LARGEST_AUX < number {
         return 8;
     }
     0

@@ -4,6 +4,7 @@ ghost use mathlib.Core.Bool.{cond};
 ghost use Rattle.registers.specs.Record.{noVertex, opened, noFigure};
 ghost use Rattle.registers.specs.Figure.{shapeOf, paired, advanced, grownOf, completes};
 use crate::Figure;
+use crate::PATTERN_LENGTH;
 use line::step_count;
 use picture::Vertex;
 
@@ -98,7 +99,7 @@ impl Figure {
     {
         let first = self.first;
         let second = no_vertex();
-        let made = ((self.steps as u32) + (step_count(first, v) as u32)) % 32;
+        let made = ((self.steps as u32) + (step_count(first, v) as u32)) % (PATTERN_LENGTH as u32);
         let flag = flag_of(dashed);
         Figure {
             shape: 3,

@@ -30,7 +30,7 @@ use Rattle.registers.specs.declared.shape.Completed.the-variants.{Nothing, Tria
 use Rattle.registers.specs.Record.{isOn, sectionBit}
 use Rattle.registers.specs.Next.{completedBy, penOf}
 use Rattle.registers.proofs.Refusals.{accepted-when}
-use Rattle.registers.proofs.Forms.{AllVertices, Near, completed-near}
+use Rattle.registers.proofs.Completing.{AllVertices, Near, completed-near}
 use Rattle.machine.specs.Machine.{Memories, rowsIn, numberOf}
 use Rattle.chip.specs.Chip.{modeOf, isConstant, styleOf, wholeOffers, isCut, figureOffers, chip}
 use Rattle.chip.proofs.Laws.{figure-counts, line-low}

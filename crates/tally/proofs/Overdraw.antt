@@ -15,12 +15,12 @@ use Rattle.registers.specs.declared.Registers.{Registers}
 use Rattle.registers.specs.declared.word.Word.{Word}
 use Rattle.registers.specs.declared.word.Word.the-variants.{At}
 use Rattle.registers.specs.declared.word.Coordinate.{Coordinate}
-use Rattle.registers.specs.declared.word.Coordinate.the-variants.{I, Z, Y, X, T1x, T2x, Lx, Px}
 use Rattle.registers.specs.declared.shape.Shape.the-variants.{Line}
 use Rattle.registers.specs.declared.shape.Completed.the-variants.{Nothing}
 use Rattle.registers.specs.Record.{isOn, invBit, resetOf}
-use Rattle.registers.specs.Figure.{shapeOf, completes}
-use Rattle.registers.specs.Next.{coordinateCompletes, completedBy}
+use Rattle.registers.specs.Figure.{shapeOf, completes, vertexCompletes}
+use Rattle.registers.specs.Next.{completedBy}
+use Rattle.registers.proofs.Completing.{only-x-and-px}
 use Rattle.machine.specs.Run.{Outcome, Ran, ran, runFrom, runOf}
 use Rattle.machine.specs.Machine.{Memories, stepOf}
 use Rattle.machine.proofs.Runs.{advance-accepted, advance-refused, stays}
@@ -131,15 +131,10 @@ streams-small streams =
 
 -- no coordinate completes a segment of a line while INV is 1
 unseen : (r : Registers) (c : Coordinate) (n : ℕ) → shapeOf (r .figure .shape) ≡ Line → isOn invBit (r .modes .lstatus) ≡ true → completedBy r (At c n) ≡ Nothing
-unfolding completedBy coordinateCompletes completes
-unseen r I n line inv = refl
-unseen r Z n line inv = refl
-unseen r Y n line inv = refl
-unseen r X n line inv = rw (line, inv)
-unseen r T1x n line inv = refl
-unseen r T2x n line inv = refl
-unseen r Lx n line inv = refl
-unseen r Px n line inv = rw (line, inv)
+unfolding completes
+unseen r c n line inv =
+    let hidden : (n : ℕ) → vertexCompletes r n ≡ Nothing = λ n. rw (line, inv) in
+    only-x-and-px (λ w f. f r ≡ Nothing) (λ w. refl) hidden hidden (At c n)
 
 -- ---- what passed
 

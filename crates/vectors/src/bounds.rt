@@ -137,16 +137,33 @@ fn awaited(name: &[u8], subcommand: u16, came: u16) {
     broken(name, r);
 }
 
-// A record that awaits parameters of WINDOW or IMG, with these parked.
-fn values(name: &[u8], subcommand: u16, values: [u16; 5]) {
+// A record that awaits parameters of WINDOW or IMG, of which some have come, with these parked.
+fn values(name: &[u8], subcommand: u16, came: u16, values: [u16; 5]) {
     let mut r = ready();
     let parked = Parked {
         subcommand: subcommand,
-        came: 0,
+        came: came,
         values: values,
     };
     r.parked = parked;
     broken(name, r);
+}
+
+// Values that have come, one by one; and one that has not, which is not judged, so that the word is refused since it is no parameter.
+fn parameters() {
+    values(b"bounds, parked left 16385", 6, 1, [16385, 0, 0, 0, 0]);
+    values(b"bounds, parked top 16385", 6, 2, [0, 16385, 0, 0, 0]);
+    values(b"bounds, parked right 16385", 6, 3, [0, 0, 16385, 0, 0]);
+    values(b"bounds, parked bottom 16385", 6, 4, [0, 0, 0, 16385, 0]);
+    values(b"bounds, parked x0 16384", 14, 1, [16384, 0, 0, 0, 0]);
+    values(b"bounds, parked y0 16384", 15, 2, [0, 16384, 0, 0, 0]);
+    values(b"bounds, parked x1 16384", 14, 3, [0, 0, 16384, 0, 0]);
+    values(
+        b"bounds, 16384 for y1 that has not come",
+        15,
+        3,
+        [0, 0, 0, 16384, 0],
+    );
 }
 
 // All bounds, one by one.
@@ -156,13 +173,6 @@ pub(crate) fn rows() {
     window();
     figure();
     parked();
-    values(b"bounds, parked left 16385", 6, [16385, 0, 0, 0, 0]);
-    values(b"bounds, parked top 16385", 6, [0, 16385, 0, 0, 0]);
-    values(b"bounds, parked right 16385", 6, [0, 0, 16385, 0, 0]);
-    values(b"bounds, parked bottom 16385", 6, [0, 0, 0, 16385, 0]);
-    values(b"bounds, parked x0 16384", 14, [16384, 0, 0, 0, 0]);
-    values(b"bounds, parked y0 16384", 15, [0, 16384, 0, 0, 0]);
-    values(b"bounds, parked x1 16384", 14, [0, 0, 16384, 0, 0]);
-    values(b"bounds, parked y1 16384", 15, [0, 0, 0, 16384, 0]);
+    parameters();
     region();
 }

@@ -18,6 +18,12 @@ cast-made-2 c = search needs
 add-made : tie.Need-add-made
 add-made c = search needs
 
+cast-made-3 : tie.Need-cast-made-3
+cast-made-3 c = search needs
+
+rem-made : tie.Need-rem-made
+rem-made c = search needs
+
 flag-of-requires : tie.Need-flag-of-requires
 flag-of-requires c κs = search needs
 
@@ -30,4 +36,4 @@ returns c = rw (c .flag-of .ensures, c .before .step-count .ensures, c .before .
 pub advanced-spec : {M : Type 1} → statement M
 advanced-spec =
     tie.close
-    (tie.spec no-vertex-requires cast-made step-count-requires cast-made-2 add-made flag-of-requires cast-t9 returns)
+    (tie.spec no-vertex-requires cast-made step-count-requires cast-made-2 add-made cast-made-3 rem-made flag-of-requires cast-t9 returns)

@@ -13,14 +13,21 @@ wanted-requires c κs = search needs
 less-one-requires : tie.Need-less-one-requires
 less-one-requires c κs = search needs
 
-values-fit-requires : tie.Need-values-fit-requires
-values-fit-requires c κs = search needs
+are-allowed-requires : tie.Need-are-allowed-requires
+are-allowed-requires c κs = search needs
 
 returns : tie.Need-returns
 unfolding parkedFits
-returns c = rw (c .values-fit .ensures, c .before .before .before .less-one .ensures, c .before .before .before .before .wanted .ensures, c .before .before .before .before .before .before .subcommand-of .ensures)
+returns c =
+    let at = c .before .before .before .before in
+    let s = at .before .before .before .subcommand-of .ensures in
+    rw (c .are-allowed .ensures, s, rw (at .less-one .ensures, at .before .wanted .ensures, s) at (c .before .if1 .taken))
+
+returns-2 : tie.Need-returns-2
+unfolding parkedFits
+returns-2 c =
+    let at = c .before .before .before in
+    rw (rw (at .less-one .ensures, at .before .wanted .ensures, at .before .before .before .subcommand-of .ensures) at (c .if1 .left))
 
 pub parked-fits-spec : {M : Type 1} → statement M
-parked-fits-spec =
-    tie.close
-    (tie.spec subcommand-of-requires wanted-requires less-one-requires values-fit-requires returns)
+parked-fits-spec = tie.close (tie.spec subcommand-of-requires wanted-requires less-one-requires are-allowed-requires returns returns-2)
