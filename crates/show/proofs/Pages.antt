@@ -13,7 +13,7 @@ use Rattle.report.specs.Levels.{levels, levelImage, drawnPlaces}
 use Rattle.report.proofs.Pages.{down-join}
 use Rattle.report.proofs.Levels.{drawn-low}
 use Rattle.report.proofs.Choice.{either}
-use Rattle.input.specs.Room.{filled, Filled}
+use Rattle.console.specs.Room.{filled, Filled}
 use Rattle.show.specs.Show.{Fresh, rowsHolding, rowsShown, pageRows, pages}
 
 -- rows that fit have a length

@@ -1,9 +1,9 @@
--- `space::blank` meets its contract: an array of one number. Assumes nothing.
+-- `blank` meets its contract: an array of one number. Assumes nothing.
 use mathlib.Core.Path.{refl, sym}
 use lib.ListN.{length-replicate}
-use Rattle.input.specs.Room.{filled}
-use Rattle.show.proofs.space.blank.Statement.{statement}
-use Rattle.show.proofs.space.blank.Tie as tie
+use Rattle.console.specs.Room.{filled}
+use Rattle.console.proofs.blank.Statement.{statement}
+use Rattle.console.proofs.blank.Tie as tie
 
 returns : tie.Need-returns
 unfolding filled

@@ -5,8 +5,8 @@ use Prim.Native.Nat.{_-_, _≤_}
 use native.Mathlib.Omega.{arith}
 use borrow.Author.Needs.{needs}
 use lib.ListN.{length}
-use Rattle.input.proofs.take_from.Statement.{statement}
-use Rattle.input.proofs.take_from.Tie as tie
+use Rattle.console.proofs.take_from.Statement.{statement}
+use Rattle.console.proofs.take_from.Tie as tie
 
 abbrev Inv-loop : tie.InvT-loop
 Inv-loop fd buf₀ at₀ buf at = (at ≤ length buf) × (length buf ≡ length buf₀)

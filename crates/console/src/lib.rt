@@ -1,9 +1,12 @@
-// What the programs read: standard input, or another descriptor, to its end or until a lent buffer is full. Which bytes come no contract can
-// say; specs/Input.antt says how many may. Beside it, room for what is read (specs/Room.antt).
+// The console of the programs: what they read, standard input or another descriptor, to its end or until a lent buffer is full; and what they
+// say on standard error. Which bytes come no contract can say; specs/Taken.antt says how many may. Beside it, room for what is read
+// (specs/Room.antt).
+pub mod say;
+
 ghost use lib.ListN.{length};
 ghost use Prim.Native.Nat.{_≤_, _-_};
-ghost use Rattle.input.specs.Input.{Within};
-ghost use Rattle.input.specs.Room.{Filled};
+ghost use Rattle.console.specs.Taken.{Within};
+ghost use Rattle.console.specs.Room.{Filled};
 use libc::STDIN_FILENO;
 
 // How many bytes came, or that a read failed.
@@ -61,4 +64,12 @@ pub fn words() -> [u32; 419430]
     ensures { λ r. ⌜ Filled 419430 0 r ⌝ }
 {
     [0; 419430]
+}
+
+// Places for a memory, each with the same number. The promise has the length beside the places, so that no proof that uses one looks at its places
+// one by one.
+pub fn blank(n: u16) -> [u16; 1048576]
+    ensures { λ r. ⌜ Filled 1048576 n r ⌝ }
+{
+    [n; 1048576]
 }
