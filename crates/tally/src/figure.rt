@@ -4,7 +4,6 @@ ghost use mathlib.Core.Bool.{cond};
 ghost use Prim.Native.Nat.{_-_, _≤_};
 ghost use lib.Dec.{eqb};
 ghost use Rattle.triangle.specs.Offers.{kindOf};
-ghost use Rattle.registers.specs.Next.{completedBy};
 ghost use Rattle.chip.specs.Chip.{modeOf, figureOffers};
 ghost use Rattle.tally.specs.Hidden.{offeredOf};
 ghost use Rattle.tally.specs.Tally.{count, noTally};
@@ -16,24 +15,6 @@ use chip::draw::draw;
 use picture::Kind;
 use registers::Registers;
 use registers::shape::Completed;
-use registers::word::Word;
-
-// What an accepted word completes.
-pub(crate) fn completed(r: Registers, word: Word) -> Completed
-    ensures { λ f. ⌜ f ≡ completedBy r word ⌝ }
-{
-    match word {
-        Word::Init(d) => Completed::Nothing,
-        Word::Aux(n) => Completed::Nothing,
-        Word::Parm(v) => Completed::Nothing,
-        Word::At(c, n) => r.completed_by(c, n),
-        Word::Img(d) => Completed::Nothing,
-        Word::Ptrn(v) => Completed::Nothing,
-        Word::Reserved => Completed::Nothing,
-        Word::Unmodelled => Completed::Nothing,
-        Word::Unknown => Completed::Nothing,
-    }
-}
 
 // The registers with the depth test and both write enables off.
 fn muted(mut r: Registers) -> Registers

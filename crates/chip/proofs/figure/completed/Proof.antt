@@ -1,8 +1,8 @@
--- `figure::completed` meets its contract. Assumes nothing.
+-- `figure::completed` meets its contract: each kind of word has its arm. Assumes nothing.
 use Rattle.registers.specs.Next.{completedBy}
 use borrow.Author.Needs.{needs}
-use Rattle.tally.proofs.figure.completed.Statement.{statement}
-use Rattle.tally.proofs.figure.completed.Tie as tie
+use Rattle.chip.proofs.figure.completed.Statement.{statement}
+use Rattle.chip.proofs.figure.completed.Tie as tie
 
 enum-known-word : tie.Need-enum-known-word
 enum-known-word c = search needs
