@@ -4,7 +4,7 @@ ghost use Prim.Native.Nat.{_*_, _≤_, _<_};
 ghost use lib.ListN.{length};
 ghost use Rattle.machine.specs.Run.{ran};
 ghost use Rattle.machine.specs.Machine.{memories};
-ghost use Rattle.show.specs.Show.{Fresh, drawnOn};
+ghost use Rattle.chip.specs.Fresh.{fresh, freshRun};
 ghost use Rattle.machine.specs.Lent.{left};
 use crate::Wanted;
 use crate::page::page_rows;
@@ -108,15 +108,15 @@ fn write_shown(wanted: Wanted, line: u16, im: &mut [u16], zm: &mut [u16]) {
 
 // Draws the bytes on fresh memories.
 fn drawn(bytes: &[u8], im: &mut [u16], zm: &mut [u16]) -> Ran
-    requires { ⌜ Fresh (now im) (now zm) ⌝ }
-    ensures { λ a. ⌜ ran (a .refusal) (a .index) (a .sum) (a .registers) (left im zm) ≡ drawnOn (length (now (im .entry))) (now (bytes .entry)) ⌝ }
+    requires { ⌜ memories (now im) (now zm) ≡ fresh (length (now im)) ⌝ }
+    ensures { λ a. ⌜ ran (a .refusal) (a .index) (a .sum) (a .registers) (left im zm) ≡ freshRun (length (now (im .entry))) (now (bytes .entry)) ⌝ }
 {
     run(bytes, im, zm)
 }
 
 // Draws the bytes on fresh memories and writes the image. After a refused word it shows what stands.
 pub(crate) fn write_drawn(wanted: Wanted, bytes: &[u8], im: &mut [u16], zm: &mut [u16])
-    requires { ⌜ Fresh (now im) (now zm) ⌝ }
+    requires { ⌜ memories (now im) (now zm) ≡ fresh (length (now im)) ⌝ }
 {
     let end = drawn(bytes, im, zm);
     if is_of_whole(end.refusal) {

@@ -1,8 +1,8 @@
--- `text::put_text` meets its contract: the text fits, so that it is written and `NoRoom` is never answered. Assumes nothing.
+-- `put_report` meets its contract: the text fits, so that it is written and `NoRoom` is never answered. Assumes nothing.
 use borrow.Author.Needs.{needs}
 use Rattle.report.proofs.Fitting.{text-stands, text-fits}
-use Rattle.draw.proofs.text.put_text.Statement.{statement}
-use Rattle.draw.proofs.text.put_text.Tie as tie
+use Rattle.printing.proofs.put_report.Statement.{statement}
+use Rattle.printing.proofs.put_report.Tie as tie
 
 write-requires : tie.Need-write-requires
 write-requires c κs = search needs
@@ -32,5 +32,5 @@ returns-2 c =
     (text-fits (a .words) (a .refusal) (a .passed) (a .line) (a .im .now) (a .zm .now) (a .out .now) _ _ (search needs) (search needs) (search needs) (search needs)
     (λ k. i .shared-slice-known .given k .fits) (λ k. z .shared-slice-known2 .given k .fits) (search needs) (w .write .ensures) (c .enum-told .given .1))
 
-pub put-text-spec : {M : Type 1} → statement M
-put-text-spec = tie.close (tie.spec write-requires enum-known-answer enum-told returns returns-2)
+pub put-report-spec : {M : Type 1} → statement M
+put-report-spec = tie.close (tie.spec write-requires enum-known-answer enum-told returns returns-2)

@@ -1,8 +1,8 @@
--- `text::within` meets its contract. Assumes nothing.
+-- `streams::within` meets its contract. Assumes nothing.
 use Rattle.vectors.proofs.Counting.{counted}
 use borrow.Author.Needs.{needs}
-use Rattle.vectors.proofs.text.within.Statement.{statement}
-use Rattle.vectors.proofs.text.within.Tie as tie
+use Rattle.vectors.proofs.streams.within.Statement.{statement}
+use Rattle.vectors.proofs.streams.within.Tie as tie
 
 returns : tie.Need-returns
 returns c = counted _ _ (search needs)
