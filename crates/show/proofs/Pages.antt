@@ -12,7 +12,7 @@ use Rattle.report.specs.Image.{imageHeading, pixelSize, down, image}
 use Rattle.report.specs.Levels.{levels, levelImage, drawnPlaces}
 use Rattle.report.proofs.Pages.{down-join}
 use Rattle.report.proofs.Levels.{drawn-low}
-use Rattle.report.proofs.Choice.{either}
+use Rattle.ground.proofs.Truth.{either}
 use Rattle.machine.specs.Machine.{memories}
 use Rattle.chip.specs.Fresh.{fresh}
 use Rattle.console.specs.Room.{filled, Filled}

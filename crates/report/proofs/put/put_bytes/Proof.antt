@@ -1,4 +1,4 @@
--- `heading::put_bytes` meets its contract. The invariant of its loop: the bytes from k on, put over what stands, give what the whole name
+-- `put::put_bytes` meets its contract. The invariant of its loop: the bytes from k on, put over what stands, give what the whole name
 -- gives, put over what stood. The measure is the number of bytes left. Assumes nothing.
 use mathlib.Core.Path.{_≡_, refl, sym, ap, _∙_}
 use Prim.Native.Nat.{ℕ, suc, _+_, _-_, _≤_}
@@ -8,8 +8,8 @@ use native.Mathlib.Omega.{arith}
 use borrow.Author.Needs.{needs}
 use lib.ListN.{length, getD, set, drop, length-set}
 use lib.Seq.{sets, drop-cons, drop-length}
-use Rattle.report.proofs.heading.put_bytes.Statement.{statement}
-use Rattle.report.proofs.heading.put_bytes.Tie as tie
+use Rattle.report.proofs.put.put_bytes.Statement.{statement}
+use Rattle.report.proofs.put.put_bytes.Tie as tie
 
 next : (at k : ℕ) → at + (k + 1) ≡ suc (at + k)
 next at k = omega arith

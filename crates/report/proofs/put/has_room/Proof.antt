@@ -1,11 +1,11 @@
--- `trace::has_room` meets its contract: the same test without a sum that could wrap. Assumes nothing.
+-- `put::has_room` meets its contract: the same test without a sum that could wrap. Assumes nothing.
 use mathlib.Core.Path.{sym}
 use Prim.Native.Nat.{_+_}
 use native.Mathlib.Omega.{arith}
 use borrow.Author.Tests.{lt-leb}
-use Rattle.listing.proofs.Traces.{room-same}
-use Rattle.listing.proofs.trace.has_room.Statement.{statement}
-use Rattle.listing.proofs.trace.has_room.Tie as tie
+use Rattle.report.proofs.Laying.{room-same}
+use Rattle.report.proofs.put.has_room.Statement.{statement}
+use Rattle.report.proofs.put.has_room.Tie as tie
 
 returns : tie.Need-returns
 returns c = sym (lt-leb (c .before .args .at + c .before .args .size) (c .before .args .room) (omega (arith, c .if1 .taken)))
