@@ -2,10 +2,11 @@
 // What is a word and what a remark is said in listing's specs/Reading.antt. Nothing is written of a text that has something else in it.
 ghost use Prim.Native.Nat.{_≤_};
 ghost use lib.ListN.{length};
-use input::Taken;
-use input::recording;
-use input::take;
-use libc::STDERR_FILENO;
+use console::Taken;
+use console::recording;
+use console::say::say;
+use console::say::say_number;
+use console::take;
 use libc::STDOUT_FILENO;
 use listing::read::Mood;
 use listing::read::Reader;
@@ -14,15 +15,9 @@ use listing::read::start;
 use stream::Coded;
 use stream::write::pack;
 
-// A line to whoever started the program.
-fn say(text: &[u8]) {
-    io::write_all(STDERR_FILENO, text);
-}
-
 // Says in which line something stands that is no word.
 fn say_no_word(line: u64) {
-    say(b"assemble: line ");
-    io::print_decimal(STDERR_FILENO, line);
+    say_number(b"assemble: line ", line);
     say(b": not a word of five hexadecimal digits\n");
 }
 
@@ -89,6 +84,6 @@ fn main() {
         say(b"usage: assemble < TEXT > RECORDING\n");
         return;
     }
-    let mut words = input::words();
+    let mut words = console::words();
     assemble(&mut words);
 }

@@ -4,16 +4,16 @@ use mathlib.Core.Path.{_≡_}
 use mathlib.Core.Bool.{true}
 use mathlib.Core.List.{List, [], _∷_, _++_, map}
 use Prim.Native.Nat.{ℕ}
-use lib.ListN.{replicate}
 use Rattle.picture.specs.declared.Kind.the-variants.{Gouraud, Line2}
 use Rattle.picture.specs.Offer.{Offer, offer}
 use Rattle.picture.specs.Cell.{cell}
 use Rattle.registers.specs.Record.{resetOf}
 use Rattle.registers.specs.Word.{wordOf}
-use Rattle.machine.specs.Machine.{Memories, memories, stepOf}
+use Rattle.machine.specs.Machine.{Memories, stepOf}
 use Rattle.machine.specs.Touched.{cellIn}
 use Rattle.machine.specs.Offers.{allOf}
 use Rattle.chip.specs.Chip.{chip}
+use Rattle.chip.specs.Fresh.{fresh}
 use Rattle.belief.specs.Belief.{offersOf, supposed}
 
 -- ---- their words, each told by its number
@@ -71,7 +71,7 @@ outline = init ++ farFace ++ edgeLines ++ tiedFace ++ farthestLine
 
 -- nothing is drawn yet, and all is far
 unfoldable pub blank : Memories
-blank = memories (replicate 512 0) (replicate 512 65535)
+blank = fresh 512
 
 -- what a run offers at a place, and how the place ends
 pub record Owned (numbers : List ℕ) (at : ℕ) (os : List Offer) (i z : ℕ) : Type 0 where

@@ -3,6 +3,7 @@ pub mod Section
 pub mod Dashes
 pub mod WorkedLine
 pub mod Stream
+pub mod Fresh
 pub mod Read
 pub mod Promises
 pub mod Demands

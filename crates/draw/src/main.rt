@@ -2,9 +2,9 @@
 // reads is `printed` (specs/Draw.antt). Where a read or a write fails, or where it is given arguments, it says so on standard error.
 mod text;
 
-use input::Taken;
-use input::take;
-use libc::STDERR_FILENO;
+use console::Taken;
+use console::say::say;
+use console::take;
 use libc::STDOUT_FILENO;
 use text::put_printed;
 
@@ -20,7 +20,7 @@ fn print(bytes: &[u8]) {
 // One byte more than a stream may have is enough to tell that it is too long.
 fn main() {
     if 1 < os::arg_count() {
-        io::write_all(STDERR_FILENO, b"usage: draw < RECORDING > TEXT\n");
+        say(b"usage: draw < RECORDING > TEXT\n");
         return;
     }
     let mut bytes = [0u8; 8193];

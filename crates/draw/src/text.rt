@@ -1,43 +1,20 @@
 // What the program prints for the bytes that it read.
 ghost use Prim.Native.Nat.{_≤_};
 ghost use lib.ListN.{length};
-ghost use Rattle.report.specs.Text.{report};
 ghost use Rattle.report.specs.Calls.{Stands};
-ghost use Rattle.draw.specs.Draw.{drawn, printed, tooLong};
+ghost use Rattle.printing.specs.Printing.{streamText};
+ghost use Rattle.draw.specs.Draw.{printed, tooLong};
 use chip::run::run;
-use report::Written;
-use report::write;
-
-// The text of a run over a picture of 8,192 places. It always fits, 22 bytes for each place and 84 for the first line, so that the last
-// case never comes.
-fn put_text(
-    words: u64,
-    refusal: u64,
-    passed: u64,
-    line: u16,
-    im: &[u16],
-    zm: &[u16],
-    out: &mut [u8; 180308],
-) -> usize
-    requires { ⌜ length (now im) ≤ 8192 ⌝ }
-    ensures { λ r. ⌜ Stands (report words refusal passed line (now (im .entry)) (now (zm .entry))) (now (out .entry)) (now (out .exit)) r ⌝ }
-{
-    let answer = write(words, refusal, passed, line, im, zm, out);
-    match answer {
-        Written::Done(n) => n,
-        Written::NoRoom => 0,
-    }
-}
+use printing::put_text;
 
 // The text of a stream, drawn on a fresh picture.
 fn put_drawn(bytes: &[u8], out: &mut [u8; 180308]) -> usize
-    ensures { λ r. ⌜ Stands (drawn (now (bytes .entry))) (now (out .entry)) (now (out .exit)) r ⌝ }
+    ensures { λ r. ⌜ Stands (streamText (now (bytes .entry))) (now (out .entry)) (now (out .exit)) r ⌝ }
 {
     let mut im = [0u16; 8192];
     let mut zm = [65535u16; 8192];
     let ran = run(bytes, &mut im, &mut zm);
-    let line = ran.registers.frame.line;
-    put_text(ran.index, ran.refusal, ran.sum, line, &im, &zm, out)
+    put_text(ran, &im, &zm, out)
 }
 
 // What is printed for a stream that is too long.

@@ -4,19 +4,14 @@ mod page;
 
 ghost use Prim.Native.Nat.{_≤_};
 ghost use lib.ListN.{length};
-use input::Taken;
-use input::recording;
-use input::take;
-use libc::STDERR_FILENO;
+use console::Taken;
+use console::recording;
+use console::say::say;
+use console::take;
 use libc::STDOUT_FILENO;
 use page::put_page;
 use stream::Coded;
 use stream::read::unpack;
-
-// A line to whoever started the program.
-fn say(text: &[u8]) {
-    io::write_all(STDERR_FILENO, text);
-}
 
 // Prints a text, or says that it cannot.
 fn print(text: &[u8]) -> bool {
@@ -53,7 +48,7 @@ fn refuse(text: &[u8]) -> bool {
 // Prints the words of a stream, or the number that refuses it. There is room for the words of 1,048,576 bytes, and words that are unpacked
 // have 20 bits, so that the last two cases never come (by reasoning, not by proof).
 fn print_stream(bytes: &[u8]) -> bool {
-    let mut words = input::words();
+    let mut words = console::words();
     let answer = unpack(bytes, &mut words);
     match answer {
         Coded::Done(n) => print_words(&words[..n]),

@@ -1,21 +1,11 @@
 // Pages of a listing, of 2,520 lines each: as many as fit a buffer of 65,536 bytes.
-ghost use Prim.Native.Nat.{_≤_, min};
-ghost use mathlib.Core.Path.{_≡_};
+ghost use Prim.Native.Nat.{_≤_};
 ghost use lib.ListN.{length};
 ghost use Rattle.report.specs.Calls.{Stands};
 ghost use Rattle.list.specs.List.{pageOf};
+use ground::least;
 use listing::write::list;
 use report::Written;
-
-// The less of two numbers.
-fn least(m: usize, n: usize) -> usize
-    ensures { λ r. ⌜ r ≡ min m n ⌝ }
-{
-    if m < n {
-        return m;
-    }
-    n
-}
 
 // Puts the lines of the words from `from` on. They always fit, so that the last case never comes.
 pub(crate) fn put_page(words: &[u32], from: usize, page: &mut [u8; 65536]) -> usize

@@ -3,13 +3,13 @@
 use mathlib.Core.Path.{_≡_, refl, sym, ap, ap₂, _∙_, subst}
 use mathlib.Core.Bool.{Bool, true, false, cond, _&&_}
 use mathlib.Core.List.{List, [], _∷_, _++_, foldl-append}
-use Prim.Native.Nat.{ℕ, zero, suc, _+_, _-_, _*_, _/_, _%_, _^_, _≤_, _<_}
+use Prim.Native.Nat.{ℕ, zero, suc, _+_, _*_, _/_, _%_, _^_, _≤_, _<_}
 use native.Mathlib.Nat.{mod-lt, zero-add, mul-comm, pow-succ', div-lt-iff-lt-mul}
 use native.Mathlib.Numerals.{add-one}
 use native.Mathlib.Omega.{arith}
 use lib.ListN.{length, getD, set, take, drop}
 use lib.Seq.{sets, length-sets, take-suc, take-length, length-take-le, take-append-seam}
-use lib.Dec.{T, ltb, eqb}
+use lib.Dec.{T, ltb}
 use borrow.Author.Tests.{lt-ltb, le-ltb, ne-eqb, ltb-true, ltb-false}
 use Rattle.stream.specs.Format.{unpackOf, packOf}
 use Rattle.stream.specs.Calls.{checked, over}
@@ -19,7 +19,7 @@ use Rattle.report.specs.Calls.{Put}
 use Rattle.report.proofs.Putting.{put-byte, put-append, put-over}
 use Rattle.listing.specs.declared.read.Mood.the-variants.{Words, Remark}
 use Rattle.listing.specs.Text.{glyph, digits, names, nameOf, placed, line, lines, listing}
-use Rattle.listing.specs.Reading.{Reading, reading, reader, digitOf, isEnd, grown, stored, closed, passed, ended, inWords, remarked, taken, readOn, wordsIn, fresh}
+use Rattle.listing.specs.Reading.{Reading, reading, reader, digitOf, isEnd, grown, stored, closed, passed, ended, inWords, remarked, taken, readOn, wordsIn, atStart}
 
 -- ---- reading on, in parts
 
@@ -195,19 +195,19 @@ module _ (from : ℕ) (ws buffer : List ℕ) (f : Fits 20 ws) (room : length ws 
       put-append all (put-byte (sets buffer 0 (take k ws)) k (getD ws k 0)) .stands
       ∙ ap (sets buffer 0) (sym (take-suc ws k 0 h) ∙ ap (λ (n : ℕ). take n ws) (sym (add-one k)))
 
-  read-lines : (k : ℕ) → k ≤ length ws → readOn (reading fresh buffer) (lines from ws k) ≡ reading (reader Words 0 0 k ((1 + k) % 2 ^ 64)) (sets buffer 0 (take k ws))
+  read-lines : (k : ℕ) → k ≤ length ws → readOn (reading atStart buffer) (lines from ws k) ≡ reading (reader Words 0 0 k ((1 + k) % 2 ^ 64)) (sets buffer 0 (take k ws))
   unfolding lines readOn
   read-lines zero h = refl
   read-lines (suc k) h =
       let low : k < length (sets buffer 0 (take k ws)) = omega (arith, h, room, length-sets buffer 0 (take k ws)) in
       let next : ((1 + k) % 2 ^ 64 + 1) % 2 ^ 64 ≡ (1 + suc k) % 2 ^ 64 = omega arith in
-      reads (reading fresh buffer) (lines from ws k) (line (from + k) (getD ws k 0)) (read-lines k (omega (arith, h)))
+      reads (reading atStart buffer) (lines from ws k) (line (from + k) (getD ws k 0)) (read-lines k (omega (arith, h)))
       (read-line k ((1 + k) % 2 ^ 64) (from + k) (getD ws k 0) (sets buffer 0 (take k ws)) (fits-at f k) low)
       ∙ ap₂ (λ (ln : ℕ) (stored : List ℕ). reading (reader Words 0 0 (k + 1) ln) stored) next (stored-more k h)
       ∙ rw (add-one k)
 
   -- what is listed is read as the same words, from the front of the buffer on; the reader stands between words, on the line after the last
-  pub back : readOn (reading fresh buffer) (listing from ws) ≡ reading (reader Words 0 0 (length ws) ((1 + length ws) % 2 ^ 64)) (over ws buffer)
+  pub back : readOn (reading atStart buffer) (listing from ws) ≡ reading (reader Words 0 0 (length ws) ((1 + length ws) % 2 ^ 64)) (over ws buffer)
   unfolding listing
   back =
       let whole : Put ws buffer 0 (sets buffer 0 ws) (length ws) = record { stands = refl; ends = sym (zero-add (length ws)) } in
@@ -216,7 +216,7 @@ module _ (from : ℕ) (ws buffer : List ℕ) (f : Fits 20 ws) (room : length ws 
 
 -- a recording that is listed, read and packed again is the same recording
 pub recording-back : {bytes : List ℕ} (buffer : List ℕ) (from : ℕ) → Fits 8 bytes → checked bytes 0 ≡ 0 → length (unpackOf bytes) ≤ length buffer
-    → packOf (wordsIn (readOn (reading fresh buffer) (listing from (unpackOf bytes)))) ≡ bytes
+    → packOf (wordsIn (readOn (reading atStart buffer) (listing from (unpackOf bytes)))) ≡ bytes
 unfolding wordsIn over
 recording-back {bytes} buffer from f good room =
     let words = unpackOf bytes in

@@ -6,11 +6,11 @@ use native.Mathlib.Omega.{arith}
 use lib.ListN.{length, length-set}
 use lib.Dec.{ltb, eqb}
 use borrow.Author.Tests.{ltb-true}
-use Rattle.report.proofs.Choice.{either}
+use Rattle.ground.proofs.Truth.{either}
 use Rattle.listing.specs.declared.read.Reader.{Reader}
 use Rattle.listing.specs.declared.read.Mood.{Mood}
 use Rattle.listing.specs.declared.read.Mood.the-variants.{Words, Remark, NotWord, NoRoom}
-use Rattle.listing.specs.Reading.{Reading, reading, digitOf, isEnd, grown, stored, closed, passed, after, ended, inWords, remarked, taking, taken, readOn}
+use Rattle.listing.specs.Reading.{Reading, reading, digitOf, isEnd, grown, stored, closed, passed, passedIn, ended, inWords, remarked, taking, taken, readOn}
 
 module _ (n : ℕ) where
   -- the buffer has n places, and no more words are stored
@@ -28,11 +28,11 @@ module _ (n : ℕ) where
   unfolding passed
   passed-held r b h = either Held (eqb b 35) (λ _. h) (λ _. either Held (eqb b 10) (λ _. h) (λ _. h))
 
-  after-held : (m : Mood) (r : Reader) (b : ℕ) → Held r → Held (after m r b)
-  after-held Words r b h = passed-held r b h
-  after-held Remark r b h = h
-  after-held NotWord r b h = h
-  after-held NoRoom r b h = h
+  passed-in-held : (m : Mood) (r : Reader) (b : ℕ) → Held r → Held (passedIn m r b)
+  passed-in-held Words r b h = passed-held r b h
+  passed-in-held Remark r b h = h
+  passed-in-held NotWord r b h = h
+  passed-in-held NoRoom r b h = h
 
   remarked-held : (r : Reader) (b : ℕ) → Held r → Held (remarked r b)
   unfolding remarked
@@ -51,7 +51,7 @@ module _ (n : ℕ) where
 
   ended-kept : (s : Reading) (b : ℕ) → Kept s → Kept (ended s b)
   unfolding ended
-  ended-kept s b k = (after-held (s .reader .mood) (s .reader) b (k .0), k .1)
+  ended-kept s b k = (passed-in-held (s .reader .mood) (s .reader) b (k .0), k .1)
 
   words-kept : (s : Reading) (b : ℕ) → Kept s → Kept (inWords s b)
   unfolding inWords

@@ -1,12 +1,12 @@
 -- How long digits, names and lines are, and how they are put. Assumes nothing.
-use mathlib.Core.Path.{_≡_, refl, sym, ap, _∙_}
+use mathlib.Core.Path.{_≡_, refl, _∙_}
 use mathlib.Core.List.{List, [], _∷_, _++_}
-use Prim.Native.Nat.{ℕ, zero, suc, _+_, _-_, _*_, _/_, _%_, _≤_, _<_}
+use Prim.Native.Nat.{ℕ, zero, suc, _+_, _*_, _/_, _%_, _≤_}
 use native.Mathlib.Nat.{suc-mul}
 use native.Mathlib.Numerals.{add-one}
 use native.Mathlib.Omega.{arith}
 use lib.ListN.{length, getD, set, take, drop, length-append, length-drop}
-use lib.Seq.{sets, drop-cons, length-take-le, getD-take, getD-drop}
+use lib.Seq.{sets, length-take-le}
 use Rattle.report.proofs.Putting.{store-first}
 use Rattle.listing.specs.Text.{glyph, digits, names, nameOf, placed, line, lines, listing}
 
@@ -36,16 +36,6 @@ put-all base n at out = refl
 module _ (text : List ℕ) (from count : ℕ) (h : from + count ≤ length text) where
   pub length-part : length (take count (drop from text)) ≡ count
   length-part = length-take-le count (drop from text) (omega (arith, length-drop from text))
-
-  -- a byte of it stored, those behind it are left to put
-  pub put-next : (k at : ℕ) (out : List ℕ) → k < count
-      → sets (set out (at + k) (getD text (from + k) 0)) (at + (k + 1)) (drop (k + 1) (take count (drop from text)))
-      ≡ sets out (at + k) (drop k (take count (drop from text)))
-  put-next k at out l =
-      let part = take count (drop from text) in
-      let byte : getD part k 0 ≡ getD text (from + k) 0 = getD-take count (drop from text) k 0 l ∙ getD-drop from text k 0 in
-      let next : at + (k + 1) ≡ suc (at + k) = omega arith in
-      rw (next, sym byte, add-one k) (sym (ap (sets out (at + k)) (drop-cons part k 0 (omega (arith, length-part, l)))))
 
 -- ---- a line, and lines
 

@@ -1,20 +1,16 @@
--- How long the lines of a trace and their parts are, and what laying one comes to. Assumes nothing.
-use mathlib.Core.Path.{_≡_, refl, sym, ap, _∙_}
-use mathlib.Core.Bool.{Bool, true, false, cond, not}
+-- How long the lines of a trace and their parts are. Assumes nothing.
+use mathlib.Core.Path.{_≡_, refl}
 use mathlib.Core.List.{List, [], _∷_, _++_}
-use Prim.Native.Nat.{ℕ, _+_, _-_, _*_, _/_, _%_, _≤_}
+use Prim.Native.Nat.{ℕ, _+_, _*_, _/_, _%_}
 use native.Mathlib.Omega.{arith}
-use lib.Dec.{leb, eqb}
+use lib.Dec.{eqb}
 use lib.ListN.{length, length-append}
-use lib.Seq.{sets}
-use borrow.Author.Tests.{leb-true, leb-false, le-leb, lt-leb, not-true, not-false}
-use Rattle.report.specs.Calls.{Put}
-use Rattle.report.proofs.Choice.{either}
+use Rattle.ground.proofs.Truth.{either}
 use Rattle.listing.specs.declared.trace.Meaning.{Meaning}
 use Rattle.listing.specs.declared.trace.Traced.{Traced}
 use Rattle.listing.specs.declared.trace.Numbers.{Numbers}
 use Rattle.listing.specs.Text.{digits, nameOf, placed}
-use Rattle.listing.specs.Trace.{meanings, meaningName, share, meaningText, numberText, answerText, tracedText, numbersText, traceLine, watchLine, fits, Laid}
+use Rattle.listing.specs.Trace.{meanings, meaningName, share, meaningText, numberText, answerText, tracedText, numbersText, traceLine, watchLine}
 use Rattle.listing.proofs.Lines.{length-digits, length-part, length-placed, length-name}
 
 -- ---- lengths
@@ -33,7 +29,7 @@ length-some came wanted =
       length-digits 10 1 wanted,
     )
 
-pub length-share : (came wanted : ℕ) → length (share came wanted) ≡ 3
+length-share : (came wanted : ℕ) → length (share came wanted) ≡ 3
 unfolding share
 length-share came wanted = either (λ (text : List ℕ). length text ≡ 3) (eqb wanted 0) (λ _. refl) (λ _. length-some came wanted)
 
@@ -46,7 +42,7 @@ pub length-number : (count n : ℕ) → length (numberText count n) ≡ 1 + coun
 unfolding numberText
 length-number count n = omega (arith, length-append (32 ∷ []) (digits 10 count n), length-digits 10 count n)
 
-pub length-answer : (refusal passed : ℕ) → length (answerText refusal passed) ≡ 11
+length-answer : (refusal passed : ℕ) → length (answerText refusal passed) ≡ 11
 unfolding answerText
 length-answer refusal passed =
     omega (arith, length-append (numberText 2 refusal) (numberText 7 passed), length-number 2 refusal, length-number 7 passed)
@@ -92,50 +88,3 @@ length-watch t before after =
       length-numbers before,
       length-numbers after,
     )
-
--- ---- laying
-
--- a test without a sum that could wrap
-pub room-same : (room size at : ℕ) → size ≤ room → leb at (room - size) ≡ leb (at + size) room
-room-same room size at h = go (leb at (room - size)) refl
-  where
-    go : (b : Bool) → leb at (room - size) ≡ b → leb at (room - size) ≡ leb (at + size) room
-    go true e = e ∙ sym (le-leb (at + size) room (omega (arith, h, leb-true at (room - size) e)))
-    go false e = e ∙ sym (lt-leb (at + size) room (omega (arith, h, leb-false at (room - size) e)))
-
--- the test's answer is that there is room
-pub roomy : (room size at : ℕ) {r : Bool} → r ≡ leb (at + size) room → not r ≡ false → at + size ≤ room
-roomy room size at {r} e n = leb-true (at + size) room (sym e ∙ not-false r n)
-
-module _ (text old : List ℕ) (at : ℕ) {size : ℕ} {r : Bool} (long : length text ≡ size) (e : r ≡ leb (at + size) (length old)) where
-  -- a text without room is left out
-  pub laid-none : not r ≡ true → Laid text old at old at
-  laid-none n =
-      let no : fits text old at ≡ false = ap (λ (k : ℕ). leb (at + k) (length old)) long ∙ sym e ∙ not-true r n in
-      record { left = rw no; end = rw no }
-
-  -- one with room is put
-  pub laid-put : {new : List ℕ} {next : ℕ} → not r ≡ false → Put text old at new next → Laid text old at new next
-  laid-put n p =
-      let yes : fits text old at ≡ true = ap (λ (k : ℕ). leb (at + k) (length old)) long ∙ sym e ∙ not-false r n in
-      record { left = rw yes (p .stands); end = rw yes (p .ends) }
-
--- no text leaves all as it is
-pub laid-nothing : (old : List ℕ) (at : ℕ) → Laid [] old at old at
-laid-nothing old at = record { left = go (fits [] old at); end = so (fits [] old at) }
-  where
-    go : (b : Bool) → old ≡ cond b (sets old at []) old
-    go true = refl
-    go false = refl
-
-    so : (b : Bool) → at ≡ cond b (at + 0) at
-    so true = omega arith
-    so false = refl
-
--- what is laid ends inside, if it begins there, and keeps the length
-pub laid-within : {text old new : List ℕ} {at next : ℕ} → Laid text old at new next → at ≤ length old → next ≤ length old
-laid-within {text} {old} {new} {at} {next} p h = rw (p .end) (go (fits text old at) refl)
-  where
-    go : (b : Bool) → fits text old at ≡ b → cond b (at + length text) at ≤ length old
-    go true e = leb-true (at + length text) (length old) e
-    go false e = h

@@ -65,15 +65,15 @@ unfoldable pub passed : Reader → ℕ → Reader
 passed r b = cond (eqb b 35) (inMood Remark r) (cond (eqb b 10) (lined r) r)
 
 -- the same, unless there was no word or no room
-abbrev pub after : Mood → Reader → ℕ → Reader
-after Words r b = passed r b
-after Remark r b = r
-after NotWord r b = r
-after NoRoom r b = r
+abbrev pub passedIn : Mood → Reader → ℕ → Reader
+passedIn Words r b = passed r b
+passedIn Remark r b = r
+passedIn NotWord r b = r
+passedIn NoRoom r b = r
 
 -- the byte behind a word
 unfoldable pub ended : Reading → ℕ → Reading
-ended s b = reading (after (s .reader .mood) (s .reader) b) (s .words)
+ended s b = reading (passedIn (s .reader .mood) (s .reader) b) (s .words)
 
 -- a byte outside of remarks
 unfoldable pub inWords : Reading → ℕ → Reading
@@ -99,8 +99,8 @@ taken s b = taking (s .reader .mood) s b
 -- ---- a text
 
 -- before the first byte
-abbrev pub fresh : Reader
-fresh = reader Words 0 0 0 1
+abbrev pub atStart : Reader
+atStart = reader Words 0 0 0 1
 
 -- a text more. A word is stored when the byte behind it comes, so that a whole text ends with a line's end or a blank
 unfoldable pub readOn : Reading → List ℕ → Reading

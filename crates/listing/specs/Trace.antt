@@ -3,12 +3,10 @@
 --   D2000 # 0000003 PARM 2000 WINDOW     2/5 00 0000000
 -- With a pixel, its I and Z before and after the word come behind that. Each number has as many digits as its columns, zeros in front.
 use Prim.Native.Nat.{ℕ, _+_, _*_, _/_, _%_}
-use mathlib.Core.Path.{_≡_}
-use mathlib.Core.Bool.{Bool, cond}
+use mathlib.Core.Bool.{cond}
 use mathlib.Core.List.{List, [], _∷_, _++_}
-use lib.ListN.{length, take, drop}
-use lib.Seq.{sets}
-use lib.Dec.{leb, eqb}
+use lib.ListN.{take, drop}
+use lib.Dec.{eqb}
 use Rattle.listing.specs.declared.trace.Meaning.{Meaning}
 use Rattle.listing.specs.declared.trace.Traced.{Traced}
 use Rattle.listing.specs.declared.trace.Numbers.{Numbers}
@@ -90,14 +88,3 @@ traceLine t = tracedText t ++ (10 ∷ [])
 -- the line of a word with a pixel's numbers before and after it
 unfoldable pub watchLine : Traced → Numbers → Numbers → List ℕ
 watchLine t before after = tracedText t ++ numbersText before ++ numbersText after ++ (10 ∷ [])
-
--- ---- what laying a text at a place leaves
-
--- there is room for it
-abbrev pub fits : List ℕ → List ℕ → ℕ → Bool
-fits text old at = leb (at + length text) (length old)
-
--- with room enough it stands there, all else is untouched, and the place after it is told; without, all is untouched and the place told again
-pub record Laid (text old : List ℕ) (at : ℕ) (new : List ℕ) (next : ℕ) : Type 0 where
-  pub left : new ≡ cond (fits text old at) (sets old at text) old
-  pub end : next ≡ cond (fits text old at) (at + length text) at

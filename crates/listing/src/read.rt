@@ -1,8 +1,8 @@
 // Text to words, byte by byte: a text may come in pieces.
 ghost use mathlib.Core.Path.{_≡_};
 ghost use Prim.Native.Nat.{_<_};
-ghost use Rattle.listing.specs.Reading.{digitOf, isEnd, inMood, lined, grown, passed, after, remarked};
-ghost use Rattle.listing.specs.Reading.{reading, stored, closed, inWords, taken, fresh, readOn};
+ghost use Rattle.listing.specs.Reading.{digitOf, isEnd, inMood, lined, grown, passed, passedIn, remarked};
+ghost use Rattle.listing.specs.Reading.{reading, stored, closed, inWords, taken, atStart, readOn};
 
 // What the next byte is part of; or why reading has stopped: something that is no word of five digits, or a word more than the buffer has
 // room for.
@@ -25,7 +25,7 @@ pub struct Reader {
 
 // Before the first byte.
 pub fn start() -> Reader
-    ensures { λ r. ⌜ r ≡ fresh ⌝ }
+    ensures { λ r. ⌜ r ≡ atStart ⌝ }
 {
     Reader {
         mood: Mood::Words,
@@ -158,7 +158,7 @@ fn pass(r: Reader, b: u8) -> Reader
 
 // The same, where storing it may have failed.
 fn go_on(r: Reader, b: u8) -> Reader
-    ensures { λ a. ⌜ a ≡ after (r .mood) r b ⌝ }
+    ensures { λ a. ⌜ a ≡ passedIn (r .mood) r b ⌝ }
 {
     let mood = r.mood;
     match mood {

@@ -1,14 +1,13 @@
 // A word with what the machine made of it, as a line of text.
-ghost use mathlib.Core.Path.{_≡_};
 ghost use Prim.Native.Nat.{_+_, _≤_};
 ghost use lib.ListN.{length};
-ghost use lib.Dec.{leb};
-ghost use Rattle.report.specs.Calls.{Put};
-ghost use Rattle.listing.specs.Trace.{meaningName, share, meaningText, numberText, answerText, tracedText, numbersText, traceLine, watchLine, Laid};
+ghost use Rattle.report.specs.Calls.{Put, Laid};
+ghost use Rattle.listing.specs.Trace.{meaningName, share, meaningText, numberText, answerText, tracedText, numbersText, traceLine, watchLine};
 use crate::write::put_digits;
 use crate::write::put_name;
 use crate::write::put_part;
 use crate::write::put_word;
+use report::has_room;
 
 // What a word means: a row of the table of meanings, and which of how many parameters it is, 0 of 0 where there are none.
 pub struct Meaning {
@@ -106,16 +105,6 @@ fn put_numbers(n: Numbers, out: &mut [u8], at: usize) -> usize
 {
     let next = put_number(n.i as u64, 5, out, at);
     put_number(n.z as u64, 5, out, next)
-}
-
-// Whether so many bytes have room from a place on.
-fn has_room(room: usize, size: usize, at: usize) -> bool
-    ensures { λ r. ⌜ r ≡ leb (at + size) room ⌝ }
-{
-    if room < size {
-        return false;
-    }
-    at <= room - size
 }
 
 // Lays the line of a word at a place of `out`, and tells the place after it; where it has no room there, it is left out.

@@ -2,9 +2,10 @@
 ghost use mathlib.Core.Path.{_≡_};
 ghost use Prim.Native.Nat.{_+_, _*_, _<_, _≤_};
 ghost use lib.ListN.{length, take, drop};
-ghost use Rattle.report.specs.Calls.{Put, told, writingText};
+ghost use Rattle.report.specs.Calls.{Put, wrote, writingText};
 ghost use Rattle.listing.specs.Text.{glyph, digits, nameOf, placed, line, lines, listing};
 use report::Written;
+use report::lay;
 
 // The character of a digit.
 fn character(d: u64) -> u8
@@ -41,12 +42,8 @@ pub(crate) fn put_part(text: &[u8], from: usize, count: usize, out: &mut [u8], a
     requires { ⌜ at + count ≤ length (now out) ⌝ }
     ensures { λ r. ⌜ Put (take count (drop from (now (text .entry)))) (now (out .entry)) at (now (out .exit)) r ⌝ }
 {
-    let mut k = 0;
-    while k < count {
-        out[at + k] = text[from + k];
-        k += 1;
-    }
-    at + k
+    let end = from + count;
+    lay(&text[from..end], out, at)
 }
 
 // Puts a command's name, in six columns.
@@ -102,7 +99,7 @@ fn put_lines(from: u32, words: &[u32], out: &mut [u8]) -> usize
 // Writes the lines of some words to the front of `out`, or refuses where that is too short. The first word's index is `from`, so that a
 // long recording can be written in pieces.
 pub fn list(from: u32, words: &[u32], out: &mut [u8]) -> Written
-    ensures { λ r. ⌜ told r (now (out .exit)) ≡ writingText (listing from (now (words .entry))) (now (out .entry)) ⌝ }
+    ensures { λ r. ⌜ wrote r (now (out .exit)) ≡ writingText (listing from (now (words .entry))) (now (out .entry)) ⌝ }
 {
     if out.len() / 26 < words.len() {
         return Written::NoRoom;

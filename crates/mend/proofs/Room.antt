@@ -1,16 +1,15 @@
 -- A recording that is mended: there is room for all of it, and what is told lies within what was lent. Assumes nothing.
 use mathlib.Core.Path.{_≡_, refl, sym, ap, ap₂, _∙_}
 use mathlib.Core.List.{List, [], map}
-use Prim.Native.Nat.{ℕ, _≤_, _<_}
+use Prim.Native.Nat.{ℕ, _≤_}
 use native.Mathlib.Omega.{arith}
-use lib.ListN.{length, getD, take, drop, length-append, length-map}
+use lib.ListN.{length, take, drop, length-append, length-map}
 use lib.Seq.{take-append-seam, length-take-le}
-use Rattle.stream.specs.Format.{unpackOf}
 use Rattle.stream.specs.Calls.{over}
 use Rattle.stream.proofs.Stream.{length-unpack}
 use Rattle.machine.specs.Machine.{Memories, memories}
 use Rattle.mending.specs.declared.Mended.{Mended}
-use Rattle.mending.specs.Mend.{Dropped, mendedOf, droppedOf, indicesOf, numbersOf, done, Mending, mending, mendingOf, mendedAll}
+use Rattle.mending.specs.Mend.{Dropped, mendedOf, droppedOf, indicesOf, Mending, mending, mendingOf}
 use Rattle.mending.proofs.Words.{indices-low}
 use Rattle.mending.proofs.Settled.{mended-short, list-short}
 use Rattle.mending.proofs.Request.{exact-room}

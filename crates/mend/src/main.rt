@@ -6,14 +6,14 @@ mod space;
 
 ghost use Prim.Native.Nat.{_≤_};
 ghost use lib.ListN.{length};
-ghost use Rattle.mend.specs.Mend.{Enough, Repaired};
-use input::Taken;
-use input::recording;
-use input::take;
+ghost use Rattle.mend.specs.Mend.{Enough, Repairs};
+use console::Taken;
+use console::recording;
+use console::say::say;
+use console::take;
 use libc::STDOUT_FILENO;
 use mending::Mended;
 use mending::dextolumen_mend;
-use say::say;
 use say::say_list;
 use say::say_summary;
 use space::index_room;
@@ -24,7 +24,7 @@ use stream::read::held;
 // There is room enough, so that nothing is refused.
 fn repair(bytes: &[u8], out: &mut [u8], indices: &mut [u64], numbers: &mut [u8]) -> Mended
     requires { ⌜ Enough (now bytes) (now out) (now indices) (now numbers) ⌝ }
-    ensures { λ t. ⌜ Repaired (now (bytes .entry)) (now (out .entry)) (now (indices .entry)) (now (numbers .entry)) t (now (out .exit)) (now (indices .exit)) (now (numbers .exit)) ⌝ }
+    ensures { λ t. ⌜ Repairs bytes out indices numbers t ⌝ }
 {
     let mut im = [0u16; 0];
     let mut zm = [0u16; 0];

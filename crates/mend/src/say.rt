@@ -3,20 +3,10 @@ ghost use mathlib.Core.Path.{_≡_};
 ghost use Prim.Native.Nat.{_<_};
 ghost use lib.ListN.{length};
 ghost use Rattle.mend.specs.Mend.{Low};
-use libc::STDERR_FILENO;
+use console::say::say;
+use console::say::say_number;
 use listing::write::list;
 use stream::read::word;
-
-// A text to whoever started the program.
-pub(crate) fn say(text: &[u8]) {
-    io::write_all(STDERR_FILENO, text);
-}
-
-// A name and its number.
-fn say_number(name: &[u8], n: u64) {
-    say(name);
-    io::print_decimal(STDERR_FILENO, n);
-}
 
 // The line of a dropped word: the number that refuses it, and the line that `list` prints of it.
 fn say_dropped(number: u8, index: u64, word: u32)

@@ -1,6 +1,6 @@
 // Room for the list of dropped words. Each array is made by a call with a promise of its own, so that no proof that uses one looks at its
 // places one by one.
-ghost use Rattle.input.specs.Room.{Filled};
+ghost use Rattle.console.specs.Room.{Filled};
 
 // The index of each word of a recording of 1,048,576 bytes.
 pub(crate) fn index_room() -> [u64; 419430]

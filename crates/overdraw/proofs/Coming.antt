@@ -1,14 +1,13 @@
 -- A report that has come through some recordings, and one more: lines behind lines, and sums of sums. Assumes nothing.
-use mathlib.Core.Path.{_≡_, refl, sym, ap, ap₂, _∙_, subst}
-use mathlib.Core.Bool.{Bool, true, false, cond}
+use mathlib.Core.Path.{_≡_, refl, sym, ap, _∙_, subst}
+use mathlib.Core.Bool.{true, false}
 use mathlib.Core.List.{List, [], _∷_, _++_, map, append-assoc, append-nil}
 use Prim.Native.Nat.{ℕ, suc, _+_, _*_, _≤_, _<_}
-use native.Mathlib.Nat.{add-zero, zero-add, add-suc}
+use native.Mathlib.Nat.{add-zero, zero-add}
 use native.Mathlib.Omega.{arith}
 use lib.ListN.{length, length-append}
 use lib.Seq.{length-sets}
-use Rattle.stream.specs.Calls.{over}
-use Rattle.report.specs.Calls.{Put, Stands}
+use Rattle.report.specs.Calls.{Put}
 use Rattle.report.proofs.Putting.{put-append, put-over}
 use Rattle.report.proofs.Calls.{stands}
 use Rattle.tally.specs.declared.Tally.{Tally}

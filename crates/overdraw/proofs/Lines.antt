@@ -94,7 +94,7 @@ length-numbers c =
       length-columns 8 (percentOf c),
     )
 
-pub length-count : (name kind : List ℕ) (c : Count) → length (countLine name kind c) ≡ length name + length kind + 65
+length-count : (name kind : List ℕ) (c : Count) → length (countLine name kind c) ≡ length name + length kind + 65
 unfolding countLine
 length-count name kind c =
     let whole : length (countLine name kind c) ≡ length (name ++ kind ++ numbers c ++ (10 ∷ [])) = refl in

@@ -1,9 +1,9 @@
 -- How many bytes of a file come. Assumes nothing.
 use Prim.Native.Nat.{ℕ}
 use native.Mathlib.Omega.{arith}
-use Rattle.input.specs.declared.Taken.{Taken}
-use Rattle.input.specs.declared.Taken.the-variants.{Bytes as Came, Failed}
-use Rattle.input.specs.Input.{Within as TakenWithin}
+use Rattle.console.specs.declared.Taken.{Taken}
+use Rattle.console.specs.declared.Taken.the-variants.{Bytes as Came, Failed}
+use Rattle.console.specs.Taken.{Within as TakenWithin}
 use Rattle.overdraw.specs.declared.file.Found.{Found}
 use Rattle.overdraw.specs.declared.file.Found.the-variants.{Bytes, Missing, Unreadable}
 use Rattle.overdraw.specs.Read.{foundOf, Within}

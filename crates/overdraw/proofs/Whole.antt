@@ -1,7 +1,7 @@
 -- A number that has no more digits than its columns stands there whole: blanks, and then the number in decimal. So it is with every number of the
 -- report. Assumes nothing.
-use mathlib.Core.Path.{_≡_, refl, sym, ap, _∙_}
-use mathlib.Core.Bool.{Bool, true, false, cond}
+use mathlib.Core.Path.{_≡_, refl, ap, _∙_}
+use mathlib.Core.Bool.{Bool, true, false}
 use mathlib.Core.List.{List, [], _∷_, _++_, append-assoc}
 use Prim.Native.Nat.{ℕ, zero, suc, _+_, _-_, _*_, _/_, _%_, _^_, _≤_, _<_}
 use native.Mathlib.Nat.{pow-suc, div-zero, div-lt-iff-lt-mul}
@@ -107,7 +107,7 @@ spaced k n low =
     let more : suc (suc k) - length (decimal n) ≡ suc (suc k - length (decimal n)) = omega (arith, short) in
     columns-whole (suc k) n (omega (arith, low, pow-suc 10 (suc k))) ∙ ap (λ (m : ℕ). blanks m ++ decimal n) more
 
-pub legible : (c : Count) → Within 3276000 c → Balanced c → Legible c
+legible : (c : Count) → Within 3276000 c → Balanced c → Legible c
 legible c h b =
     record {
       figures = spaced 6 (c .figures) (omega (arith, h .figures));

@@ -1,7 +1,7 @@
 -- What looking for a file tells. Which bytes come no contract can say.
 use Prim.Native.Nat.{ℕ, _≤_}
-use Rattle.input.specs.declared.Taken.{Taken}
-use Rattle.input.specs.declared.Taken.the-variants.{Bytes as Came, Failed}
+use Rattle.console.specs.declared.Taken.{Taken}
+use Rattle.console.specs.declared.Taken.the-variants.{Bytes as Came, Failed}
 use Rattle.overdraw.specs.declared.file.Found.{Found}
 use Rattle.overdraw.specs.declared.file.Found.the-variants.{Bytes, Missing, Unreadable}
 

@@ -3,8 +3,8 @@ ghost use mathlib.Core.Path.{_≡_};
 ghost use lib.ListN.{length};
 ghost use Rattle.overdraw.specs.Read.{foundOf, Within};
 use crate::text::name_of;
-use input::Taken;
-use input::take_from;
+use console::Taken;
+use console::take_from;
 use libc::ENOENT;
 
 // What looking for a file comes to: so many of its bytes, or it is missing, or it cannot be read.
@@ -15,7 +15,7 @@ pub(crate) enum Found {
 }
 
 // Says that a file cannot be read, and why.
-fn say(name: [u8; 6]) {
+fn say_unread(name: [u8; 6]) {
     let mut what = *b"overdraw: no totals: cannot read 000";
     what[33] = name[0];
     what[34] = name[1];
@@ -30,7 +30,7 @@ fn unopened(name: [u8; 6]) -> Found
     if os::errno() == ENOENT {
         return Found::Missing;
     }
-    say(name);
+    say_unread(name);
     Found::Unreadable
 }
 
@@ -41,7 +41,7 @@ fn opened(name: [u8; 6], taken: Taken) -> Found
     match taken {
         Taken::Bytes(n) => Found::Bytes(n),
         Taken::Failed => {
-            say(name);
+            say_unread(name);
             Found::Unreadable
         }
     }

@@ -6,9 +6,9 @@ mod page;
 mod text;
 
 ghost use Rattle.overdraw.specs.Report.{Come, Printed};
+use console::say::say;
 use file::Found;
 use file::find;
-use libc::STDERR_FILENO;
 use libc::STDOUT_FILENO;
 use page::Reached;
 use page::add;
@@ -69,10 +69,7 @@ fn reported(out: &mut [u8; 418474]) -> usize
 
 fn main() {
     if 1 < os::arg_count() {
-        io::write_all(
-            STDERR_FILENO,
-            b"usage: overdraw, where the recordings 000, 001 and so on stand\n",
-        );
+        say(b"usage: overdraw, where the recordings 000, 001 and so on stand\n");
         return;
     }
     let mut out = [0u8; 418474];

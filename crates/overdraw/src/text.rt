@@ -5,21 +5,17 @@ ghost use lib.ListN.{length};
 ghost use Rattle.report.specs.Calls.{Put};
 ghost use Rattle.tally.specs.Tally.{EachWithin};
 ghost use Rattle.overdraw.specs.Text.{glyph, front, columns, percentOf, nameOf, heading, numbers, countLine, tallyLines, refusalLine, tooLongLine, entryLines};
+use report::lay;
 use tally::Count;
 use tally::Entry;
 use tally::Tally;
 
-// Puts a text.
+// Puts a text, for which there is room.
 fn put_text(text: &[u8], out: &mut [u8], at: usize) -> usize
     requires { ⌜ at + length (now text) ≤ length (now out) ⌝ }
     ensures { λ r. ⌜ Put (now (text .entry)) (now (out .entry)) at (now (out .exit)) r ⌝ }
 {
-    let mut k = 0;
-    while k < text.len() {
-        out[at + k] = text[k];
-        k += 1;
-    }
-    at + k
+    lay(text, out, at)
 }
 
 // The last digit of a number, or a blank where nothing is left of it.

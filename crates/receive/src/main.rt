@@ -3,12 +3,12 @@
 // fails, it says so on standard error.
 mod text;
 
-use input::Taken;
-use input::take;
+use console::Taken;
+use console::say::say;
+use console::take;
 use instalments::Intake;
 use instalments::dextolumen_begin;
 use instalments::dextolumen_feed;
-use libc::STDERR_FILENO;
 use libc::STDOUT_FILENO;
 use text::put_received;
 
@@ -50,7 +50,7 @@ fn receive(im: &mut [u16; 8192], zm: &mut [u16; 8192]) {
 
 fn main() {
     if 1 < os::arg_count() {
-        io::write_all(STDERR_FILENO, b"usage: receive < RECORDING\n");
+        say(b"usage: receive < RECORDING\n");
         return;
     }
     let mut im = [0u16; 8192];

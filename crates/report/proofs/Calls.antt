@@ -10,14 +10,14 @@ use lib.Dec.{ltb}
 use lib.Seq.{length-take-le}
 use Rattle.stream.specs.Calls.{Outcome, over, written, outcome}
 use Rattle.stream.proofs.Calls.{no-room, room}
-use Rattle.report.specs.Calls.{writingText, told, Put, Stands}
+use Rattle.report.specs.Calls.{writingText, wrote, Put, Stands}
 use Rattle.report.specs.declared.Written.{Written}
 use Rattle.report.specs.declared.Written.the-variants.{Done, NoRoom}
 use Rattle.report.proofs.Putting.{put-over}
 
 module _ (text out : List ℕ) where
   -- a text that does not fit is not written
-  pub unwritten : length out < length text → told NoRoom out ≡ writingText text out
+  pub unwritten : length out < length text → wrote NoRoom out ≡ writingText text out
   unfolding writingText outcome
   unwritten h = rw (no-room text out h)
 
@@ -26,13 +26,13 @@ module _ (text out : List ℕ) where
   unfolding writingText outcome
   writes h = rw (room text out h)
 
-  pub done : {left : List ℕ} {n : ℕ} → length text ≤ length out → Put text out 0 left n → told (Done n) left ≡ writingText text out
+  pub done : {left : List ℕ} {n : ℕ} → length text ≤ length out → Put text out 0 left n → wrote (Done n) left ≡ writingText text out
   done h p =
       let all = put-over h p in
       rw (writes h, all .0, all .1)
 
   -- the test's answer decides
-  pub longer : {answer : Bool} → answer ≡ ltb (length out) (length text) → answer ≡ true → told NoRoom out ≡ writingText text out
+  pub longer : {answer : Bool} → answer ≡ ltb (length out) (length text) → answer ≡ true → wrote NoRoom out ≡ writingText text out
   longer e t = unwritten (ltb-true (length out) (length text) (sym e ∙ t))
 
   pub fits : {answer : Bool} → answer ≡ ltb (length out) (length text) → answer ≡ false → length text ≤ length out
@@ -46,8 +46,8 @@ stands {text} {old} {new} {n} e f =
     record { front = f; size = e; counts = (room, sym (length-take-le n new room)) }
 
 -- a caller that lends enough: the text stands, and it is never refused
-module _ (text old : List ℕ) {new : List ℕ} (answer : Written) (enough : length text ≤ length old) (e : told answer new ≡ writingText text old) where
-  succeeds : told answer new ≡ written text old
+module _ (text old : List ℕ) {new : List ℕ} (answer : Written) (enough : length text ≤ length old) (e : wrote answer new ≡ writingText text old) where
+  succeeds : wrote answer new ≡ written text old
   succeeds = e ∙ writes text old enough
 
   pub answer-stands : {n : ℕ} → answer ≡ Done n → Stands text old new n

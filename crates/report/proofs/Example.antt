@@ -6,7 +6,7 @@ use Prim.Native.Nat.{ℕ}
 use lib.ListN.{replicate}
 use Rattle.report.specs.Image.{imageHeading, pixel, numbers, rowBytes, down, image}
 use Rattle.report.specs.Levels.{seen, rangeOf, baseOf, nearest, levelOf, levelAt, levelsIn, levels, levelImage}
-use Rattle.report.specs.Text.{digits, decimal, field, pair, shown, lines, named, heading, report}
+use Rattle.report.specs.Text.{digits, decimal, field, pair, placeLine, lines, named, heading, report}
 
 -- the picture, as far as anything shows: two places of the first row, one of the second
 abbrev im : List ℕ
@@ -24,7 +24,7 @@ printed =
     48 ∷ 32 ∷ 49 ∷ 32 ∷ 50 ∷ 48 ∷ 48 ∷ 32 ∷ 49 ∷ 48 ∷ 10 ∷ []
 
 pub example : report 13 0 3 256 im zm ≡ printed
-unfolding digits decimal field pair shown lines named heading report
+unfolding digits decimal field pair placeLine lines named heading report
 example = refl
 
 -- two rows of two places, the lower 1 and 258, the upper 3 and 65535: `P5`, `2 2`, `65535`, and the upper row first

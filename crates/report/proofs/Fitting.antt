@@ -5,7 +5,7 @@ use Prim.Native.Nat.{ℕ, _^_, _≤_, _<_}
 use native.Mathlib.Omega.{arith}
 use lib.ListN.{length, getD}
 use Rattle.report.specs.Text.{report}
-use Rattle.report.specs.Calls.{writing, told, Stands}
+use Rattle.report.specs.Calls.{writing, wrote, Stands}
 use Rattle.report.specs.declared.Written.{Written}
 use Rattle.report.specs.declared.Written.the-variants.{Done, NoRoom}
 use Rattle.report.proofs.Room.{report-short}
@@ -23,7 +23,7 @@ module _
     (small : (k : ℕ) → getD im k 0 < 65536)
     (low : (k : ℕ) → getD zm k 0 < 65536)
     (page : 180308 ≤ length old)
-    (e : told answer new ≡ writing words refusal passed line im zm old)
+    (e : wrote answer new ≡ writing words refusal passed line im zm old)
   where
     enough : length (report words refusal passed line im zm) ≤ length old
     enough =

@@ -7,7 +7,7 @@ use native.Mathlib.Numerals.{add-one}
 use native.Mathlib.Omega.{arith}
 use borrow.Author.Tests.{ne-eqb}
 use lib.ListN.{length, getD, length-append}
-use Rattle.report.specs.Text.{decimal, field, pair, columnOf, rowOf, shown, lines, named, heading, report, wordsName, refusalName, passedName}
+use Rattle.report.specs.Text.{decimal, field, pair, columnOf, rowOf, placeLine, lines, named, heading, report, wordsName, refusalName, passedName}
 
 pub length-field : (n after : ℕ) → length (field n after) ≡ length (decimal n) + 1
 unfolding field
@@ -22,17 +22,17 @@ length-pair m n after = omega (arith, pair-parts m n after, length-field m 32, l
 
 -- a place that shows, by its column and its row
 module _ (line place i z : ℕ) {x y : ℕ} (h : i ≡ 0 → ⊥) (p : x ≡ columnOf line place) (q : y ≡ rowOf line place) where
-  pub shown-line : shown line place i z ≡ pair x y 32 ++ pair i z 10
-  unfolding shown
-  shown-line = rw (p, q, ne-eqb i 0 h)
+  pub place-line : placeLine line place i z ≡ pair x y 32 ++ pair i z 10
+  unfolding placeLine
+  place-line = rw (p, q, ne-eqb i 0 h)
 
-  pub length-shown : length (shown line place i z) ≡ length (pair x y 32) + length (pair i z 10)
-  length-shown = rw shown-line (length-append (pair x y 32) (pair i z 10))
+  pub length-place : length (placeLine line place i z) ≡ length (pair x y 32) + length (pair i z 10)
+  length-place = rw place-line (length-append (pair x y 32) (pair i z 10))
 
 -- a place that does not
-pub shown-none : (line place i z : ℕ) → i ≡ 0 → shown line place i z ≡ []
-unfolding shown
-shown-none line place i z h = rw h
+pub place-none : (line place i z : ℕ) → i ≡ 0 → placeLine line place i z ≡ []
+unfolding placeLine
+place-none line place i z h = rw h
 
 -- the first line
 pub named-parts : (name : List ℕ) (n after : ℕ) → length (named name n after) ≡ length name + length (field n after)
@@ -67,7 +67,7 @@ module _ (words refusal passed : ℕ) where
 
 module _ (line : ℕ) (im zm : List ℕ) where
   -- one place more
-  pub lines-more : (n : ℕ) → lines line im zm (n + 1) ≡ lines line im zm n ++ shown line n (getD im n 0) (getD zm n 0)
+  pub lines-more : (n : ℕ) → lines line im zm (n + 1) ≡ lines line im zm n ++ placeLine line n (getD im n 0) (getD zm n 0)
   unfolding lines
   lines-more n = rw (add-one n)
 
@@ -76,14 +76,14 @@ module _ (line : ℕ) (im zm : List ℕ) where
   unfolding lines
   lines-grow n zero = rw (add-zero n) (omega arith)
   lines-grow n (suc k) =
-      let here = shown line (n + k) (getD im (n + k) 0) (getD zm (n + k) 0) in
+      let here = placeLine line (n + k) (getD im (n + k) 0) (getD zm (n + k) 0) in
       rw (add-suc n k) (omega (arith, lines-grow n k, length-append (lines line im zm (n + k)) here))
 
   -- a place and those before it
   pub lines-within : (n : ℕ) → n < length im
-      → length (lines line im zm n) + length (shown line n (getD im n 0) (getD zm n 0)) ≤ length (lines line im zm (length im))
+      → length (lines line im zm n) + length (placeLine line n (getD im n 0) (getD zm n 0)) ≤ length (lines line im zm (length im))
   lines-within n h =
-      let here = shown line n (getD im n 0) (getD zm n 0) in
+      let here = placeLine line n (getD im n 0) (getD zm n 0) in
       let all : n + 1 + (length im - (n + 1)) ≡ length im = omega arith in
       let up = rw (lines-more n, all) at (lines-grow (n + 1) (length im - (n + 1))) in
       omega (arith, up, length-append (lines line im zm n) here)

@@ -16,7 +16,7 @@ use Rattle.report.specs.Levels.{isFresh, chosen, between, widened, seen,
 -- ---- a share of a span
 
 -- no span
-pub nearest-none : (share : ℕ) → nearest share 0 ≡ 0
+nearest-none : (share : ℕ) → nearest share 0 ≡ 0
 unfolding nearest
 nearest-none share = div-zero (share * 255 + 0 / 2)
 
@@ -186,7 +186,7 @@ Within n r = (r .low ≤ n) × (n ≤ r .high)
 
 module _ (depth : Bool) (im zm : List ℕ) where
   -- one place more
-  pub range-more : (n : ℕ) → rangeOf depth im zm (n + 1) ≡ seen depth (rangeOf depth im zm n) (getD im n 0) (getD zm n 0)
+  range-more : (n : ℕ) → rangeOf depth im zm (n + 1) ≡ seen depth (rangeOf depth im zm n) (getD im n 0) (getD zm n 0)
   unfolding rangeOf
   range-more n = rw (add-one n)
 
@@ -229,7 +229,7 @@ module _ (depth : Bool) (im zm : List ℕ) where
 -- ---- levels in place of a memory's numbers
 
 module _ (depth : Bool) (r : Range) (im zm : List ℕ) where
-  pub length-levels : (n : ℕ) → length (levelsIn depth r im zm n) ≡ n
+  length-levels : (n : ℕ) → length (levelsIn depth r im zm n) ≡ n
   unfolding levelsIn
   length-levels zero = refl
   length-levels (suc n) =
@@ -240,11 +240,11 @@ module _ (depth : Bool) (r : Range) (im zm : List ℕ) where
     split = e ∙ ap (λ (l : List ℕ). levelsIn depth r im zm k ++ l) (drop-cons im k 0 h)
 
     -- the next place still has its number
-    pub level-next : getD now k 0 ≡ getD im k 0
+    level-next : getD now k 0 ≡ getD im k 0
     level-next = ap (λ (l : List ℕ). getD l k 0) split ∙ getD-at (levelsIn depth r im zm k) (getD im k 0) (drop (suc k) im) 0 k (length-levels k)
 
     -- and gets its level
-    pub level-stored : set now k (levelAt depth r (getD im k 0) (getD zm k 0)) ≡ levelsIn depth r im zm (k + 1) ++ drop (k + 1) im
+    level-stored : set now k (levelAt depth r (getD im k 0) (getD zm k 0)) ≡ levelsIn depth r im zm (k + 1) ++ drop (k + 1) im
     unfolding levelsIn
     level-stored =
         let level = levelAt depth r (getD im k 0) (getD zm k 0) in

@@ -1,5 +1,6 @@
 pub mod Decimal
 pub mod Putting
+pub mod Laying
 pub mod Lengths
 pub mod Pages
 pub mod Upright
@@ -9,4 +10,3 @@ pub mod Calls
 pub mod Fitting
 pub mod Settled
 pub mod Example
-pub mod Choice

@@ -9,7 +9,7 @@ use native.Mathlib.Omega.{arith}
 use borrow.Author.Tests.{lt-ltb, le-ltb, ltb-true, ltb-false}
 use lib.ListN.{length, getD, length-append, List·getD-eq-default}
 use lib.Dec.{ltb}
-use Rattle.report.specs.Text.{digits, decimal, field, pair}
+use Rattle.report.specs.Text.{decimal, field, pair}
 use Rattle.report.specs.Image.{magic, imageHeading, twoBytes, pixel, pixelSize, numbers, rowBytes, down}
 use Rattle.report.proofs.Decimal.{decimal-short}
 use Rattle.report.proofs.Lengths.{length-field, length-pair}
@@ -59,7 +59,7 @@ module _ (most : ℕ) where
   pixel-two n h = rw (le-ltb most 256 h)
 
 -- its bytes are as many
-pub length-pixel : (most n : ℕ) → length (pixel most n) ≡ pixelSize most
+length-pixel : (most n : ℕ) → length (pixel most n) ≡ pixelSize most
 unfolding pixel pixelSize
 length-pixel most n = go (ltb most 256)
   where

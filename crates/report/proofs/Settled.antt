@@ -5,7 +5,7 @@ use mathlib.Core.List.{List}
 use Prim.Native.Nat.{ℕ}
 use lib.Dec.{eqb}
 use Rattle.stream.specs.Calls.{Outcome}
-use Rattle.report.specs.Calls.{refusalOf, sizeOf, told}
+use Rattle.report.specs.Calls.{writtenNumber, writtenSize, wrote}
 use Rattle.report.specs.declared.Written.{Written}
 use Rattle.report.specs.declared.Written.the-variants.{Done, NoRoom}
 
@@ -13,17 +13,13 @@ use Rattle.report.specs.declared.Written.the-variants.{Done, NoRoom}
 writtenOf : ℕ → ℕ → Written
 writtenOf number size = cond (eqb number 0) (Done size) NoRoom
 
-written-back : (r : Written) → writtenOf (refusalOf r) (sizeOf r) ≡ r
+written-back : (r : Written) → writtenOf (writtenNumber r) (writtenSize r) ≡ r
 unfolding writtenOf
 written-back (Done n) = refl
 written-back NoRoom = refl
 
 -- of `write`, `image_heading` and `image_rows`: any two outcomes that its promise allows have the same answer and the same output
-pub settled : {o : Outcome} {r r′ : Written} {left left′ : List ℕ} → told r left ≡ o → told r′ left′ ≡ o → (r ≡ r′) × (left ≡ left′)
+pub settled : {o : Outcome} {r r′ : Written} {left left′ : List ℕ} → wrote r left ≡ o → wrote r′ left′ ≡ o → (r ≡ r′) × (left ≡ left′)
 settled {r = r} {r′ = r′} p q =
     let same = p ∙ sym q in
     (sym (written-back r) ∙ ap (λ (t : Outcome). writtenOf (t .refusal) (t .size)) same ∙ written-back r′, ap (λ (t : Outcome). t .left) same)
-
--- of `to_levels` and `drawn_places`, whose promises are an equation for what they leave or answer
-pub one-answer : {A : Type 0} {value r r′ : A} → r ≡ value → r′ ≡ value → r ≡ r′
-one-answer p q = p ∙ sym q

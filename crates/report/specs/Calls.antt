@@ -1,8 +1,10 @@
 -- What writing a text tells and leaves, for every input (document 01, "Numbers that come back": 13).
 use Prim.Native.Nat.{ℕ, _+_, _≤_}
 use mathlib.Core.Path.{_≡_}
+use mathlib.Core.Bool.{Bool, cond}
 use mathlib.Core.List.{List}
 use lib.ListN.{length, take}
+use lib.Dec.{leb}
 use lib.Seq.{sets}
 use Rattle.stream.specs.Calls.{Outcome, outcome, noRoom, over}
 use Rattle.report.specs.Text.{report}
@@ -18,17 +20,17 @@ abbrev pub writing : ℕ → ℕ → ℕ → ℕ → List ℕ → List ℕ → L
 writing words refusal passed line im zm out = writingText (report words refusal passed line im zm) out
 
 -- the number, and the length, that each answer of the code stands for
-abbrev pub refusalOf : Written → ℕ
-refusalOf (Done n) = 0
-refusalOf NoRoom = 13
+abbrev pub writtenNumber : Written → ℕ
+writtenNumber (Done n) = 0
+writtenNumber NoRoom = 13
 
-abbrev pub sizeOf : Written → ℕ
-sizeOf (Done n) = n
-sizeOf NoRoom = 0
+abbrev pub writtenSize : Written → ℕ
+writtenSize (Done n) = n
+writtenSize NoRoom = 0
 
 -- an answer, with what the call left
-abbrev pub told : Written → List ℕ → Outcome
-told answer left = record { refusal = refusalOf answer; size = sizeOf answer; left = left }
+abbrev pub wrote : Written → List ℕ → Outcome
+wrote answer left = record { refusal = writtenNumber answer; size = writtenSize answer; left = left }
 
 -- ---- the parts of a text
 
@@ -47,3 +49,14 @@ pub record Stands (text old new : List ℕ) (n : ℕ) : Type 0 where
   pub front : new ≡ over text old
   pub size : n ≡ length text
   pub counts : (n ≤ length new) × (n ≡ length (take n new))
+
+-- ---- what laying a text at a place leaves
+
+-- there is room for it
+abbrev pub fits : List ℕ → List ℕ → ℕ → Bool
+fits text old at = leb (at + length text) (length old)
+
+-- with room enough it stands there, all else is untouched, and the place after it is told; without, all is untouched and the place told again
+pub record Laid (text old : List ℕ) (at : ℕ) (new : List ℕ) (next : ℕ) : Type 0 where
+  pub left : new ≡ cond (fits text old at) (sets old at text) old
+  pub end : next ≡ cond (fits text old at) (at + length text) at

@@ -34,13 +34,13 @@ abbrev pub rowOf : ℕ → ℕ → ℕ
 rowOf line place = place / line
 
 -- the line of a place: column, row, I and Z; none where I is 0
-unfoldable pub shown : ℕ → ℕ → ℕ → ℕ → List ℕ
-shown line place i z = cond (eqb i 0) [] (pair (columnOf line place) (rowOf line place) 32 ++ pair i z 10)
+unfoldable pub placeLine : ℕ → ℕ → ℕ → ℕ → List ℕ
+placeLine line place i z = cond (eqb i 0) [] (pair (columnOf line place) (rowOf line place) 32 ++ pair i z 10)
 
 -- the lines of the first n places, places rising; past its end a memory holds 0
 unfoldable pub lines : ℕ → List ℕ → List ℕ → ℕ → List ℕ
 lines line im zm zero = []
-lines line im zm (suc n) = lines line im zm n ++ shown line n (getD im n 0) (getD zm n 0)
+lines line im zm (suc n) = lines line im zm n ++ placeLine line n (getD im n 0) (getD zm n 0)
 
 -- ---- the whole text
 

@@ -5,19 +5,7 @@ ghost use Rattle.report.specs.Text.{named, heading};
 ghost use Rattle.report.specs.Calls.{Put, Sized};
 use crate::number::digits;
 use crate::number::put_field;
-
-// Puts bytes at a place, and tells the place after them.
-pub(crate) fn put_bytes(name: &[u8], out: &mut [u8], at: usize) -> usize
-    requires { ⌜ at + length (now name) ≤ length (now out) ⌝ }
-    ensures { λ r. ⌜ Put (now (name .entry)) (now (out .entry)) at (now (out .exit)) r ⌝ }
-{
-    let mut k = 0;
-    while k < name.len() {
-        out[at + k] = name[k];
-        k += 1;
-    }
-    at + k
-}
+use crate::put::put_bytes;
 
 // Puts a name, its number, and the byte after it.
 fn put_named(name: &[u8], n: u64, after: u8, out: &mut [u8], at: usize) -> usize

@@ -5,13 +5,13 @@ ghost use Prim.Native.Nat.{suc, _+_, _-_, _*_, _≤_, min};
 ghost use lib.ListN.{length};
 ghost use lib.Dec.{ltb};
 ghost use Rattle.report.specs.Image.{imageHeading, twoBytes, pixel, pixelSize, numbers, rowBytes, down};
-ghost use Rattle.report.specs.Calls.{Put, Sized, told, writingText};
+ghost use Rattle.report.specs.Calls.{Put, Sized, wrote, writingText};
 use crate::Written;
-use crate::heading::put_bytes;
 use crate::number::digits;
 use crate::number::put_field;
 use crate::number::put_pair;
 use crate::place::number_at;
+use crate::put::put_bytes;
 
 // How many bytes the heading takes: six, and the digits of the width, the height and the greatest number.
 fn size_of_heading(most: u16, line: u16, rows: usize) -> usize
@@ -32,7 +32,7 @@ fn put_image_heading(most: u16, line: u16, rows: usize, out: &mut [u8], at: usiz
 
 // Writes the heading to the front of `out`, or refuses where that is too short.
 pub fn image_heading(most: u16, line: u16, rows: usize, out: &mut [u8]) -> Written
-    ensures { λ r. ⌜ told r (now (out .exit)) ≡ writingText (imageHeading most line rows) (now (out .entry)) ⌝ }
+    ensures { λ r. ⌜ wrote r (now (out .exit)) ≡ writingText (imageHeading most line rows) (now (out .entry)) ⌝ }
 {
     if out.len() < size_of_heading(most, line, rows) {
         return Written::NoRoom;
@@ -170,7 +170,7 @@ pub fn image_rows(
     memory: &[u16],
     out: &mut [u8],
 ) -> Written
-    ensures { λ r. ⌜ told r (now (out .exit)) ≡ writingText (down most line (now (memory .entry)) below count) (now (out .entry)) ⌝ }
+    ensures { λ r. ⌜ wrote r (now (out .exit)) ≡ writingText (down most line (now (memory .entry)) below count) (now (out .entry)) ⌝ }
 {
     if rows_longer(most, line, count, out.len()) {
         return Written::NoRoom;

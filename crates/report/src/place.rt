@@ -2,7 +2,7 @@
 ghost use mathlib.Core.Path.{_≡_};
 ghost use Prim.Native.Nat.{_+_, _≤_};
 ghost use lib.ListN.{length, getD};
-ghost use Rattle.report.specs.Text.{columnOf, rowOf, shown};
+ghost use Rattle.report.specs.Text.{columnOf, rowOf, placeLine};
 ghost use Rattle.report.specs.Calls.{Put, Sized};
 use crate::number::digits;
 use crate::number::put_pair;
@@ -39,7 +39,7 @@ fn row(line: u16, place: usize) -> u64
 
 // How many bytes the line of a place takes: its four numbers, and a byte after each.
 pub(crate) fn place_size(line: u16, place: usize, i: u16, z: u16) -> usize
-    ensures { λ r. ⌜ Sized (shown line place i z) 84 r ⌝ }
+    ensures { λ r. ⌜ Sized (placeLine line place i z) 84 r ⌝ }
 {
     if i == 0 {
         return 0;
@@ -50,8 +50,8 @@ pub(crate) fn place_size(line: u16, place: usize, i: u16, z: u16) -> usize
 
 // Puts the line of a place, if it has one.
 pub(crate) fn put_place(line: u16, place: usize, i: u16, z: u16, out: &mut [u8], at: usize) -> usize
-    requires { ⌜ at + length (shown line place i z) ≤ length (now out) ⌝ }
-    ensures { λ r. ⌜ Put (shown line place i z) (now (out .entry)) at (now (out .exit)) r ⌝ }
+    requires { ⌜ at + length (placeLine line place i z) ≤ length (now out) ⌝ }
+    ensures { λ r. ⌜ Put (placeLine line place i z) (now (out .entry)) at (now (out .exit)) r ⌝ }
 {
     if i != 0 {
         let x = column(line, place);

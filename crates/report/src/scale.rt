@@ -1,10 +1,12 @@
 // The levels of a picture: the range of the numbers that are shown, each place's level in it, and up to where anything was drawn.
 ghost use mathlib.Core.Path.{_≡_};
-ghost use Prim.Native.Nat.{_-_, min, max};
+ghost use Prim.Native.Nat.{_-_};
 ghost use lib.ListN.{length};
-ghost use Rattle.report.specs.Levels.{isFresh, chosen, widened, seen, rangeOf, baseOf, nearest, levelOf, levelAt, levels, drawnPlaces};
+ghost use Rattle.report.specs.Levels.{isFresh, chosen, widened, seen, rangeOf, baseOf, levelOf, levelAt, levels, drawnPlaces};
 use crate::Range;
 use crate::place::number_at;
+use ground::larger;
+use ground::smaller;
 
 // Whether nothing was drawn at a place.
 fn is_fresh(i: u16, z: u16) -> bool
@@ -18,20 +20,6 @@ fn chosen_of(depth: bool, i: u16, z: u16) -> u16
     ensures { λ r. ⌜ r ≡ chosen depth i z ⌝ }
 {
     if depth { z } else { i }
-}
-
-// The smaller of two numbers.
-fn smaller(a: u16, b: u16) -> u16
-    ensures { λ r. ⌜ r ≡ min a b ⌝ }
-{
-    if a < b { a } else { b }
-}
-
-// The larger of two numbers.
-fn larger(a: u16, b: u16) -> u16
-    ensures { λ r. ⌜ r ≡ max a b ⌝ }
-{
-    if a < b { b } else { a }
 }
 
 // A range with one number more.

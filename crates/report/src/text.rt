@@ -4,7 +4,7 @@ ghost use Prim.Native.Nat.{_+_, _≤_};
 ghost use lib.ListN.{length};
 ghost use lib.Dec.{ltb};
 ghost use Rattle.report.specs.Text.{lines, report};
-ghost use Rattle.report.specs.Calls.{Put, told, writing};
+ghost use Rattle.report.specs.Calls.{Put, wrote, writing};
 use crate::Written;
 use crate::heading::heading_size;
 use crate::heading::put_heading;
@@ -64,7 +64,7 @@ pub fn write(
     zm: &[u16],
     out: &mut [u8],
 ) -> Written
-    ensures { λ r. ⌜ told r (now (out .exit)) ≡ writing words refusal passed line (now (im .entry)) (now (zm .entry)) (now (out .entry)) ⌝ }
+    ensures { λ r. ⌜ wrote r (now (out .exit)) ≡ writing words refusal passed line (now (im .entry)) (now (zm .entry)) (now (out .entry)) ⌝ }
 {
     if is_longer(words, refusal, passed, line, im, zm, out.len()) {
         return Written::NoRoom;

@@ -9,7 +9,7 @@ use borrow.Author.Tests.{ltb-true, ltb-false}
 use lib.ListN.{length, getD, drop}
 use lib.Seq.{drop-cons}
 use lib.Dec.{ltb, eqb}
-use Rattle.report.proofs.Choice.{either}
+use Rattle.ground.proofs.Truth.{either}
 use Rattle.show.specs.Arguments.{isDigit, digitsOnly, valueOf, memoryOf, isLevels, placesIf, askedFor, sizedOf, scaledOf, askedOf, Few}
 use Rattle.show.specs.declared.Asked.{Asked}
 

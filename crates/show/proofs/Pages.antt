@@ -1,5 +1,5 @@
 -- Pages: each has a row, and together they are the image. Assumes nothing.
-use mathlib.Core.Path.{_≡_, refl, sym, ap, _∙_}
+use mathlib.Core.Path.{_≡_, refl, sym, ap, ap₂, _∙_}
 use mathlib.Core.Bool.{Bool, true, false, cond}
 use mathlib.Core.List.{List, _++_}
 use Prim.Native.Nat.{ℕ, zero, suc, _+_, _-_, _*_, _/_, _≤_, _<_, min}
@@ -12,9 +12,11 @@ use Rattle.report.specs.Image.{imageHeading, pixelSize, down, image}
 use Rattle.report.specs.Levels.{levels, levelImage, drawnPlaces}
 use Rattle.report.proofs.Pages.{down-join}
 use Rattle.report.proofs.Levels.{drawn-low}
-use Rattle.report.proofs.Choice.{either}
-use Rattle.input.specs.Room.{filled, Filled}
-use Rattle.show.specs.Show.{Fresh, rowsHolding, rowsShown, pageRows, pages}
+use Rattle.ground.proofs.Truth.{either}
+use Rattle.machine.specs.Machine.{memories}
+use Rattle.chip.specs.Fresh.{fresh}
+use Rattle.console.specs.Room.{filled, Filled}
+use Rattle.show.specs.Show.{rowsHolding, rowsShown, pageRows, pages}
 
 -- rows that fit have a length
 pub rows-line : (places line rows : ℕ) → rows ≡ places / line → (rows ≡ 0 → ⊥) → 0 < line
@@ -122,7 +124,8 @@ unfolding filled
 take-blank n a h b = rw (b .same) (take-replicate n 1048576 a h)
 
 -- the first places of blank ones are fresh memories
-pub fresh : (n : ℕ) {im zm : List ℕ} → n ≤ 1048576 → Filled 1048576 0 im → Filled 1048576 65535 zm → Fresh (take n im) (take n zm)
-fresh n {im} {zm} h p q =
+pub first-fresh : (n : ℕ) {im zm : List ℕ} → n ≤ 1048576 → Filled 1048576 0 im → Filled 1048576 65535 zm
+    → memories (take n im) (take n zm) ≡ fresh (length (take n im))
+first-fresh n {im} {zm} h p q =
     let size : length (take n im) ≡ n = ap (length {A = ℕ}) (take-blank n 0 h p) ∙ length-replicate n 0 in
-    record { dark = take-blank n 0 h p ∙ ap (λ (k : ℕ). replicate k 0) (sym size); far = take-blank n 65535 h q ∙ ap (λ (k : ℕ). replicate k 65535) (sym size) }
+    ap₂ (λ (i z : List ℕ). memories i z) (take-blank n 0 h p) (take-blank n 65535 h q) ∙ ap fresh (sym size)

@@ -6,7 +6,6 @@ use lib.ListN.{length, getD}
 use lib.Dec.{ltb, eqb}
 use Rattle.show.specs.declared.Asked.{Asked}
 use Rattle.show.specs.declared.Asked.the-variants.{Image, TooMany, Unclear}
-use Rattle.show.specs.declared.Wanted.{Wanted}
 
 -- a digit in ASCII
 unfoldable pub isDigit : ℕ → Bool

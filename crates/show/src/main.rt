@@ -4,17 +4,16 @@
 mod arguments;
 mod page;
 mod reach;
-mod space;
 mod write;
 
 ghost use Prim.Native.Nat.{_≤_};
 use arguments::asked;
-use input::Taken;
-use input::recording;
-use input::take;
+use console::Taken;
+use console::blank;
+use console::recording;
+use console::say::say;
+use console::take;
 use registers::Registers;
-use space::blank;
-use write::say;
 use write::write_drawn;
 
 // What is to be shown: which memory, whether in levels, and how many places the memories have, given or not.

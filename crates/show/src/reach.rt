@@ -2,10 +2,11 @@
 ghost use mathlib.Core.Path.{_≡_};
 ghost use Rattle.stream.specs.Format.{wordAt};
 ghost use Rattle.registers.specs.Word.{wordOf};
-ghost use Rattle.registers.specs.Next.{after, completedBy};
+ghost use Rattle.registers.specs.Next.{after};
 ghost use Rattle.show.specs.Reach.{heightOf, reachOf, isMissed, raised, onward, reached};
 use crate::Above;
 use crate::Came;
+use chip::figure::completed;
 use picture::place::most;
 use picture::place::rows_of;
 use registers::Registers;
@@ -41,23 +42,6 @@ fn is_missed(rows: usize, reach: usize, top: u16) -> bool
     ensures { λ b. ⌜ b ≡ isMissed rows reach top ⌝ }
 {
     (rows < reach) & !((top as usize) < rows)
-}
-
-// The figure that an accepted word completes.
-fn completed(r: Registers, word: Word) -> Completed
-    ensures { λ f. ⌜ f ≡ completedBy r word ⌝ }
-{
-    match word {
-        Word::Init(d) => Completed::Nothing,
-        Word::Aux(n) => Completed::Nothing,
-        Word::Parm(v) => Completed::Nothing,
-        Word::At(c, n) => r.completed_by(c, n),
-        Word::Img(d) => Completed::Nothing,
-        Word::Ptrn(v) => Completed::Nothing,
-        Word::Reserved => Completed::Nothing,
-        Word::Unmodelled => Completed::Nothing,
-        Word::Unknown => Completed::Nothing,
-    }
 }
 
 // The registers after an accepted word.

@@ -4,7 +4,7 @@ ghost use Prim.Native.Nat.{_*_, _≤_, _<_};
 ghost use lib.ListN.{length};
 ghost use Rattle.machine.specs.Run.{ran};
 ghost use Rattle.machine.specs.Machine.{memories};
-ghost use Rattle.show.specs.Show.{Fresh, drawnOn};
+ghost use Rattle.chip.specs.Fresh.{fresh, freshRun};
 ghost use Rattle.machine.specs.Lent.{left};
 use crate::Wanted;
 use crate::page::page_rows;
@@ -15,14 +15,11 @@ use crate::page::whole_rows;
 use crate::reach::reach;
 use chip::run::Ran;
 use chip::run::run;
-use libc::STDERR_FILENO;
+use console::say::say;
+use console::say::say_number;
+use console::say::say_refused;
 use libc::STDOUT_FILENO;
 use report::to_levels;
-
-// A line to whoever started the program.
-pub(crate) fn say(text: &[u8]) {
-    io::write_all(STDERR_FILENO, text);
-}
 
 // Whether a number is of the whole recording, and of no word.
 fn is_of_whole(number: u64) -> bool {
@@ -31,18 +28,8 @@ fn is_of_whole(number: u64) -> bool {
 
 // Says that the whole recording was refused.
 fn say_refused_whole(number: u64) {
-    say(b"show: refusal ");
-    io::print_decimal(STDERR_FILENO, number);
+    say_number(b"show: refusal ", number);
     say(b" of the whole recording, so that there is no image\n");
-}
-
-// Says that a word was refused.
-fn say_refused(number: u64, word: u64) {
-    say(b"show: refusal ");
-    io::print_decimal(STDERR_FILENO, number);
-    say(b" at word ");
-    io::print_decimal(STDERR_FILENO, word);
-    say(b"\n");
 }
 
 // Says where the topmost vertex lies, if it lies above the rows that were in use.
@@ -51,10 +38,8 @@ fn say_above(places: usize, bytes: &[u8], count: usize) {
     if above.height == 0 {
         return;
     }
-    say(b"show: a vertex lies in row ");
-    io::print_decimal(STDERR_FILENO, (above.height - 1) as u64);
-    say(b", and the memories have ");
-    io::print_decimal(STDERR_FILENO, above.rows as u64);
+    say_number(b"show: a vertex lies in row ", (above.height - 1) as u64);
+    say_number(b", and the memories have ", above.rows as u64);
     say(b" rows\n");
 }
 
@@ -123,15 +108,15 @@ fn write_shown(wanted: Wanted, line: u16, im: &mut [u16], zm: &mut [u16]) {
 
 // Draws the bytes on fresh memories.
 fn drawn(bytes: &[u8], im: &mut [u16], zm: &mut [u16]) -> Ran
-    requires { ⌜ Fresh (now im) (now zm) ⌝ }
-    ensures { λ a. ⌜ ran (a .refusal) (a .index) (a .sum) (a .registers) (left im zm) ≡ drawnOn (length (now (im .entry))) (now (bytes .entry)) ⌝ }
+    requires { ⌜ memories (now im) (now zm) ≡ fresh (length (now im)) ⌝ }
+    ensures { λ a. ⌜ ran (a .refusal) (a .index) (a .sum) (a .registers) (left im zm) ≡ freshRun (length (now (im .entry))) (now (bytes .entry)) ⌝ }
 {
     run(bytes, im, zm)
 }
 
 // Draws the bytes on fresh memories and writes the image. After a refused word it shows what stands.
 pub(crate) fn write_drawn(wanted: Wanted, bytes: &[u8], im: &mut [u16], zm: &mut [u16])
-    requires { ⌜ Fresh (now im) (now zm) ⌝ }
+    requires { ⌜ memories (now im) (now zm) ≡ fresh (length (now im)) ⌝ }
 {
     let end = drawn(bytes, im, zm);
     if is_of_whole(end.refusal) {
@@ -139,7 +124,7 @@ pub(crate) fn write_drawn(wanted: Wanted, bytes: &[u8], im: &mut [u16], zm: &mut
         return;
     }
     if end.refusal != 0 {
-        say_refused(end.refusal, end.index);
+        say_refused(b"show", end.refusal, end.index);
     }
     if end.registers.started == 0 {
         say(b"show: no image, since no INIT was accepted\n");

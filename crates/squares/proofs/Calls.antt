@@ -8,7 +8,7 @@ use borrow.Author.Tests.{ltb-true, leb-true, eqb-true, eqb-false, lt-ltb, le-leb
 use lib.ListN.{length, take, drop}
 use lib.Seq.{take-append-seam}
 use lib.Dec.{ltb, leb, eqb}
-use Rattle.picture.proofs.Places.{both}
+use Rattle.ground.proofs.Truth.{both}
 use Rattle.stream.specs.Calls.{noRoom, over, Answer, answer}
 use Rattle.stream.proofs.Calls.{no-room, room}
 use Rattle.report.specs.Calls.{Put}

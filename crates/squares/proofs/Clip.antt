@@ -8,7 +8,7 @@ use native.Mathlib.Numerals.{add-one}
 use native.Mathlib.Omega.{arith}
 use borrow.Author.Tests.{lt-ltb, ltb-true}
 use lib.Dec.{ltb}
-use Rattle.picture.proofs.Places.{both, same-test}
+use Rattle.ground.proofs.Truth.{both, same-test}
 use Rattle.squares.specs.Squares.{anyBelow, anyIn}
 use Rattle.squares.specs.Change.{unlike, runDiffers, differs}
 use Rattle.squares.proofs.Any.{any-here, any-found, fails, in-here, in-found}

@@ -27,7 +27,7 @@ module _ (width : ℕ) (new : List ℕ) where
 
   -- ---- listed squares
 
-  pub length-copied : (old : List ℕ) (cs : List Corner) → length (copySquares width new old cs) ≡ length old
+  length-copied : (old : List ℕ) (cs : List Corner) → length (copySquares width new old cs) ≡ length old
   length-copied old [] = refl
   length-copied old (c ∷ cs) = length-copied (copySquare width new old c) cs ∙ length-copy old c
 

@@ -1,5 +1,5 @@
 pub mod Any
-pub mod Within
+pub mod Among
 pub mod Overlay
 pub mod Clip
 pub mod Split

@@ -9,11 +9,11 @@ use native.Mathlib.Nat.{add-zero, add-mul, mul-add, one-mul, zero-mul}
 use native.Mathlib.Omega.{arith}
 use borrow.Author.Tests.{ltb-true, ltb-false}
 use lib.Dec.{ltb}
-use Rattle.picture.proofs.Places.{both}
+use Rattle.ground.proofs.Truth.{both}
 use Rattle.squares.specs.Squares.{anyIn, Corner, corner, sideOf, kept, squares}
-use Rattle.squares.specs.Copy.{within, covers, holds, holders}
+use Rattle.squares.specs.Copy.{isAmong, covers, holds, holders}
 use Rattle.squares.proofs.Any.{fails, in-here, in-found}
-use Rattle.squares.proofs.Within.{within-in, within-low, within-high, within-parts}
+use Rattle.squares.proofs.Among.{among-in, among-low, among-high, among-parts}
 
 -- ---- where a pixel lies
 
@@ -26,26 +26,26 @@ once-and true c = sym (one-mul (once c))
 once-and false c = sym (zero-mul (once c))
 
 -- in one of two halves
-halves : (s a v : ℕ) → once (within (2 * s) a v) ≡ once (within s a v) + once (within s (a + s) v)
+halves : (s a v : ℕ) → once (isAmong (2 * s) a v) ≡ once (isAmong s a v) + once (isAmong s (a + s) v)
 halves s a v = go (ltb v a) (ltb v (a + s)) (ltb v (a + 2 * s)) refl refl refl
   where
     go : (b c d : Bool) → ltb v a ≡ b → ltb v (a + s) ≡ c → ltb v (a + 2 * s) ≡ d
-        → once (within (2 * s) a v) ≡ once (within s a v) + once (within s (a + s) v)
+        → once (isAmong (2 * s) a v) ≡ once (isAmong s a v) + once (isAmong s (a + s) v)
     go true c d p q r =
         let h = ltb-true v a p in
-        rw (within-low (2 * s) a v h, within-low s a v h, within-low s (a + s) v (omega arith))
+        rw (among-low (2 * s) a v h, among-low s a v h, among-low s (a + s) v (omega arith))
     go false true d p q r =
         let h = ltb-false v a p in
         let k = ltb-true v (a + s) q in
-        rw (within-in (2 * s) a v h (omega arith), within-in s a v h k, within-low s (a + s) v k)
+        rw (among-in (2 * s) a v h (omega arith), among-in s a v h k, among-low s (a + s) v k)
     go false false true p q r =
         let h = ltb-false v (a + s) q in
         let k = ltb-true v (a + 2 * s) r in
-        rw (within-in (2 * s) a v (omega arith) k, within-high s a v h, within-in s (a + s) v h (omega arith))
+        rw (among-in (2 * s) a v (omega arith) k, among-high s a v h, among-in s (a + s) v h (omega arith))
     go false false false p q r =
         let h = ltb-false v (a + s) q in
         let k = ltb-false v (a + 2 * s) r in
-        rw (within-high (2 * s) a v k, within-high s a v h, within-high s (a + s) v (omega arith))
+        rw (among-high (2 * s) a v k, among-high s a v h, among-high s (a + s) v (omega arith))
 
 -- in one of four quarters
 four : (s a b x y : ℕ)
@@ -61,9 +61,9 @@ module _ (marked : ℕ → ℕ → Bool) where
   covered : (side a b x y : ℕ) → covers side a b x y ≡ true → marked x y ≡ true → anyIn marked side a b ≡ true
   unfolding covers
   covered side a b x y e m =
-      let p = both (within side a x) (within side b y) e in
-      let h = within-parts side a x (p .0) in
-      let k = within-parts side b y (p .1) in
+      let p = both (isAmong side a x) (isAmong side b y) e in
+      let h = among-parts side a x (p .0) in
+      let k = among-parts side b y (p .1) in
       let column : a + (x - a) ≡ x = omega arith in
       let row : b + (y - b) ≡ y = omega arith in
       in-here marked side a b (x - a) (y - b) (omega arith) (omega arith) (rw (column, row) m)
@@ -74,7 +74,7 @@ module _ (marked : ℕ → ℕ → Bool) where
       let f = in-found marked side a b e in (
         a + f .0,
         b + f .1,
-        rw (within-in side a (a + f .0) (omega arith) (omega (arith, f .2)), within-in side b (b + f .1) (omega arith) (omega (arith, f .3))),
+        rw (among-in side a (a + f .0) (omega arith) (omega (arith, f .2)), among-in side b (b + f .1) (omega arith) (omega (arith, f .3))),
         f .4,
       )
 
@@ -195,4 +195,4 @@ module _ (marked : ℕ → ℕ → Bool) (c : Corner) where
 
 pub covers-all : (x y : ℕ) → x < 256 → y < 256 → covers (sideOf 5) 0 0 x y ≡ true
 unfolding covers sideOf
-covers-all x y h k = rw (within-in 256 0 x (omega arith) (omega arith), within-in 256 0 y (omega arith) (omega arith))
+covers-all x y h k = rw (among-in 256 0 x (omega arith) (omega arith), among-in 256 0 y (omega arith) (omega arith))

@@ -10,8 +10,8 @@ use lib.Arith.{lt-of-le-ne}
 use lib.Dec.{ltb, eqb}
 use lib.ListN.{length, getD, set, length-set}
 use lib.Seq.{ext-getD, getD-set-same, getD-set-other}
-use Rattle.squares.specs.Copy.{within, overlay}
-use Rattle.squares.proofs.Within.{within-in, within-low, within-high}
+use Rattle.squares.specs.Copy.{isAmong, overlay}
+use Rattle.squares.proofs.Among.{among-in, among-low, among-high}
 
 pub length-overlay : (test : ℕ → Bool) (new : List ℕ) (at : ℕ) (old : List ℕ) → length (overlay test new at old) ≡ length old
 unfolding overlay
@@ -38,7 +38,7 @@ module _ (new old : List ℕ) (e : length new ≡ length old) where
   overlay-at test i = overlay-from test new 0 old i e ∙ rw (zero-add i)
 
   -- which tells all
-  pub overlay-is : (test : ℕ → Bool) (view : List ℕ) → length view ≡ length old
+  overlay-is : (test : ℕ → Bool) (view : List ℕ) → length view ≡ length old
       → ((i : ℕ) → i < length old → getD view i 0 ≡ cond (test i) (getD new i 0) (getD old i 0)) → view ≡ overlay test new 0 old
   overlay-is test view l h =
       ext-getD 0 view (overlay test new 0 old) (l ∙ sym (length-overlay test new 0 old)) (λ i k. h i (rw l at k) ∙ sym (overlay-at test i))
@@ -53,21 +53,21 @@ module _ (new old : List ℕ) (e : length new ≡ length old) where
       overlay-is second (overlay first new 0 old) (length-overlay first new 0 old) (λ i k. overlay-at first i ∙ rw (h i k))
 
   -- one number
-  pub overlay-set : (at : ℕ) → at < length old → set old at (getD new at 0) ≡ overlay (within 1 at) new 0 old
+  pub overlay-set : (at : ℕ) → at < length old → set old at (getD new at 0) ≡ overlay (isAmong 1 at) new 0 old
   overlay-set at fits =
-      overlay-is (within 1 at) (set old at (getD new at 0)) (length-set old at (getD new at 0))
+      overlay-is (isAmong 1 at) (set old at (getD new at 0)) (length-set old at (getD new at 0))
       (λ i k. go i (eqb i at) (ltb i at) refl refl)
     where
       go : (i : ℕ) (b c : Bool) → eqb i at ≡ b → ltb i at ≡ c
-          → getD (set old at (getD new at 0)) i 0 ≡ cond (within 1 at i) (getD new i 0) (getD old i 0)
+          → getD (set old at (getD new at 0)) i 0 ≡ cond (isAmong 1 at i) (getD new i 0) (getD old i 0)
       go i true c p q =
           let here : i ≡ at = eqb-true i at p in
-          rw here (rw (within-in 1 at at (omega arith) (omega arith)) (getD-set-same old at (getD new at 0) 0 fits))
+          rw here (rw (among-in 1 at at (omega arith) (omega arith)) (getD-set-same old at (getD new at 0) 0 fits))
       go i false true p q =
-          rw (within-low 1 at i (ltb-true i at q)) (getD-set-other old at i (getD new at 0) 0 (eqb-false i at p))
+          rw (among-low 1 at i (ltb-true i at q)) (getD-set-other old at i (getD new at 0) 0 (eqb-false i at p))
       go i false false p q =
           let far : at < i = lt-of-le-ne (ltb-false i at q) (λ e. eqb-false i at p (sym e)) in
-          rw (within-high 1 at i (omega arith)) (getD-set-other old at i (getD new at 0) 0 (eqb-false i at p))
+          rw (among-high 1 at i (omega arith)) (getD-set-other old at i (getD new at 0) 0 (eqb-false i at p))
 
 -- one test after another
 either-of : (b c : Bool) (v w : ℕ) → cond c v (cond b v w) ≡ cond (b || c) v w

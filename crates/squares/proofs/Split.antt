@@ -16,7 +16,7 @@ use Rattle.squares.proofs.Any.{fails, in-here, in-found}
 
 -- ---- sides
 
-pub side-least : (n : ℕ) → 8 ≤ sideOf n
+side-least : (n : ℕ) → 8 ≤ sideOf n
 unfolding sideOf
 side-least zero = omega arith
 side-least (suc n) = omega (arith, side-least n)
@@ -27,7 +27,7 @@ doubled side n e = e
 
 -- a side above 8 is twice another
 module _ (side : ℕ) (large : 8 < side) where
-  pub split-side : (P : ℕ → Type 0) → ((n : ℕ) → side ≡ 2 * sideOf n → P (suc n)) → (n : ℕ) → side ≡ sideOf n → P n
+  split-side : (P : ℕ → Type 0) → ((n : ℕ) → side ≡ 2 * sideOf n → P (suc n)) → (n : ℕ) → side ≡ sideOf n → P n
   unfolding sideOf
   split-side P more zero e = absurd (omega arith)
   split-side P more (suc n) e = more n e

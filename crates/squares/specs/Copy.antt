@@ -7,12 +7,12 @@ use lib.Dec.{ltb, leb}
 use Rattle.squares.specs.Squares.{Corner}
 
 -- v is one of the n numbers from a on
-unfoldable pub within : ℕ → ℕ → ℕ → Bool
-within n a v = leb a v && ltb v (a + n)
+unfoldable pub isAmong : ℕ → ℕ → ℕ → Bool
+isAmong n a v = leb a v && ltb v (a + n)
 
 -- pixel (x, y) lies in the square of a side whose lower left corner is (a, b)
 unfoldable pub covers : ℕ → ℕ → ℕ → ℕ → ℕ → Bool
-covers side a b x y = within side a x && within side b y
+covers side a b x y = isAmong side a x && isAmong side b y
 
 -- pixel (x, y) lies in a listed square
 abbrev pub holds : ℕ → ℕ → Corner → Bool

@@ -4,7 +4,7 @@ ghost use mathlib.Core.List.{map};
 ghost use Prim.Native.Nat.{_+_, _*_, _≤_};
 ghost use lib.ListN.{length};
 ghost use Rattle.squares.specs.Squares.{corner, cornerOf};
-ghost use Rattle.squares.specs.Copy.{within, overlay, copySquare, copySquares};
+ghost use Rattle.squares.specs.Copy.{isAmong, overlay, copySquare, copySquares};
 ghost use Rattle.squares.specs.Calls.{isSquare, areSquares};
 use picture::place::least;
 
@@ -35,7 +35,7 @@ pub(crate) fn are_squares(list: &[u32], width: usize, rows: usize) -> bool
 fn copy_run(new: &[u16], at: usize, n: usize, view: &mut [u16])
     requires { ⌜ length (now new) ≡ length (now view) ⌝ }
     requires { ⌜ at + n ≤ length (now view) ⌝ }
-    ensures { λ _. ⌜ now (view .exit) ≡ overlay (within n at) (now (new .entry)) 0 (now (view .entry)) ⌝ }
+    ensures { λ _. ⌜ now (view .exit) ≡ overlay (isAmong n at) (now (new .entry)) 0 (now (view .entry)) ⌝ }
 {
     let mut i = 0;
     while i < n {

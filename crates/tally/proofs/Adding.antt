@@ -1,6 +1,6 @@
 -- Tallies added up: what is balanced stays balanced, what is within a bound stays within the sum and is kept whole, and a total is a sum. Assumes
 -- nothing.
-use mathlib.Core.Path.{_≡_, refl, sym, ap, _∙_, subst}
+use mathlib.Core.Path.{_≡_, refl, ap, _∙_, subst}
 use mathlib.Core.List.{List, [], _∷_, _++_, foldl, foldl-append}
 use Prim.Native.Nat.{ℕ, _+_, _*_, _%_, _^_, _≤_}
 use native.Mathlib.Nat.{zero-add, add-assoc, mod-eq-of-lt}

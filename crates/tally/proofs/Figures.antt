@@ -13,11 +13,10 @@ use Rattle.picture.specs.Place.{rowsOf, inMemory}
 use Rattle.picture.specs.Offer.{Offer, inWindow, shows, offered, keep}
 use Rattle.picture.specs.Picture.{Picture, picture, drawn}
 use Rattle.picture.specs.Draw.{spans}
-use Rattle.picture.proofs.Fold.{drawn-passed}
 use Rattle.picture.proofs.Passed.{drawn-leaves-i, drawn-leaves-z}
 use Rattle.picture.proofs.Places.{rows-low}
 use Rattle.picture.proofs.Spans.{spans-same}
-use Rattle.triangle.specs.Offers.{kindOf as triangleKind, pixelAt, offersAt, triangleOffers}
+use Rattle.triangle.specs.Offers.{kindOf as triangleKind, offersAt, triangleOffers}
 use Rattle.picture.specs.declared.Vertex.{Vertex}
 use Rattle.line.specs.declared.Mode.{Mode}
 use Rattle.line.specs.declared.Mode.the-variants.{Zero, One, Two}
@@ -30,12 +29,12 @@ use Rattle.registers.specs.declared.shape.Completed.the-variants.{Nothing, Tria
 use Rattle.registers.specs.Record.{isOn, sectionBit}
 use Rattle.registers.specs.Next.{completedBy, penOf}
 use Rattle.registers.proofs.Refusals.{accepted-when}
-use Rattle.registers.proofs.Completing.{AllVertices, Near, completed-near}
+use Rattle.registers.proofs.Completing.{completed-near}
 use Rattle.machine.specs.Machine.{Memories, rowsIn, numberOf}
 use Rattle.chip.specs.Chip.{modeOf, isConstant, styleOf, wholeOffers, isCut, figureOffers, chip}
 use Rattle.chip.proofs.Laws.{figure-counts, line-low}
 use Rattle.tally.specs.declared.Count.{Count}
-use Rattle.tally.specs.Hidden.{offeredOf, hiddenOf}
+use Rattle.tally.specs.Hidden.{offeredOf}
 use Rattle.tally.specs.Tally.{Balanced, Within, EachBalanced, EachWithin, figuresIn, passedIn}
 use Rattle.tally.specs.Overdraw.{lineKind, figureTally, countOf, figuresOf, pixelsOf, pictureOf, mutedOf}
 use Rattle.tally.proofs.Hidden.{drawn-hidden, figure-balanced, untested-hidden}

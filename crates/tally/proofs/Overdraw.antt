@@ -1,6 +1,5 @@
 -- Request [11]: every pixel that was offered passed or is hidden, what passed is what a run tells, and totals are sums. Assumes nothing.
 use mathlib.Core.Path.{_≡_, refl, sym, ap, _∙_, subst}
-use mathlib.Core.Logic.{_≢_}
 use mathlib.Core.Bool.{Bool, true, false, cond}
 use mathlib.Core.List.{List, [], _∷_, map}
 use Prim.Native.Nat.{ℕ, _+_, _*_, _%_, _^_}
@@ -10,7 +9,6 @@ use lib.Dec.{eqb, ltb}
 use lib.ListN.{length, length-map}
 use borrow.Author.Tests.{eqb-true, eqb-false, ltb-false}
 use Rattle.stream.proofs.Stream.{length-unpack}
-use Rattle.picture.specs.declared.Kind.{Kind}
 use Rattle.registers.specs.declared.Registers.{Registers}
 use Rattle.registers.specs.declared.word.Word.{Word}
 use Rattle.registers.specs.declared.word.Word.the-variants.{At}
@@ -31,7 +29,8 @@ use Rattle.tally.specs.declared.Tally.{Tally}
 use Rattle.tally.specs.declared.Entry.{Entry}
 use Rattle.chip.proofs.Streams.{words-length}
 use Rattle.tally.specs.Tally.{noTally, added, passedIn, EachBalanced, EachWithin}
-use Rattle.tally.specs.Overdraw.{wordTally, talliedFrom, talliedOf, fresh, entry, entryOf, tallyOf, talliesOf, Overdraw}
+use Rattle.chip.specs.Fresh.{fresh}
+use Rattle.tally.specs.Overdraw.{wordTally, talliedFrom, talliedOf, entry, entryOf, tallyOf, talliesOf, Overdraw}
 use Rattle.tally.proofs.Hidden.{figure-balanced}
 use Rattle.tally.proofs.Adding.{
   none-balanced,
@@ -74,9 +73,9 @@ stream-balanced : (bytes : List ℕ) → EachBalanced (tallyOf bytes)
 unfolding entryOf
 stream-balanced bytes = go (ltb 8192 (length bytes))
   where
-    go : (b : Bool) → EachBalanced ((cond {A = Entry} b (entry true 0 noTally) (entry false (running resetOf bytes fresh .refusal) (talliedOf bytes fresh))) .tally)
+    go : (b : Bool) → EachBalanced ((cond {A = Entry} b (entry true 0 noTally) (entry false (running resetOf bytes (fresh 8192) .refusal) (talliedOf bytes (fresh 8192)))) .tally)
     go true = none-balanced
-    go false = run-balanced bytes fresh
+    go false = run-balanced bytes (fresh 8192)
 
 every-balanced : (streams : List (List ℕ)) → EveryBalanced (map tallyOf streams)
 every-balanced [] = tt
@@ -113,11 +112,11 @@ unfolding entryOf
 stream-each bytes = go (ltb 8192 (length bytes)) refl
   where
     go : (b : Bool) → ltb 8192 (length bytes) ≡ b
-        → EachWithin 3276 ((cond {A = Entry} b (entry true 0 noTally) (entry false (running resetOf bytes fresh .refusal) (talliedOf bytes fresh))) .tally)
+        → EachWithin 3276 ((cond {A = Entry} b (entry true 0 noTally) (entry false (running resetOf bytes (fresh 8192) .refusal) (talliedOf bytes (fresh 8192)))) .tally)
     go true e = none-each 3276
     go false e =
-        each-more (length (wordsOf bytes)) 3276 (talliedOf bytes fresh)
-        (omega (arith, ltb-false 8192 (length bytes) e, words-length bytes, length-unpack bytes)) (run-each bytes fresh)
+        each-more (length (wordsOf bytes)) 3276 (talliedOf bytes (fresh 8192))
+        (omega (arith, ltb-false 8192 (length bytes) e, words-length bytes, length-unpack bytes)) (run-each bytes (fresh 8192))
 
 every-within : (streams : List (List ℕ)) → EveryWithin 3276 (map tallyOf streams)
 every-within [] = tt

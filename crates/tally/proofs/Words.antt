@@ -3,8 +3,8 @@
 use mathlib.Core.Path.{_≡_, refl, sym, ap, ap₂, _∙_, subst}
 use mathlib.Core.Logic.{_≢_}
 use mathlib.Core.Bool.{Bool, true, false, cond}
-use mathlib.Core.List.{List, [], _∷_}
-use Prim.Native.Nat.{ℕ, suc, _+_, _-_, _*_, _%_, _^_, _≤_, _<_}
+use mathlib.Core.List.{List}
+use Prim.Native.Nat.{ℕ, suc, _+_, _-_, _%_, _^_, _≤_, _<_}
 use native.Mathlib.Nat.{mod-add-mod}
 use native.Mathlib.Numerals.{add-one}
 use native.Mathlib.Omega.{arith}
@@ -13,7 +13,7 @@ use lib.ListN.{length, getD, drop, drop-of-length-le}
 use lib.Seq.{drop-cons}
 use borrow.Author.Tests.{eq-eqb, ne-eqb, eqb-true}
 use Rattle.picture.specs.Place.{rowsOf}
-use Rattle.picture.specs.Picture.{Picture, picture, drawn}
+use Rattle.picture.specs.Picture.{Picture, drawn}
 use Rattle.picture.proofs.Fold.{drawn-nil}
 use Rattle.picture.proofs.Stores.{filled-passed}
 use Rattle.stream.specs.Format.{unpackOf, wordAt}
@@ -24,7 +24,7 @@ use Rattle.registers.specs.declared.shape.Completed.the-variants.{Nothing}
 use Rattle.registers.specs.Record.{resetOf}
 use Rattle.registers.specs.Word.{wordOf}
 use Rattle.registers.specs.Next.{completedBy, penOf}
-use Rattle.machine.specs.Run.{Outcome, outcome, Ran, ran, runOf}
+use Rattle.machine.specs.Run.{Outcome, outcome, Ran, runOf}
 use Rattle.machine.specs.Machine.{Memories, memories, rowsIn, numberOf, stepOf}
 use Rattle.machine.proofs.Steps.{step-number, accepted-leaves}
 use Rattle.chip.specs.Chip.{wholeOffers, isCut, figureOffers, chip}

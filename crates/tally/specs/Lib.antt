@@ -1,3 +1,4 @@
 pub mod Hidden
 pub mod Tally
 pub mod Overdraw
+pub mod Lent

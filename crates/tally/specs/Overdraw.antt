@@ -5,7 +5,7 @@ use mathlib.Core.Bool.{Bool, true, false, cond}
 use mathlib.Core.List.{List, [], _∷_, map}
 use lib.Bits.{bitAnd}
 use lib.Dec.{eqb, ltb}
-use lib.ListN.{length, replicate}
+use lib.ListN.{length}
 use Rattle.picture.specs.declared.Pen.{Pen}
 use Rattle.picture.specs.declared.Kind.{Kind}
 use Rattle.picture.specs.declared.Kind.the-variants.{Line0, Line1, Line2}
@@ -24,8 +24,10 @@ use Rattle.registers.specs.declared.shape.Completed.the-variants.{Nothing, Tria
 use Rattle.registers.specs.Record.{withModes, withZcontrol, withHcontrol, isOn, invBit, resetOf}
 use Rattle.registers.specs.Figure.{shapeOf}
 use Rattle.registers.specs.Next.{completedBy, penOf}
-use Rattle.machine.specs.Machine.{Memories, memories, rowsIn, numberOf, stepOf}
+use Rattle.machine.specs.Machine.{Memories, rowsIn, numberOf, stepOf}
+use Rattle.machine.specs.Run.{runOf}
 use Rattle.chip.specs.Chip.{modeOf, isConstant, chip}
+use Rattle.chip.specs.Fresh.{fresh}
 use Rattle.chip.specs.Stream.{wordsOf, flawOf, running}
 use Rattle.tally.specs.declared.Count.{Count}
 use Rattle.tally.specs.declared.Tally.{Tally}
@@ -84,17 +86,17 @@ talliedFrom r m t (w ∷ ws) =
 unfoldable pub talliedOf : List ℕ → Memories → Tally
 talliedOf bytes m = cond (eqb (flawOf bytes m) 0) (talliedFrom resetOf m noTally (wordsOf bytes)) noTally
 
--- a fresh picture of the drawing program's size
-abbrev pub fresh : Memories
-fresh = memories (replicate 8192 0) (replicate 8192 65535)
-
 -- an entry of the report, by its parts
 abbrev pub entry : Bool → ℕ → Tally → Entry
 entry long refusal tally = record { long = long; refusal = refusal; tally = tally }
 
--- a recording's entry: it is too long, or has its refusal and its tally
+-- the entry of a stream that its checks do not refuse: what its words come to over two memories
+abbrev pub entryFrom : List ℕ → Memories → Entry
+entryFrom bytes m = entry false (runOf (stepOf chip) resetOf (wordsOf bytes) m .refusal) (talliedFrom resetOf m noTally (wordsOf bytes))
+
+-- a recording's entry, on a fresh picture of the drawing program's size: it is too long, or has its refusal and its tally
 unfoldable pub entryOf : List ℕ → Entry
-entryOf bytes = cond (ltb 8192 (length bytes)) (entry true 0 noTally) (entry false (running resetOf bytes fresh .refusal) (talliedOf bytes fresh))
+entryOf bytes = cond (ltb 8192 (length bytes)) (entry true 0 noTally) (entry false (running resetOf bytes (fresh 8192) .refusal) (talliedOf bytes (fresh 8192)))
 
 -- its tally
 abbrev pub tallyOf : List ℕ → Tally

@@ -4,36 +4,16 @@ ghost use mathlib.Core.Bool.{cond};
 ghost use Prim.Native.Nat.{_-_, _≤_};
 ghost use lib.Dec.{eqb};
 ghost use Rattle.triangle.specs.Offers.{kindOf};
-ghost use Rattle.registers.specs.Next.{completedBy};
-ghost use Rattle.chip.specs.Chip.{modeOf, figureOffers};
-ghost use Rattle.tally.specs.Hidden.{offeredOf};
+ghost use Rattle.chip.specs.Chip.{modeOf};
+ghost use Rattle.tally.specs.Lent.{Offered};
 ghost use Rattle.tally.specs.Tally.{count, noTally};
 ghost use Rattle.tally.specs.Overdraw.{lineKind, figureTally, mutedOf};
-ghost use Rattle.picture.specs.Lent.{rowsOver};
 use crate::Count;
 use crate::Tally;
 use chip::draw::draw;
 use picture::Kind;
 use registers::Registers;
 use registers::shape::Completed;
-use registers::word::Word;
-
-// What an accepted word completes.
-pub(crate) fn completed(r: Registers, word: Word) -> Completed
-    ensures { λ f. ⌜ f ≡ completedBy r word ⌝ }
-{
-    match word {
-        Word::Init(d) => Completed::Nothing,
-        Word::Aux(n) => Completed::Nothing,
-        Word::Parm(v) => Completed::Nothing,
-        Word::At(c, n) => r.completed_by(c, n),
-        Word::Img(d) => Completed::Nothing,
-        Word::Ptrn(v) => Completed::Nothing,
-        Word::Reserved => Completed::Nothing,
-        Word::Unmodelled => Completed::Nothing,
-        Word::Unknown => Completed::Nothing,
-    }
-}
 
 // The registers with the depth test and both write enables off.
 fn muted(mut r: Registers) -> Registers
@@ -47,7 +27,7 @@ fn muted(mut r: Registers) -> Registers
 
 // How many pixels a figure offers. With those registers all of them pass, and none is stored.
 pub(crate) fn offered_by(r: Registers, figure: Completed, im: &mut [u16], zm: &mut [u16]) -> u64
-    ensures { λ n. ⌜ (n ≡ offeredOf (figureOffers (rowsOver (r .frame) (im .entry) (zm .entry)) r figure)) × (now (im .exit) ≡ now (im .entry)) × (now (zm .exit) ≡ now (zm .entry)) ⌝ }
+    ensures { λ n. ⌜ Offered r figure im zm n ⌝ }
 {
     let quiet = muted(r);
     draw(quiet, figure, im, zm)

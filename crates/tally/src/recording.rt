@@ -4,21 +4,15 @@ ghost use mathlib.Core.Bool.{false};
 ghost use Prim.Native.Nat.{_≤_};
 ghost use lib.ListN.{length};
 ghost use Rattle.stream.specs.Format.{wordAt};
-ghost use Rattle.registers.specs.Record.{resetOf};
 ghost use Rattle.registers.specs.Word.{decode, wordOf};
-ghost use Rattle.machine.specs.Run.{runOf};
-ghost use Rattle.machine.specs.Machine.{stepOf};
-ghost use Rattle.chip.specs.Chip.{chip};
-ghost use Rattle.chip.specs.Stream.{wordsOf};
-ghost use Rattle.tally.specs.Tally.{noTally};
-ghost use Rattle.tally.specs.Overdraw.{wordTally, talliedFrom, entry, entryOf};
-ghost use Rattle.machine.specs.Lent.{found, left};
-ghost use Rattle.chip.specs.Promises.{Takes};
+ghost use Rattle.tally.specs.Overdraw.{entry, entryFrom, entryOf};
+ghost use Rattle.tally.specs.Lent.{Counted};
+ghost use Rattle.machine.specs.Lent.{found};
 use crate::Entry;
 use crate::Tally;
-use crate::figure::completed;
 use crate::figure::offered_by;
 use crate::figure::word_tally;
+use chip::figure::completed;
 use chip::step::step;
 use registers::Registers;
 use registers::word::decoded;
@@ -36,7 +30,7 @@ struct Turn {
 
 // Takes a word and counts it.
 fn take(r: Registers, command: u8, data: u16, im: &mut [u16], zm: &mut [u16]) -> Turn
-    ensures { λ a. ⌜ (Takes r (decode command «data») (found im zm) (a .refusal) (a .passed) (a .registers) (left im zm)) × (a .tally ≡ wordTally r (decode command «data») (found im zm)) ⌝ }
+    ensures { λ a. ⌜ Counted r (decode command «data») im zm a ⌝ }
 {
     let figure = completed(r, decoded(command, data));
     let offered = offered_by(r, figure, im, zm);
@@ -53,7 +47,7 @@ fn take(r: Registers, command: u8, data: u16, im: &mut [u16], zm: &mut [u16]) ->
 
 // The word at place k of a stream, taken and counted.
 fn take_at(r: Registers, bytes: &[u8], k: usize, im: &mut [u16], zm: &mut [u16]) -> Turn
-    ensures { λ a. ⌜ (Takes r (wordOf (wordAt (now (bytes .entry)) k)) (found im zm) (a .refusal) (a .passed) (a .registers) (left im zm)) × (a .tally ≡ wordTally r (wordOf (wordAt (now (bytes .entry)) k)) (found im zm)) ⌝ }
+    ensures { λ a. ⌜ Counted r (wordOf (wordAt (now (bytes .entry)) k)) im zm a ⌝ }
 {
     let w = word(bytes, k);
     take(r, (w / 65536) as u8, (w % 65536) as u16, im, zm)
@@ -73,7 +67,7 @@ fn entered(long: bool, refusal: u64, tally: Tally) -> Entry
 // The words of a stream, one after the other, until one is refused.
 fn words_counted(bytes: &[u8], im: &mut [u16], zm: &mut [u16]) -> Entry
     requires { ⌜ length (now bytes) ≤ 8192 ⌝ }
-    ensures { λ e. ⌜ e ≡ entry false (runOf (stepOf chip) resetOf (wordsOf (now (bytes .entry))) (found im zm) .refusal) (talliedFrom resetOf (found im zm) noTally (wordsOf (now (bytes .entry)))) ⌝ }
+    ensures { λ e. ⌜ e ≡ entryFrom (now (bytes .entry)) (found im zm) ⌝ }
 {
     let count = held(bytes);
     let mut r = Registers::reset();

@@ -1,12 +1,12 @@
 -- Coordinates, digit by digit. Assumes nothing.
 use mathlib.Core.Path.{_≡_}
-use mathlib.Core.List.{List, [], _∷_, foldl}
+use mathlib.Core.List.{List, foldl}
 use Prim.Native.Nat.{ℕ, _+_, _≤_, _<_}
 use native.Mathlib.Numerals.{add-one}
 use native.Mathlib.Omega.{arith}
 use lib.ListN.{length, getD, drop}
 use lib.Seq.{drop-cons}
-use Rattle.report.proofs.Choice.{either}
+use Rattle.ground.proofs.Truth.{either}
 use Rattle.trace.specs.Arguments.{isDigit, withDigit}
 
 -- no number of digits comes to more

@@ -3,15 +3,14 @@
 // What the arguments ask for is `askedOf` (specs/Arguments.antt).
 mod arguments;
 mod print;
-mod space;
 
 use arguments::asked;
-use input::Taken;
-use input::recording;
-use input::take;
+use console::Taken;
+use console::recording;
+use console::say::say;
+use console::take;
 use print::print;
 use print::print_stream;
-use print::say;
 
 // What is to be traced: all words, or those that have a pixel.
 enum Asked {

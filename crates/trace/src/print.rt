@@ -2,9 +2,10 @@
 ghost use mathlib.Core.Path.{_≡_};
 ghost use Prim.Native.Nat.{_≤_};
 ghost use lib.ListN.{length};
-use crate::space::blank;
 use chip::run::Ran;
-use libc::STDERR_FILENO;
+use console::blank;
+use console::say::say;
+use console::say::say_refused;
 use libc::STDOUT_FILENO;
 use registers::Registers;
 use stream::read::flaw;
@@ -12,11 +13,6 @@ use stream::read::held;
 use tracing::Turn;
 use tracing::trace;
 use tracing::watch;
-
-// A line to whoever started the program.
-pub(crate) fn say(text: &[u8]) {
-    io::write_all(STDERR_FILENO, text);
-}
 
 // Prints a text, or says that it cannot.
 pub(crate) fn print(text: &[u8]) -> bool {
@@ -32,15 +28,6 @@ fn refuse(text: &[u8]) {
     say(b"trace: ");
     say(text);
     print(text);
-}
-
-// Says which word was refused.
-fn say_refused(number: u64, word: u64) {
-    say(b"trace: refusal ");
-    io::print_decimal(STDERR_FILENO, number);
-    say(b" at word ");
-    io::print_decimal(STDERR_FILENO, word);
-    say(b"\n");
 }
 
 // Before the first word.
@@ -114,6 +101,6 @@ pub(crate) fn print_stream(pixel: bool, x: u16, y: u16, bytes: &[u8]) {
     let mut zm = blank(65535);
     let run = print_words(pixel, x, y, bytes, &mut im, &mut zm);
     if run.refusal != 0 {
-        say_refused(run.refusal, run.index);
+        say_refused(b"trace", run.refusal, run.index);
     }
 }

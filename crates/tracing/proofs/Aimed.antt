@@ -1,14 +1,13 @@
 -- The card answers which words pass a pixel: with the window narrowed to it, a figure offers exactly those of its pixels that lie there, and with the
 -- write enables off nothing is stored. Assumes nothing.
-use mathlib.Core.Path.{_≡_, refl, sym, ap, ap₂, _∙_}
+use mathlib.Core.Path.{_≡_, refl, sym, ap, _∙_}
 use mathlib.Core.Bool.{Bool, true, false, cond, not, _&&_, _||_}
 use mathlib.Core.List.{List, [], _∷_, _++_}
-use Prim.Native.Nat.{ℕ, zero, suc, _+_, _≤_, _<_, min, max}
+use Prim.Native.Nat.{ℕ, zero, suc, _+_}
 use native.Mathlib.Omega.{arith}
 use lib.Dec.{ltb, eqb}
 use lib.ListN.{length}
 use borrow.Author.Tests.{eqb-true, eq-eqb}
-use Rattle.picture.specs.declared.Pen.{Pen}
 use Rattle.picture.specs.declared.Vertex.{Vertex}
 use Rattle.picture.specs.Place.{rowsOf, inMemory}
 use Rattle.picture.specs.declared.Kind.{Kind}
@@ -18,7 +17,7 @@ use Rattle.picture.specs.Picture.{Picture, picture, drawn}
 use Rattle.picture.specs.Draw.{spans}
 use Rattle.picture.proofs.Offers.{window-in, window-of}
 use Rattle.picture.proofs.Passed.{drawn-leaves-i, drawn-leaves-z}
-use Rattle.picture.proofs.Places.{both, same-test}
+use Rattle.ground.proofs.Truth.{both, same-test}
 use Rattle.picture.proofs.Spans.{spans-zero, spans-suc, spans-same}
 use Rattle.triangle.specs.Edge.{covers, edgeAt}
 use Rattle.triangle.specs.Offers.{pixelAt, offersAt, rowOffers, turnedOffers, cornersOf, triangleOffers}
@@ -30,8 +29,8 @@ use Rattle.registers.specs.declared.Registers.{Registers}
 use Rattle.registers.specs.declared.shape.Completed.{Completed}
 use Rattle.registers.specs.declared.shape.Completed.the-variants.{Nothing, Triangle, Segment}
 use Rattle.registers.specs.Next.{penOf}
-use Rattle.chip.specs.Chip.{modeOf, isConstant, styleOf, wholeOffers, isCut, figureOffers}
-use Rattle.tracing.specs.Watch.{narrowed, aimed, passesAt}
+use Rattle.chip.specs.Chip.{isConstant, styleOf, wholeOffers, isCut, figureOffers}
+use Rattle.tracing.specs.Watch.{aimed, passesAt}
 
 module _ (x y : ℕ) where
   at-nil : onPixel x y [] ≡ []

@@ -2,19 +2,19 @@
 -- turns as there are words nothing is left. Assumes nothing.
 use mathlib.Core.Path.{_≡_, refl, sym, ap, _∙_}
 use mathlib.Core.Logic.{_≢_}
-use mathlib.Core.Bool.{Bool, true, false, cond, not, _||_}
+use mathlib.Core.Bool.{Bool, true, false, not, _||_}
 use mathlib.Core.List.{List}
 use Prim.Native.Nat.{ℕ, zero, suc, _+_, _%_, _^_, _≤_, _<_}
 use native.Mathlib.Omega.{arith}
 use lib.Dec.{leb, eqb}
 use lib.ListN.{length, getD, drop}
 use borrow.Author.Tests.{eqb-true, eqb-false, eq-eqb, ne-eqb, leb-true, leb-false, le-leb}
-use Rattle.stream.specs.Format.{unpackOf, wordAt}
+use Rattle.stream.specs.Format.{unpackOf}
 use Rattle.registers.specs.declared.Registers.{Registers}
 use Rattle.registers.specs.declared.word.Word.{Word}
 use Rattle.registers.specs.Record.{resetOf}
 use Rattle.registers.specs.Word.{wordOf}
-use Rattle.machine.specs.Run.{Outcome, Ran, ran, taken, runFrom, runOf}
+use Rattle.machine.specs.Run.{Outcome, ran, taken, runFrom, runOf}
 use Rattle.machine.specs.Machine.{Memories, stepOf}
 use Rattle.machine.proofs.Runs.{zero-or-not, stays, turn-accepted, turn-refused, turn-none}
 use Rattle.chip.specs.Chip.{chip}

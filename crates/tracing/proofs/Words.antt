@@ -2,7 +2,7 @@
 use mathlib.Core.Path.{_≡_, refl, sym, ap, ap₂, _∙_, subst}
 use mathlib.Core.Bool.{Bool, true, false, cond, not, _&&_, _||_}
 use mathlib.Core.List.{List, []}
-use Prim.Native.Nat.{ℕ, _+_, _/_, _%_, _^_, _≤_, _<_}
+use Prim.Native.Nat.{ℕ, _+_, _/_, _%_, _^_, _<_}
 use lib.Dec.{leb, eqb}
 use lib.ListN.{length}
 use borrow.Author.Tests.{eqb-false, leb-false}
@@ -10,21 +10,19 @@ use Rattle.stream.specs.Format.{unpackOf, wordAt}
 use Rattle.registers.specs.declared.Registers.{Registers}
 use Rattle.registers.specs.declared.word.Word.{Word}
 use Rattle.registers.specs.Word.{decode, wordOf}
-use Rattle.machine.specs.Run.{Outcome, outcome, Ran, ran, taken}
+use Rattle.machine.specs.Run.{Outcome, outcome, ran, taken}
 use Rattle.machine.specs.Machine.{Memories, memories, stepOf}
 use Rattle.machine.proofs.Steps.{refused-leaves}
 use Rattle.chip.specs.declared.run.Ran.{Ran as Told}
-use Rattle.chip.specs.declared.step.Answer.{Answer}
 use Rattle.chip.specs.Chip.{chip}
 use Rattle.listing.specs.declared.trace.Meaning.{Meaning}
-use Rattle.listing.specs.declared.trace.Traced.{Traced}
 use Rattle.listing.specs.declared.trace.Numbers.{Numbers}
-use Rattle.listing.specs.Trace.{traceLine, watchLine, Laid}
-use Rattle.listing.proofs.Traces.{laid-nothing}
-use Rattle.tracing.specs.declared.Turn.{Turn}
+use Rattle.report.specs.Calls.{Laid}
+use Rattle.listing.specs.Trace.{traceLine, watchLine}
+use Rattle.report.proofs.Laying.{laid-nothing}
 use Rattle.tracing.specs.declared.next.Taken.{Taken}
 use Rattle.tracing.specs.Meaning.{meaningOf}
-use Rattle.tracing.specs.Trace.{Run, standing, isOver, answerTo, tracedOf, moved, Takes, onward, lineAt, Turns}
+use Rattle.tracing.specs.Trace.{standing, isOver, answerTo, moved, TakesTraced, onward, lineAt, Turns}
 use Rattle.tracing.specs.Watch.{hitsOf, numbersAt, hitLine, watchAt}
 
 -- where something is left, no word was refused, and the next one is there
@@ -64,7 +62,7 @@ module _ (bytes : List ℕ) (a : Told) (i z : List ℕ) {w n p : ℕ} {q : Regis
   pub takes : {means : Meaning} {run : Told}
       → means ≡ meaningOf (a .registers) (decode (w / 65536) (w % 65536))
       → run ≡ moved a (record { refusal = n; passed = p; registers = q })
-      → Takes bytes (standing a i z) (record { traced = record { index = a .index; word = w; meaning = means; refusal = n; passed = p }; run = run }) i′ z′
+      → TakesTraced bytes (standing a i z) (record { traced = record { index = a .index; word = w; meaning = means; refusal = n; passed = p }; run = run }) i′ z′
   unfolding wordOf
   takes meant moves = record {
     traced =
@@ -96,7 +94,7 @@ module _ (bytes : List ℕ) (a : Told) (i z : List ℕ) where
     unfolding watchAt
     watch-over x y = rw e
 
-  module _ (e : isOver bytes (a .refusal) (a .index) ≡ false) {t : Taken} {i′ z′ : List ℕ} (k : Takes bytes (standing a i z) t i′ z′) where
+  module _ (e : isOver bytes (a .refusal) (a .index) ≡ false) {t : Taken} {i′ z′ : List ℕ} (k : TakesTraced bytes (standing a i z) t i′ z′) where
     -- a word is left: the run after it, and its line
     pub turns-next : {text line old new : List ℕ} {at next : ℕ} → text ≡ line → Laid text old at new next
         → Turns bytes line (standing a i z) old at (record { run = t .run; next = next }) i′ z′ new
@@ -120,9 +118,9 @@ module _ (bytes : List ℕ) (a : Told) (i z : List ℕ) where
 
 -- memories that a question left as they were
 pub takes-from : {bytes : List ℕ} {a : Told} {i z j y : List ℕ} {t : Taken} {i′ z′ : List ℕ} → j ≡ i → y ≡ z
-    → Takes bytes (standing a j y) t i′ z′ → Takes bytes (standing a i z) t i′ z′
+    → TakesTraced bytes (standing a j y) t i′ z′ → TakesTraced bytes (standing a i z) t i′ z′
 takes-from {bytes} {a} {i} {z} {j} {y} {t} {i′} {z′} e f k =
-    subst (λ (l : List ℕ). Takes bytes (standing a i l) t i′ z′) f (subst (λ (l : List ℕ). Takes bytes (standing a l y) t i′ z′) e k)
+    subst (λ (l : List ℕ). TakesTraced bytes (standing a i l) t i′ z′) f (subst (λ (l : List ℕ). TakesTraced bytes (standing a l y) t i′ z′) e k)
 
 -- the word that a question was asked of is the next one
 pub hits-word : (bytes : List ℕ) (index x y : ℕ) (r : Registers) (i z : List ℕ) {w count : ℕ} {v : Word} → w ≡ wordAt bytes index → v ≡ decode (w / 65536) (w % 65536)

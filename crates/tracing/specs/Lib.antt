@@ -1,3 +1,4 @@
 pub mod Meaning
 pub mod Trace
 pub mod Watch
+pub mod Lent

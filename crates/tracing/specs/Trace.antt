@@ -16,7 +16,8 @@ use Rattle.chip.specs.declared.run.Ran.{Ran as Told}
 use Rattle.chip.specs.declared.step.Answer.{Answer}
 use Rattle.chip.specs.Chip.{chip}
 use Rattle.listing.specs.declared.trace.Traced.{Traced}
-use Rattle.listing.specs.Trace.{traceLine, Laid}
+use Rattle.report.specs.Calls.{Laid}
+use Rattle.listing.specs.Trace.{traceLine}
 use Rattle.tracing.specs.declared.Turn.{Turn}
 use Rattle.tracing.specs.declared.next.Taken.{Taken}
 use Rattle.tracing.specs.Meaning.{meaningOf}
@@ -56,7 +57,7 @@ moved a o =
     (record { refusal = o .refusal; index = a .index; sum = a .sum; registers = o .registers })
 
 -- the next word, taken
-pub record Takes (bytes : List ℕ) (a : Run) (t : Taken) (i z : List ℕ) : Type 0 where
+pub record TakesTraced (bytes : List ℕ) (a : Run) (t : Taken) (i z : List ℕ) : Type 0 where
   pub traced : t .traced ≡ tracedOf bytes a
   pub run : standing (t .run) i z ≡ taken a (answerTo bytes a)
   pub left : memories i z ≡ answerTo bytes a .memories

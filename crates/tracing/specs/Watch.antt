@@ -1,7 +1,6 @@
 -- Which words pass a pixel, or store one of a picture there, and what stands there before and after. The card itself says whether a word passes one: with
 -- the window narrowed to that pixel nothing else is offered, and with the write enables off nothing is stored.
-use Prim.Native.Nat.{ℕ, _+_, min, max}
-use mathlib.Core.Path.{_≡_}
+use Prim.Native.Nat.{ℕ, min, max}
 use mathlib.Core.Bool.{Bool, cond, false, true, not, _&&_}
 use mathlib.Core.List.{List, []}
 use lib.Dec.{ltb, eqb}
@@ -23,7 +22,7 @@ use Rattle.machine.specs.Machine.{Memories}
 use Rattle.chip.specs.Chip.{figureOffers}
 use Rattle.listing.specs.declared.trace.Numbers.{Numbers}
 use Rattle.listing.specs.Trace.{watchLine}
-use Rattle.tracing.specs.Trace.{Run, isOver, answerTo, tracedOf, onward, traceFrom, start}
+use Rattle.tracing.specs.Trace.{Run, isOver, answerTo, tracedOf, traceFrom, start}
 
 -- what of a window is at pixel (x, y): that pixel, or nothing
 abbrev pub narrowed : ℕ → ℕ → Window → Window

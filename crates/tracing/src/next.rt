@@ -2,7 +2,8 @@
 ghost use mathlib.Core.Path.{_≡_};
 ghost use mathlib.Core.Bool.{false};
 ghost use Prim.Native.Nat.{_<_};
-ghost use Rattle.tracing.specs.Trace.{standing, isOver, moved, Takes, lineAt, Turns};
+ghost use Rattle.tracing.specs.Trace.{standing, isOver, moved, TakesTraced, lineAt};
+ghost use Rattle.tracing.specs.Lent.{Turned};
 use crate::Turn;
 use crate::meaning::meaning;
 use chip::run::Ran;
@@ -54,7 +55,7 @@ fn move_on(a: Ran, o: Answer) -> Ran
 // Takes the next word.
 pub(crate) fn take(a: Ran, bytes: &[u8], im: &mut [u16], zm: &mut [u16]) -> Taken
     requires { ⌜ isOver (now bytes) (a .refusal) (a .index) ≡ false ⌝ }
-    ensures { λ t. ⌜ Takes (now (bytes .entry)) (standing a (now (im .entry)) (now (zm .entry))) t (now (im .exit)) (now (zm .exit)) ⌝ }
+    ensures { λ t. ⌜ TakesTraced (now (bytes .entry)) (standing a (now (im .entry)) (now (zm .entry))) t (now (im .exit)) (now (zm .exit)) ⌝ }
 {
     let w = word(bytes, a.index as usize);
     let r = a.registers;
@@ -83,7 +84,7 @@ pub fn trace(
     out: &mut [u8],
     at: usize,
 ) -> Turn
-    ensures { λ t. ⌜ Turns (now (bytes .entry)) (lineAt (now (bytes .entry)) (standing a (now (im .entry)) (now (zm .entry)))) (standing a (now (im .entry)) (now (zm .entry))) (now (out .entry)) at t (now (im .exit)) (now (zm .exit)) (now (out .exit)) ⌝ }
+    ensures { λ t. ⌜ Turned lineAt bytes a im zm out at t ⌝ }
 {
     if is_over(a, bytes) {
         return Turn { run: a, next: at };

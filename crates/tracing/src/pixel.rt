@@ -2,18 +2,19 @@
 ghost use mathlib.Core.Path.{_≡_};
 ghost use mathlib.Core.Bool.{cond, not, _&&_};
 ghost use mathlib.Core.List.{[]};
-ghost use Prim.Native.Nat.{min, max};
 ghost use lib.Dec.{eqb};
-ghost use lib.ListN.{length};
 ghost use Rattle.registers.specs.Record.{window};
-ghost use Rattle.listing.specs.Trace.{watchLine, Laid};
-ghost use Rattle.tracing.specs.Trace.{standing, Turns};
-ghost use Rattle.tracing.specs.Watch.{narrowed, aimed, passesAt, loadsAt, hitsOf, numbersAt, watchAt};
+ghost use Rattle.report.specs.Calls.{Laid};
+ghost use Rattle.listing.specs.Trace.{watchLine};
+ghost use Rattle.tracing.specs.Lent.{PassedAt, Turned};
+ghost use Rattle.tracing.specs.Watch.{narrowed, aimed, loadsAt, hitsOf, numbersAt, watchAt};
 use crate::Turn;
 use crate::next::is_over;
 use crate::next::take;
 use chip::draw::draw;
 use chip::run::Ran;
+use ground::larger;
+use ground::smaller;
 use listing::trace::Numbers;
 use listing::trace::Traced;
 use listing::trace::watch_line;
@@ -26,20 +27,6 @@ use registers::shape::Completed;
 use registers::word::Word;
 use registers::word::decoded;
 use stream::read::word;
-
-// The larger of two numbers.
-fn larger(a: u16, b: u16) -> u16
-    ensures { λ r. ⌜ r ≡ max a b ⌝ }
-{
-    if a < b { b } else { a }
-}
-
-// The smaller of two numbers.
-fn smaller(a: u16, b: u16) -> u16
-    ensures { λ r. ⌜ r ≡ min a b ⌝ }
-{
-    if a < b { a } else { b }
-}
 
 // What of a window is at pixel (x, y).
 fn narrow(w: Window, x: u16, y: u16) -> Window
@@ -69,7 +56,7 @@ fn aim(mut r: Registers, x: u16, y: u16) -> Registers
 
 // How many pixels of a figure pass at (x, y). With those registers none is stored.
 fn passes_at(r: Registers, figure: Completed, x: u16, y: u16, im: &mut [u16], zm: &mut [u16]) -> u64
-    ensures { λ n. ⌜ (n ≡ passesAt x y r figure (now (im .entry)) (now (zm .entry))) × (now (im .exit) ≡ now (im .entry)) × (now (zm .exit) ≡ now (zm .entry)) ⌝ }
+    ensures { λ n. ⌜ PassedAt x y r figure im zm n ⌝ }
 {
     let q = aim(r, x, y);
     draw(q, figure, im, zm)
@@ -134,7 +121,7 @@ pub fn watch(
     out: &mut [u8],
     at: usize,
 ) -> Turn
-    ensures { λ t. ⌜ Turns (now (bytes .entry)) (watchAt x y (now (bytes .entry)) (standing a (now (im .entry)) (now (zm .entry)))) (standing a (now (im .entry)) (now (zm .entry))) (now (out .entry)) at t (now (im .exit)) (now (zm .exit)) (now (out .exit)) ⌝ }
+    ensures { λ t. ⌜ Turned (watchAt x y) bytes a im zm out at t ⌝ }
 {
     if is_over(a, bytes) {
         return Turn { run: a, next: at };

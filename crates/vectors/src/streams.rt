@@ -2,7 +2,6 @@
 // two, the name and the stream. The more significant of two bytes comes first.
 ghost use Rattle.io.specs.Counts.{Counts};
 use crate::text::print_stream;
-use crate::text::within;
 
 fn wide(byte: u8) -> usize {
     byte as usize
@@ -11,6 +10,13 @@ fn wide(byte: u8) -> usize {
 // Two bytes as a number.
 fn number(high: u8, low: u8) -> usize {
     (high as usize) * 256 + (low as usize)
+}
+
+// A number of a slice's bytes: all of them for any more.
+fn within(n: usize, text: &[u8]) -> usize
+    ensures { λ r. ⌜ Counts r (now (text .entry)) ⌝ }
+{
+    if n < text.len() { n } else { text.len() }
 }
 
 // Reads n bytes, or as many as there are and have room.

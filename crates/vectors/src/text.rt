@@ -3,28 +3,9 @@
 ghost use Rattle.io.specs.Counts.{Counts};
 use crate::print::print;
 use crate::print::print_hex;
-use chip::run::Ran;
 use chip::run::run;
 use chip::run::run_tiled;
-use report::Written;
-use report::write;
-
-// A number of a slice's bytes: all of them for any more.
-pub(crate) fn within(n: usize, text: &[u8]) -> usize
-    ensures { λ r. ⌜ Counts r (now (text .entry)) ⌝ }
-{
-    if n < text.len() { n } else { text.len() }
-}
-
-// How many bytes were written.
-fn written(answer: Written, out: &[u8]) -> usize
-    ensures { λ r. ⌜ Counts r (now (out .entry)) ⌝ }
-{
-    match answer {
-        Written::Done(n) => within(n, out),
-        Written::NoRoom => 0,
-    }
-}
+use printing::put_text;
 
 // How many bytes stand before the first line's end.
 fn first_line(text: &[u8]) -> usize
@@ -65,15 +46,6 @@ fn print_text(text: &[u8]) {
     print(&text[..n]);
     print(b", text ");
     print_hex(checksum(text));
-}
-
-// Writes what a run and its picture come to as text, and tells how long that is.
-fn put_text(ran: Ran, im: &[u16], zm: &[u16], out: &mut [u8]) -> usize
-    ensures { λ r. ⌜ Counts r (now (out .exit)) ⌝ }
-{
-    let line = ran.registers.frame.line;
-    let answer = write(ran.index, ran.refusal, ran.sum, line, im, zm, out);
-    written(answer, out)
 }
 
 // Prints what a stream comes to on a fresh picture of 8,192 places.

@@ -9,11 +9,11 @@ use Rattle.draw.proofs.main.Tie as tie
 arg-count-requires : tie.Need-arg-count-requires
 arg-count-requires c κs = search needs
 
-slice-aggregate-write-all : tie.Need-slice-aggregate-write-all
-slice-aggregate-write-all c = search needs
+slice-aggregate-say : tie.Need-slice-aggregate-say
+slice-aggregate-say c = search needs
 
-write-all-requires : tie.Need-write-all-requires
-write-all-requires c κs = search needs
+say-requires : tie.Need-say-requires
+say-requires c κs = search needs
 
 returns : tie.Need-returns
 returns c = search needs
@@ -62,8 +62,8 @@ main-spec =
     tie.close
     (tie.spec
     arg-count-requires
-    slice-aggregate-write-all
-    write-all-requires
+    slice-aggregate-say
+    say-requires
     returns
     slice-aggregate-take
     take-requires

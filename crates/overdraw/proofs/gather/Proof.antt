@@ -1,6 +1,6 @@
 -- `gather` meets its contract. The invariant of its loop: whatever the report had come through when the loop began, it has come through that and what was
 -- read since. The measure is the number of files left. Assumes nothing.
-use mathlib.Core.Path.{_≡_, sym, _∙_}
+use mathlib.Core.Path.{_≡_, sym}
 use mathlib.Core.List.{List}
 use Prim.Native.Nat.{ℕ, _-_}
 use native.Mathlib.Omega.{arith}

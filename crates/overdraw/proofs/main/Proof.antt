@@ -6,11 +6,11 @@ use Rattle.overdraw.proofs.main.Tie as tie
 arg-count-requires : tie.Need-arg-count-requires
 arg-count-requires c κs = search needs
 
-slice-aggregate-write-all : tie.Need-slice-aggregate-write-all
-slice-aggregate-write-all c = search needs
+slice-aggregate-say : tie.Need-slice-aggregate-say
+slice-aggregate-say c = search needs
 
-write-all-requires : tie.Need-write-all-requires
-write-all-requires c κs = search needs
+say-requires : tie.Need-say-requires
+say-requires c κs = search needs
 
 returns : tie.Need-returns
 returns c = search needs
@@ -21,11 +21,11 @@ reported-requires c κs = search needs
 array-share-prefix-out : tie.Need-array-share-prefix-out
 array-share-prefix-out c = c .reported .ensures .text .counts .0
 
-slice-aggregate-write-all-2 : tie.Need-slice-aggregate-write-all-2
-slice-aggregate-write-all-2 c = c .before .reported .ensures .text .counts .1
+slice-aggregate-write-all : tie.Need-slice-aggregate-write-all
+slice-aggregate-write-all c = c .before .reported .ensures .text .counts .1
 
-write-all-requires-2 : tie.Need-write-all-requires-2
-write-all-requires-2 c κs = search needs
+write-all-requires : tie.Need-write-all-requires
+write-all-requires c κs = search needs
 
 slice-aggregate-fail : tie.Need-slice-aggregate-fail
 slice-aggregate-fail c = search needs
@@ -44,13 +44,13 @@ main-spec =
     tie.close
     (tie.spec
     arg-count-requires
-    slice-aggregate-write-all
-    write-all-requires
+    slice-aggregate-say
+    say-requires
     returns
     reported-requires
     array-share-prefix-out
-    slice-aggregate-write-all-2
-    write-all-requires-2
+    slice-aggregate-write-all
+    write-all-requires
     slice-aggregate-fail
     fail-requires
     returns-2

@@ -2,7 +2,7 @@
 use mathlib.Core.Path.{sym}
 use borrow.Author.Needs.{needs}
 use lib.Seq.{length-take-le}
-use Rattle.show.proofs.Pages.{fresh}
+use Rattle.show.proofs.Pages.{first-fresh}
 use Rattle.show.proofs.show.Statement.{statement}
 use Rattle.show.proofs.show.Tie as tie
 
@@ -35,7 +35,7 @@ slice-aggregate-write-drawn-2 c = sym (length-take-le _ _ (search needs))
 
 write-drawn-requires : tie.Need-write-drawn-requires
 write-drawn-requires c κs =
-    fresh (c .before .before .before .before .before .before .args .wanted .places) (search needs) (c .before .before .before .blank .ensures) (c .before .before .blank2 .ensures)
+    first-fresh (c .before .before .before .before .before .before .args .wanted .places) (search needs) (c .before .before .before .blank .ensures) (c .before .before .blank2 .ensures)
 
 returns-2 : tie.Need-returns-2
 returns-2 c = search needs

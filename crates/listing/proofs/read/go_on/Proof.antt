@@ -2,7 +2,7 @@
 use mathlib.Core.Path.{sym, ap, _∙_}
 use borrow.Author.Needs.{needs}
 use Rattle.listing.specs.declared.read.Mood.{Mood}
-use Rattle.listing.specs.Reading.{after}
+use Rattle.listing.specs.Reading.{passedIn}
 use Rattle.listing.proofs.read.go_on.Statement.{statement}
 use Rattle.listing.proofs.read.go_on.Tie as tie
 
@@ -22,7 +22,7 @@ enum-told-4 : tie.Need-enum-told-4
 enum-told-4 c = search needs
 
 returns : tie.Need-returns
-returns c = c .pass .ensures ∙ sym (ap (λ (m : Mood). after m (c .before .before .before .args .r) (c .before .before .before .args .b)) (c .before .enum-told .given .1))
+returns c = c .pass .ensures ∙ sym (ap (λ (m : Mood). passedIn m (c .before .before .before .args .r) (c .before .before .before .args .b)) (c .before .enum-told .given .1))
 
 returns-2 : tie.Need-returns-2
 returns-2 c = search needs

@@ -4,7 +4,8 @@ use native.Mathlib.Omega.{arith}
 use lib.ListN.{length}
 use Rattle.report.proofs.Putting.{put-append}
 use Rattle.listing.specs.Trace.{watchLine}
-use Rattle.listing.proofs.Traces.{length-traced, length-numbers, length-watch, roomy, laid-none, laid-put}
+use Rattle.report.proofs.Laying.{roomy, laid-none, laid-put}
+use Rattle.listing.proofs.Traces.{length-traced, length-numbers, length-watch}
 use Rattle.listing.proofs.trace.watch_line.Statement.{statement}
 use Rattle.listing.proofs.trace.watch_line.Tie as tie
 

@@ -2,7 +2,7 @@
 use mathlib.Core.Path.{refl, sym}
 use Prim.Native.Nat.{ℕ}
 use lib.ListN.{length-replicate}
-use Rattle.input.specs.Room.{filled}
+use Rattle.console.specs.Room.{filled}
 use Rattle.mend.proofs.space.index_room.Statement.{statement}
 use Rattle.mend.proofs.space.index_room.Tie as tie
 

@@ -9,8 +9,8 @@ enum-known-taken c = search needs
 enum-told : tie.Need-enum-told
 enum-told c = search needs
 
-say-requires : tie.Need-say-requires
-say-requires c κs = search needs
+say-unread-requires : tie.Need-say-unread-requires
+say-unread-requires c κs = search needs
 
 returns : tie.Need-returns
 returns c = rw (c .before .taken .given .1)
@@ -19,4 +19,4 @@ returns-2 : tie.Need-returns-2
 returns-2 c = search needs
 
 pub opened-spec : {M : Type 1} → statement M
-opened-spec = tie.close (tie.spec enum-known-taken enum-told say-requires returns returns-2)
+opened-spec = tie.close (tie.spec enum-known-taken enum-told say-unread-requires returns returns-2)

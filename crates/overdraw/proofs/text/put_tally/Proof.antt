@@ -3,7 +3,7 @@ use mathlib.Core.Path.{refl}
 use native.Mathlib.Omega.{arith}
 use borrow.Author.Needs.{needs}
 use Rattle.report.proofs.Putting.{put-append}
-use Rattle.overdraw.specs.Text.{gouraudName, constantName, line0Name, line1Name, line2Name, tallyLines}
+use Rattle.overdraw.specs.Text.{gouraudName, constantName, line0Name, line1Name, tallyLines}
 use Rattle.overdraw.proofs.Lines.{kind-line}
 use Rattle.overdraw.proofs.text.put_tally.Statement.{statement}
 use Rattle.overdraw.proofs.text.put_tally.Tie as tie

@@ -4,14 +4,14 @@ use Prim.Native.Nat.{ℕ}
 use native.Mathlib.Omega.{arith}
 use borrow.Author.Needs.{needs}
 use lib.ListN.{length}
-use Rattle.report.proofs.Lengths.{shown-none, length-shown, length-pair}
+use Rattle.report.proofs.Lengths.{place-none, length-place, length-pair}
 use Rattle.report.proofs.place.place_size.Statement.{statement}
 use Rattle.report.proofs.place.place_size.Tie as tie
 
 returns : tie.Need-returns
 returns c =
     let a = c .before .args in
-    let none = ap (length {A = ℕ}) (shown-none (a .line) (a .place) (a .i) (a .z) (c .if1 .taken)) in
+    let none = ap (length {A = ℕ}) (place-none (a .line) (a .place) (a .i) (a .z) (c .if1 .taken)) in
     record { size = omega (arith, none); small = omega arith }
 
 column-requires : tie.Need-column-requires
@@ -50,7 +50,7 @@ returns-2 c =
     let a = c .before .before .before .before .before .before .before .args in
     let x = c .before .before .before .before .before .column in
     let y = c .before .before .before .row in
-    let all = length-shown (a .line) (a .place) (a .i) (a .z) (e .if1 .left) (x .ensures) (y .ensures) in
+    let all = length-place (a .line) (a .place) (a .i) (a .z) (e .if1 .left) (x .ensures) (y .ensures) in
     record { size = omega (arith, all, length-pair (x .result) (y .result) 32, length-pair (a .i) (a .z) 10); small = omega arith }
 
 pub place-size-spec : {M : Type 1} → statement M

@@ -1,7 +1,7 @@
 -- `place::put_place` meets its contract: two pairs, one behind the other, and nothing where I is 0. Assumes nothing.
 use native.Mathlib.Omega.{arith}
 use borrow.Author.Needs.{needs}
-use Rattle.report.proofs.Lengths.{shown-none, shown-line, length-shown}
+use Rattle.report.proofs.Lengths.{place-none, place-line, length-place}
 use Rattle.report.proofs.Putting.{put-none, put-append}
 use Rattle.report.proofs.place.put_place.Statement.{statement}
 use Rattle.report.proofs.place.put_place.Tie as tie
@@ -18,7 +18,7 @@ put-pair-requires c κs =
     let a = t .before .before .args in
     let x = c .before .before .column in
     let y = c .before .row in
-    omega (arith, length-shown (a .line) (a .place) (a .i) (a .z) (t .if1 .taken) (x .ensures) (y .ensures))
+    omega (arith, length-place (a .line) (a .place) (a .i) (a .z) (t .if1 .taken) (x .ensures) (y .ensures))
 
 put-pair-requires-2 : tie.Need-put-pair-requires-2
 put-pair-requires-2 c κs =
@@ -26,7 +26,7 @@ put-pair-requires-2 c κs =
     let a = t .before .before .args in
     let x = c .before .before .before .before .before .before .column in
     let y = c .before .before .before .before .before .row in
-    omega (arith, length-shown (a .line) (a .place) (a .i) (a .z) (t .if1 .taken) (x .ensures) (y .ensures))
+    omega (arith, length-place (a .line) (a .place) (a .i) (a .z) (t .if1 .taken) (x .ensures) (y .ensures))
 
 same-length : tie.Need-same-length
 same-length c = search needs
@@ -36,11 +36,11 @@ returns c =
     let first = c .before .before .before .before .before .before in
     let t = first .before .before .before .before in
     let a = t .before .before .args in
-    rw (shown-line (a .line) (a .place) (a .i) (a .z) (t .if1 .taken) (first .before .before .before .column .ensures) (first .before .before .row .ensures))
+    rw (place-line (a .line) (a .place) (a .i) (a .z) (t .if1 .taken) (first .before .before .before .column .ensures) (first .before .before .row .ensures))
     (put-append (first .put-pair .ensures) (c .before .before .put-pair2 .ensures))
 
 returns-2 : tie.Need-returns-2
-returns-2 c = let a = c .before .before .args in rw (shown-none (a .line) (a .place) (a .i) (a .z) (c .if1 .left)) (put-none (a .out .now) (a .at))
+returns-2 c = let a = c .before .before .args in rw (place-none (a .line) (a .place) (a .i) (a .z) (c .if1 .left)) (put-none (a .out .now) (a .at))
 
 pub put-place-spec : {M : Type 1} → statement M
 put-place-spec =

@@ -4,8 +4,8 @@ use mathlib.Core.Path.{_≡_, refl, sym, _∙_}
 use Prim.Native.Nat.{suc, _-_}
 use native.Mathlib.Omega.{arith}
 use borrow.Author.Needs.{needs}
+use borrow.Author.Tests.{not-true, not-false}
 use Rattle.report.specs.Levels.{drawnPlaces}
-use Rattle.report.proofs.Choice.{not-true, not-false}
 use Rattle.report.proofs.Levels.{drawn-less, drawn-here, drawn-none}
 use Rattle.report.proofs.scale.drawn_places.Statement.{statement}
 use Rattle.report.proofs.scale.drawn_places.Tie as tie

@@ -7,7 +7,7 @@ use native.Mathlib.Omega.{arith}
 use borrow.Author.Needs.{needs}
 use borrow.Author.Tests.{lt-ltb, le-ltb}
 use lib.ListN.{length, getD, length-append}
-use Rattle.report.specs.Text.{lines, heading, shown}
+use Rattle.report.specs.Text.{lines, heading, placeLine}
 use Rattle.report.specs.Calls.{Sized}
 use Rattle.report.proofs.Lengths.{length-report, lines-within, lines-more}
 use Rattle.report.proofs.text.is_longer.Statement.{statement}
@@ -18,9 +18,9 @@ unfolding lines
 none line im zm = refl
 
 -- the size of the next line
-next : (line : ℕ) (im zm : List ℕ) (p : ℕ) {z r : ℕ} → z ≡ getD zm p 0 → Sized (shown line p (getD im p 0) z) 84 r
-    → r ≡ length (shown line p (getD im p 0) (getD zm p 0))
-next line im zm p e s = s .size ∙ ap (λ (z : ℕ). length (shown line p (getD im p 0) z)) e
+next : (line : ℕ) (im zm : List ℕ) (p : ℕ) {z r : ℕ} → z ≡ getD zm p 0 → Sized (placeLine line p (getD im p 0) z) 84 r
+    → r ≡ length (placeLine line p (getD im p 0) (getD zm p 0))
+next line im zm p e s = s .size ∙ ap (λ (z : ℕ). length (placeLine line p (getD im p 0) z)) e
 
 ended : {p n : ℕ} → p ≤ n → n ≤ p → p ≡ n
 ended h k = omega arith
@@ -88,7 +88,7 @@ loop-again c =
     let a = l .before .before .before .before .before .args in
     let p = l .loop .place in
     let more = next (a .line) (a .im .now) (a .zm .now) p (c .before .before .number-at .ensures) (c .before .place-size .ensures) in
-    let here = shown (a .line) p (getD (a .im .now) p 0) (getD (a .zm .now) p 0) in (
+    let here = placeLine (a .line) p (getD (a .im .now) p 0) (getD (a .zm .now) p 0) in (
       omega arith,
       omega arith,
       rw (lines-more (a .line) (a .im .now) (a .zm .now) p)

@@ -6,7 +6,7 @@ use Prim.Native.Nat.{_-_, _≤_, ℕ}
 use native.Mathlib.Omega.{arith}
 use borrow.Author.Needs.{needs}
 use lib.ListN.{length, getD}
-use Rattle.report.specs.Text.{lines, shown}
+use Rattle.report.specs.Text.{lines, placeLine}
 use Rattle.report.specs.Calls.{Put}
 use Rattle.report.proofs.Lengths.{lines-more, lines-within}
 use Rattle.report.proofs.Putting.{put-none, put-append}
@@ -40,7 +40,7 @@ put-place-requires c κs =
     let l = c .before .before .before .before in
     let a = l .before .before .before .before .args in
     let p = l .loop .place in
-    let z = ap (λ (z : ℕ). length (shown (a .line) p (getD (a .im .now) p 0) z)) (c .before .number-at .ensures) in
+    let z = ap (λ (z : ℕ). length (placeLine (a .line) p (getD (a .im .now) p 0) z)) (c .before .number-at .ensures) in
     omega (arith, z, l .loop .inv .1, l .loop .inv .2 .ends, lines-within (a .line) (a .im .now) (a .zm .now) p (omega arith))
 
 add-place : tie.Need-add-place Inv-loop μ-loop

@@ -5,10 +5,10 @@ use mathlib.Core.Bool.{true, false}
 use Prim.Native.Nat.{_-_, _≤_}
 use native.Mathlib.Omega.{arith}
 use borrow.Author.Needs.{needs}
+use borrow.Author.Tests.{not-true, not-false}
 use lib.ListN.{length, drop}
 use lib.Seq.{drop-length}
 use Rattle.show.specs.Arguments.{digitsOnly}
-use Rattle.report.proofs.Choice.{not-true, not-false}
 use Rattle.show.proofs.Asking.{digits-none, digits-more, digits-end}
 use Rattle.show.proofs.arguments.digits_only.Statement.{statement}
 use Rattle.show.proofs.arguments.digits_only.Tie as tie

@@ -1,12 +1,10 @@
 -- `write::drawn` meets its contract: the memories are fresh. Assumes nothing.
-use mathlib.Core.Path.{ap₂, _∙_}
-use mathlib.Core.List.{List}
-use Prim.Native.Nat.{ℕ}
+use mathlib.Core.Path.{ap, _∙_}
 use borrow.Author.Needs.{needs}
-use Rattle.machine.specs.Machine.{memories}
+use Rattle.machine.specs.Machine.{Memories}
 use Rattle.registers.specs.Record.{resetOf}
 use Rattle.chip.specs.Stream.{running}
-use Rattle.show.specs.Show.{drawnOn}
+use Rattle.chip.specs.Fresh.{freshRun}
 use Rattle.show.proofs.write.drawn.Statement.{statement}
 use Rattle.show.proofs.write.drawn.Tie as tie
 
@@ -20,11 +18,11 @@ same-length-2 : tie.Need-same-length-2
 same-length-2 c = search needs
 
 returns : tie.Need-returns
-unfolding drawnOn
+unfolding freshRun
 returns c =
     let s = c .before .before .before .before .before .before .before .before .before .before in
     let bytes = s .args .bytes .now in
-    c .before .before .before .before .run .ensures ∙ ap₂ (λ (i z : List ℕ). running resetOf bytes (memories i z)) (s .pre .dark) (s .pre .far)
+    c .before .before .before .before .run .ensures ∙ ap (λ (m : Memories). running resetOf bytes m) (s .pre)
 
 pub drawn-spec : {M : Type 1} → statement M
 drawn-spec = tie.close (tie.spec run-requires same-length same-length-2 returns)

@@ -1,5 +1,4 @@
 -- `write::write_pages` meets its contract. Its loop needs no invariant: each page is asked for anew. The measure is the number of rows left. Assumes nothing.
-use Prim.Native.Nat.{_≤_}
 use native.Mathlib.Omega.{arith}
 use borrow.Author.Needs.{needs}
 use Rattle.show.proofs.Pages.{page-fits, page-low, page-some}

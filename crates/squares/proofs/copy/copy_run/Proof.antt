@@ -5,13 +5,13 @@ use Prim.Native.Nat.{_+_, _-_, _≤_}
 use native.Mathlib.Omega.{arith}
 use borrow.Author.Needs.{needs}
 use lib.ListN.{length, getD, length-set}
-use Rattle.squares.specs.Copy.{within, overlay}
+use Rattle.squares.specs.Copy.{isAmong, overlay}
 use Rattle.squares.proofs.Rows.{run-start, run-more}
 use Rattle.squares.proofs.copy.copy_run.Statement.{statement}
 use Rattle.squares.proofs.copy.copy_run.Tie as tie
 
 abbrev Inv-loop : tie.InvT-loop
-Inv-loop new at n view₀ i₀ view i = (i ≤ n) × (length view ≡ length view₀) × (view ≡ overlay (within i at) new 0 view₀)
+Inv-loop new at n view₀ i₀ view i = (i ≤ n) × (length view ≡ length view₀) × (view ≡ overlay (isAmong i at) new 0 view₀)
 
 abbrev μ-loop : tie.MeasureT-loop
 μ-loop new at n view₀ i₀ view i = n - i

@@ -2,7 +2,7 @@
 -- the loop: the first j rows are copied, the two ends are those of the picture or of the square, and the length is kept. The measure is the
 -- number of rows left. Assumes nothing.
 use mathlib.Core.Path.{_≡_, refl, sym, _∙_}
-use Prim.Native.Nat.{_+_, _*_, _-_, _≤_, min}
+use Prim.Native.Nat.{_+_, _-_, _≤_, min}
 use native.Mathlib.Omega.{arith}
 use borrow.Author.Needs.{needs}
 use lib.ListN.{length}

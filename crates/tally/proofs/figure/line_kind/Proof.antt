@@ -1,5 +1,5 @@
 -- `figure::line_kind` meets its contract. Assumes nothing.
-use mathlib.Core.Path.{sym, ap, _∙_}
+use mathlib.Core.Path.{sym, ap}
 use mathlib.Core.List.{[], _∷_}
 use Rattle.line.specs.declared.Mode.the-variants.{Zero, One, Two}
 use Rattle.registers.proofs.Keys.{default}

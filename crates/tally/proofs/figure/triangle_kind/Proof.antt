@@ -1,5 +1,4 @@
 -- `figure::triangle_kind` meets its contract. Assumes nothing.
-use mathlib.Core.Path.{sym}
 use borrow.Author.Tests.{eq-eqb, ne-eqb}
 use Rattle.tally.proofs.figure.triangle_kind.Statement.{statement}
 use Rattle.tally.proofs.figure.triangle_kind.Tie as tie

@@ -1,8 +1,7 @@
 -- `print::turn` meets its contract: what is laid ends on the page, and keeps its length. Assumes nothing.
 use borrow.Author.Needs.{needs}
 use native.Mathlib.Omega.{arith}
-use Rattle.listing.proofs.Traces.{laid-within}
-use Rattle.trace.proofs.Laying.{laid-length}
+use Rattle.report.proofs.Laying.{laid-within, laid-length}
 use Rattle.trace.proofs.print.turn.Statement.{statement}
 use Rattle.trace.proofs.print.turn.Tie as tie
 

@@ -1,7 +1,7 @@
 -- `pixel::lay` meets its contract: the test decides. Assumes nothing.
 use borrow.Author.Needs.{needs}
 use denote.Ref.{now}
-use Rattle.listing.proofs.Traces.{laid-nothing}
+use Rattle.report.proofs.Laying.{laid-nothing}
 use Rattle.tracing.proofs.pixel.lay.Statement.{statement}
 use Rattle.tracing.proofs.pixel.lay.Tie as tie
 
