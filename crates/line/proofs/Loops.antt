@@ -13,7 +13,7 @@ use Rattle.picture.specs.declared.Kind.{Kind}
 use Rattle.picture.specs.declared.Vertex.{Vertex}
 use Rattle.picture.specs.Place.{rowsOf}
 use Rattle.picture.specs.Offer.{Offer, offer, offered, keep}
-use Rattle.picture.specs.Draw.{spans}
+use Rattle.picture.specs.Draw.{carriedOne, spans}
 use Rattle.picture.specs.Picture.{isDeep, picture, drawn}
 use Rattle.picture.proofs.Spans.{Reached, reached-start, reached-add, reached-end, reached-i, reached-z}
 use Rattle.picture.proofs.Rows.{carried-start, carried-next, carried-at}
@@ -222,17 +222,17 @@ module _ (pen : Pen) (rows : ℕ) (style : Style) (a b : Vertex) where
   -- by the pixel, the kind and the ink that were computed
   module _ (s : Slope) (p : Step) (q : Pixel) (kind : Kind) (ink : Ink) where
     pub inked-step : OnWalk a b s p → q ≡ pixelAt a b (p .k) → kind ≡ kindOf (style .mode) → firstOf (joinedIn style (style .mode)) ≤ p .k
-        → ink ≡ inkOf style (style .mode) (isSet style (p .k)) (p .i / 2 ^ 48) (p .z / 2 ^ 48) → ink .drawn ≡ true
+        → ink ≡ inkOf style (style .mode) (isSet style (p .k)) (p .i / carriedOne) (p .z / carriedOne) → ink .drawn ≡ true
         → keep pen rows (offer kind (q .x) (q .y) (ink .i) (ink .z)) ≡ stepOffers pen rows style (style .mode) a b (p .k)
     inked-step on eq ek t ei d =
         rw (eq, ek, ei)
-        (ink-drawn (p .k) (isSet style (p .k)) (p .i / 2 ^ 48) (p .z / 2 ^ 48) refl (style .mode) t
+        (ink-drawn (p .k) (isSet style (p .k)) (p .i / carriedOne) (p .z / carriedOne) refl (style .mode) t
         (on .i ∙ ap (λ (s : Slope). numberAt (s .n) (p .k) (a .i) (b .i)) (on .on .slope))
         (on .z ∙ ap (λ (s : Slope). numberAt (s .n) (p .k) (a .z) (b .z)) (on .on .slope))
         (sym (ap (λ (i : Ink). i .drawn) ei) ∙ d))
 
   pub blank-step : (p : Step) (ink : Ink) → firstOf (joinedIn style (style .mode)) ≤ p .k
-      → ink ≡ inkOf style (style .mode) (isSet style (p .k)) (p .i / 2 ^ 48) (p .z / 2 ^ 48) → ink .drawn ≡ false
+      → ink ≡ inkOf style (style .mode) (isSet style (p .k)) (p .i / carriedOne) (p .z / carriedOne) → ink .drawn ≡ false
       → stepOffers pen rows style (style .mode) a b (p .k) ≡ []
   blank-step p ink t ei d =
-      ink-none (p .k) (isSet style (p .k)) (p .i / 2 ^ 48) (p .z / 2 ^ 48) refl (style .mode) t (sym (ap (λ (i : Ink). i .drawn) ei) ∙ d)
+      ink-none (p .k) (isSet style (p .k)) (p .i / carriedOne) (p .z / carriedOne) refl (style .mode) t (sym (ap (λ (i : Ink). i .drawn) ei) ∙ d)

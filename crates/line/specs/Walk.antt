@@ -4,7 +4,7 @@ use mathlib.Core.Path.{_≡_}
 use Prim.Native.Nat.{ℕ, _+_, _*_, _/_, _%_, _^_, _≤_}
 use Rattle.picture.specs.declared.Carried.{Carried}
 use Rattle.picture.specs.declared.Vertex.{Vertex}
-use Rattle.picture.specs.Draw.{carriedTo}
+use Rattle.picture.specs.Draw.{carriedOne, carriedTo}
 use Rattle.line.specs.declared.slope.Slope.{Slope}
 use Rattle.line.specs.declared.walk.Walk.{Walk}
 use Rattle.line.specs.declared.walk.Step.{Step}
@@ -51,6 +51,6 @@ nextOf w p =
 -- a step of the segment from a to b, where what is carried tells its side and its numbers
 pub record OnWalk (a b : Vertex) (s : Slope) (p : Step) : Type 0 where
   pub on : OnStep a b s (p .k)
-  pub side : p .side / 2 ^ 48 ≡ sideAt (s .n) (s .m) (p .k)
-  pub i : p .i / 2 ^ 48 ≡ numberAt (s .n) (p .k) (a .i) (b .i)
-  pub z : p .z / 2 ^ 48 ≡ numberAt (s .n) (p .k) (a .z) (b .z)
+  pub side : p .side / carriedOne ≡ sideAt (s .n) (s .m) (p .k)
+  pub i : p .i / carriedOne ≡ numberAt (s .n) (p .k) (a .i) (b .i)
+  pub z : p .z / carriedOne ≡ numberAt (s .n) (p .k) (a .z) (b .z)

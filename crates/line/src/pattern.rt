@@ -1,4 +1,5 @@
 // What a step is drawn with: the colours of the line's pattern in the modes 0 and 1, the numbers that are carried in mode 2.
+ghost use Rattle.picture.specs.Draw.{carriedOne};
 ghost use mathlib.Core.Path.{_≡_};
 ghost use mathlib.Core.Bool.{cond};
 ghost use Prim.Native.Nat.{_/_, _^_};
@@ -39,7 +40,7 @@ pub(crate) fn colour_of(style: Style, set: bool) -> u16
 // What a step is drawn with, where lines of the mode have depths or not, and a ground or not.
 pub(crate) fn ink_at(style: Style, deep: bool, ground: bool, p: Step) -> Ink
     requires { ⌜ (deep ≡ isDeep (kindOf (style .mode))) × (ground ≡ hasGround (style .mode)) ⌝ }
-    ensures { λ r. ⌜ r ≡ inkOf style (style .mode) (isSet style (p .k)) (p .i / 2 ^ 48) (p .z / 2 ^ 48) ⌝ }
+    ensures { λ r. ⌜ r ≡ inkOf style (style .mode) (isSet style (p .k)) (p .i / carriedOne) (p .z / carriedOne) ⌝ }
 {
     let set = is_set(style, p.k);
     let colour = colour_of(style, set);

@@ -1,10 +1,12 @@
 // A walk along a segment: how far a step moves to the side, and its two numbers, each carried as 2^48 times itself and a part, with one
 // division at the start and none later.
+ghost use Rattle.picture.specs.Draw.{carriedOne};
 ghost use mathlib.Core.Path.{_≡_};
 ghost use Prim.Native.Nat.{_/_, _^_, _≤_};
 ghost use Rattle.line.specs.Segment.{firstOf};
 ghost use Rattle.line.specs.Walk.{Tells, Carries, Stands, doubled, twiceOf, nextOf};
 use crate::slope::Slope;
+use picture::CARRIED_ONE;
 use picture::Carried;
 use picture::Vertex;
 
@@ -31,20 +33,20 @@ fn carried(n: u16, first: u16, second: u16) -> Carried
 {
     if n == 0 {
         return Carried {
-            first: (second as u64) * 281474976710656,
+            first: (second as u64) * CARRIED_ONE,
             add: 0,
         };
     }
     let steps = n as u64;
-    let start = (first as u64) * 281474976710656 + 140737488355328;
+    let start = (first as u64) * CARRIED_ONE + CARRIED_ONE / 2;
     if first <= second {
-        let rise = ((second - first) as u64) * 281474976710656;
+        let rise = ((second - first) as u64) * CARRIED_ONE;
         return Carried {
             first: start,
             add: (rise + (steps - 1)) / steps,
         };
     }
-    let fall = ((first - second) as u64) * 281474976710656;
+    let fall = ((first - second) as u64) * CARRIED_ONE;
     let add = std::num::wrapping_sub_u64(0, fall / steps);
     Carried { first: start, add }
 }
@@ -66,7 +68,7 @@ pub(crate) fn walk_of(a: Vertex, b: Vertex, s: Slope) -> Walk
 
 // The number of what is carried.
 pub(crate) fn whole(k: u64) -> u16
-    ensures { λ r. ⌜ r ≡ k / 2 ^ 48 ⌝ }
+    ensures { λ r. ⌜ r ≡ k / carriedOne ⌝ }
 {
     (k >> 48) as u16
 }

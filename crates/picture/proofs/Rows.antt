@@ -21,7 +21,7 @@ use Rattle.picture.specs.declared.Carried.{Carried}
 use Rattle.picture.specs.Place.{layoutOf, placeOf, mine, inMemory}
 use Rattle.picture.specs.Offer.{Offer, offer, isMasked, shows}
 use Rattle.picture.specs.Picture.{isDeep, comparedOf, isEdge, wins, passes, inPlanes, newI, newZ, Picture, picture, stepAt, step, drawn}
-use Rattle.picture.specs.Draw.{shown, seen, carriedTo, spanPixel, spanOffers, isPlain, nearerPen}
+use Rattle.picture.specs.Draw.{carriedOne, shown, seen, carriedTo, spanPixel, spanOffers, isPlain, nearerPen}
 use Rattle.picture.specs.Loops.{Plain, isNearer, nearerAt}
 use Rattle.picture.proofs.Places.{both}
 use Rattle.picture.proofs.Fold.{drawn-nil}
@@ -240,9 +240,9 @@ carried-next k g j r m e h =
     h ∙ ap (λ (a : ℕ). (a + g) % 2 ^ 64) e ∙ mod-add-mod (k + j * g) (2 ^ 64) g
     ∙ ap (λ (a : ℕ). a % 2 ^ 64) (add-assoc k (j * g) g ∙ ap (λ (a : ℕ). k + a) (sym (ap (λ (b : ℕ). b * g) (add-one j) ∙ suc-mul j g)))
 
-pub carried-at : (c : Carried) (j m : ℕ) → m ≡ (c .first + j * c .add) % 2 ^ 64 → m / 2 ^ 48 ≡ carriedTo c j
+pub carried-at : (c : Carried) (j m : ℕ) → m ≡ (c .first + j * c .add) % 2 ^ 64 → m / carriedOne ≡ carriedTo c j
 unfolding carriedTo
-carried-at c j m e = ap (λ (a : ℕ). a / 2 ^ 48) e
+carried-at c j m e = ap (λ (a : ℕ). a / carriedOne) e
 
 -- so far, and four pixels on
 pub carried-four : (k g j r m w : ℕ) → m ≡ (k + j * g) % 2 ^ 64 → w ≡ (4 * g) % 2 ^ 64 → r ≡ (m + w) % 2 ^ 64 → r ≡ (k + (j + 4) * g) % 2 ^ 64
@@ -257,7 +257,7 @@ carried-four k g j r m w e f h =
 pub carried-on : (c : Carried) (k m : ℕ) → m ≡ (c .first + k * c .add) % 2 ^ 64 → (j : ℕ) → carriedTo (carry m (c .add)) j ≡ carriedTo c (k + j)
 unfolding carriedTo
 carried-on c k m e j =
-    ap (λ (n : ℕ). n / 2 ^ 48)
+    ap (λ (n : ℕ). n / carriedOne)
     (ap (λ (a : ℕ). (a + j * c .add) % 2 ^ 64) e
     ∙ mod-add-mod (c .first + k * c .add) (2 ^ 64) (j * c .add)
     ∙ ap (λ (a : ℕ). a % 2 ^ 64) (add-assoc (c .first) (k * c .add) (j * c .add) ∙ ap (λ (a : ℕ). c .first + a) (sym (add-mul k j (c .add)))))

@@ -16,7 +16,7 @@ use Rattle.picture.specs.declared.Carried.{Carried}
 use Rattle.picture.specs.Place.{liesPlain, liesTiled, waysOf, layoutOf, spotOf, placeOf, mine, inMemory}
 use Rattle.picture.specs.Offer.{Offer, offer}
 use Rattle.picture.specs.Picture.{Picture, drawn}
-use Rattle.picture.specs.Draw.{shown, seen, carriedTo, spanPixel, spanOffers}
+use Rattle.picture.specs.Draw.{carriedOne, shown, seen, carriedTo, spanPixel, spanOffers}
 use Rattle.picture.specs.Loops.{Shares, untilOwn, ownBelow, stridden, ownOffers}
 use Rattle.picture.proofs.Places.{or-none, lies-shared, ways-low, inside-of}
 use Rattle.picture.proofs.Spans.{spans-zero, spans-some}
@@ -151,7 +151,7 @@ stride-sum a g first ways j =
 pub stride-carried : (c : Carried) (first ways j : ℕ) → carriedTo (stridden c first ways) j ≡ carriedTo c (first + ways * j)
 unfolding carriedTo
 stride-carried c first ways j =
-    ap (λ (n : ℕ). n / 2 ^ 48)
+    ap (λ (n : ℕ). n / carriedOne)
     (times-mod ((c .first + (first * c .add) % 2 ^ 64) % 2 ^ 64) (ways * c .add) (2 ^ 64) j
     ∙ mod-add-mod (c .first + (first * c .add) % 2 ^ 64) (2 ^ 64) (j * (ways * c .add))
     ∙ ap (λ (n : ℕ). n % 2 ^ 64) (swap (c .first) ((first * c .add) % 2 ^ 64) (j * (ways * c .add)))

@@ -29,9 +29,13 @@ shown pen o = cond (not (isMasked (o .kind)) || shows pen (o .x) (o .y)) (o ∷ 
 unfoldable pub seen : Pen → ℕ → Offer → List Offer
 seen pen rows o = cond (inMemory (pen .frame) rows (o .x) (o .y)) (shown pen o) []
 
+-- what 1 is as a carried number: a number is carried as so many times itself, and a part
+abbrev pub carriedOne : ℕ
+carriedOne = 2 ^ 48
+
 -- a carried number, so many pixels on
 unfoldable pub carriedTo : Carried → ℕ → ℕ
-carriedTo c j = (c .first + j * c .add) % 2 ^ 64 / 2 ^ 48
+carriedTo c j = (c .first + j * c .add) % 2 ^ 64 / carriedOne
 
 -- pixel j of a run in row y from column lo on, its numbers carried
 abbrev pub spanPixel : Kind → ℕ → ℕ → Carried → Carried → ℕ → Offer

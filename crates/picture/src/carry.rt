@@ -1,4 +1,5 @@
 // Numbers carried along a row, modulo 2^64.
+ghost use Rattle.picture.specs.Draw.{carriedOne};
 ghost use mathlib.Core.Path.{_≡_};
 ghost use mathlib.Core.Logic.{_⊎_};
 ghost use mathlib.Core.Bool.{cond};
@@ -8,7 +9,7 @@ use crate::Carried;
 
 // The whole part of a carried number.
 pub(crate) fn whole(k: u64) -> u16
-    ensures { λ r. ⌜ r ≡ k / 2 ^ 48 ⌝ }
+    ensures { λ r. ⌜ r ≡ k / carriedOne ⌝ }
 {
     (k >> 48) as u16
 }

@@ -55,6 +55,9 @@ pub struct Vertex {
     pub z: u16,
 }
 
+// What 1 is as a carried number.
+pub const CARRIED_ONE: u64 = 1 << 48;
+
 // A number carried along a row, as 2^48 times itself and a part: what it is at the row's first pixel, and what each pixel adds, modulo
 // 2^64.
 pub struct Carried {

@@ -1,5 +1,6 @@
 -- Numbers carried along a row as 2 ^ 48 times themselves and a part: by a factor f near 2 ^ 48 / 2 D where the triangle is small, by a
 -- quotient rounded up where it is not. One law, picture's `near-told`, says that both tell the number. Assumes nothing.
+use Rattle.picture.specs.Draw.{carriedOne}
 use mathlib.Core.Path.{_≡_, refl, sym, ap, _∙_}
 use mathlib.Core.Bool.{Bool, true, false}
 use Prim.Native.Nat.{ℕ, zero, suc, _+_, _*_, _-_, _/_, _%_, _^_, _≤_, _<_, min}
@@ -18,26 +19,26 @@ use Rattle.triangle.proofs.Covers.{covered-ready, covered-within}
 -- ---- bare numbers
 
 -- by a product: f is 2 ^ 48 over d, and a little more
-pub told : (n d f : ℕ) → 0 < d → 281474976710656 ≤ f * d → f * d ≤ 281474976710656 + d → n * d < 281474976710656 → n * f / 281474976710656 ≡ n / d
+pub told : (n d f : ℕ) → 0 < d → carriedOne ≤ f * d → f * d ≤ carriedOne + d → n * d < carriedOne → n * f / carriedOne ≡ n / d
 told n d f pos least most small =
     near-told n d (n * f) pos
     (omega (arith, mul-assoc n f d, mul-le-mul-left n least))
-    (omega (arith, mul-assoc n f d, mul-le-mul-left n most, mul-add n 281474976710656 d))
+    (omega (arith, mul-assoc n f d, mul-le-mul-left n most, mul-add n carriedOne d))
 
 -- a quotient below 65,536 by the reciprocal of an edge's height
-module _ (v d f : ℕ) (pos : 0 < d) (few : d ≤ 65535) (least : 281474976710656 ≤ f * d) (most : f * d ≤ 281474976710656 + d) (h : v < 65536 * d) where
-  over-small : v * d < 281474976710656
+module _ (v d f : ℕ) (pos : 0 < d) (few : d ≤ 65535) (least : carriedOne ≤ f * d) (most : f * d ≤ carriedOne + d) (h : v < 65536 * d) where
+  over-small : v * d < carriedOne
   over-small =
       let most : v ≤ 65536 * d = omega (arith, h) in
       omega (arith, mul-le-mul-right d most, mul-le-mul-left (65536 * d) few, few)
 
-  pub over-told : v * f / 281474976710656 ≡ v / d
+  pub over-told : v * f / carriedOne ≡ v / d
   over-told = told v d f pos least most over-small
 
-  pub over-fits : v * f < 65536 * 281474976710656
+  pub over-fits : v * f < 65536 * carriedOne
   over-fits =
       let q : v / d < 65536 = (div-lt-iff-lt-mul {k = d} {x = v} {y = 65536} pos) .1 h in
-      (div-lt-iff-lt-mul {k = 281474976710656} {x = v * f} {y = 65536} (omega arith)) .0 (omega (arith, q, over-told))
+      (div-lt-iff-lt-mul {k = carriedOne} {x = v * f} {y = 65536} (omega arith)) .0 (omega (arith, q, over-told))
 
 -- ---- a part of 2 ^ 48, by two divisions
 
@@ -45,7 +46,7 @@ module _ (r m : ℕ) (pos : 0 < m) where
   abbrev twice : ℕ
   twice = r * 4294967296 / m * 65536 + r * 4294967296 % m * 65536 / m
 
-  whole-of : twice * m + r * 4294967296 % m * 65536 % m ≡ r * 281474976710656
+  whole-of : twice * m + r * 4294967296 % m * 65536 % m ≡ r * carriedOne
   whole-of =
       omega (
         arith,
@@ -56,39 +57,39 @@ module _ (r m : ℕ) (pos : 0 < m) where
         mul-left-comm (r * 4294967296 / m) 65536 m,
       )
 
-  pub part-low : twice * m ≤ r * 281474976710656
+  pub part-low : twice * m ≤ r * carriedOne
   part-low = omega (arith, whole-of)
 
-  pub part-high : r * 281474976710656 < twice * m + m
+  pub part-high : r * carriedOne < twice * m + m
   part-high = omega (arith, whole-of, mod-lt (r * 4294967296 % m * 65536) pos)
 
-  pub part-small : r < m → twice < 281474976710656
-  part-small h = lt-of-mul-lt-mul-right m {m = twice} {n = 281474976710656} (omega (arith, part-low))
+  pub part-small : r < m → twice < carriedOne
+  part-small h = lt-of-mul-lt-mul-right m {m = twice} {n = carriedOne} (omega (arith, part-low))
 
 pub quotient-small : (n m : ℕ) → 0 < m → 2 * n ≤ 131071 * m → n / m ≤ 65535
 quotient-small n m p h = le-of-suc-le-suc ((div-lt-iff-lt-mul {k = m} {x = n} {y = 65536} p) .1 (omega arith))
 
 -- the whole part before it
-module _ (n m k : ℕ) (low : k * m ≤ n % m * 281474976710656) (high : n % m * 281474976710656 < k * m + m) where
-  parts : (n / m * 281474976710656 + k) * m ≡ n / m * m * 281474976710656 + k * m
+module _ (n m k : ℕ) (low : k * m ≤ n % m * carriedOne) (high : n % m * carriedOne < k * m + m) where
+  parts : (n / m * carriedOne + k) * m ≡ n / m * m * carriedOne + k * m
   parts =
       omega (
         arith,
-        add-mul (n / m * 281474976710656) k m,
-        mul-assoc (n / m) 281474976710656 m,
-        mul-left-comm (n / m) 281474976710656 m,
+        add-mul (n / m * carriedOne) k m,
+        mul-assoc (n / m) carriedOne m,
+        mul-left-comm (n / m) carriedOne m,
       )
 
-  pub fixed-low : (n / m * 281474976710656 + k) * m ≤ n * 281474976710656
+  pub fixed-low : (n / m * carriedOne + k) * m ≤ n * carriedOne
   fixed-low = omega (arith, parts, div-add-mod' n m)
 
-  pub fixed-high : n * 281474976710656 < (n / m * 281474976710656 + k) * m + m
+  pub fixed-high : n * carriedOne < (n / m * carriedOne + k) * m + m
   fixed-high = omega (arith, parts, div-add-mod' n m)
 
-  pub fixed-fits : 0 < m → 2 * n ≤ 131071 * m → n / m * 281474976710656 + k ≤ 18446603336221196288
+  pub fixed-fits : 0 < m → 2 * n ≤ 131071 * m → n / m * carriedOne + k ≤ 18446603336221196288
   fixed-fits p h = le-of-mul-le-mul-right {k = m} (omega (arith, fixed-low)) p
 
-module _ (d f : ℕ) (few : 2 * d ≤ 65536) (most : f * (2 * d) ≤ 281474976710656 + 2 * d) where
+module _ (d f : ℕ) (few : 2 * d ≤ 65536) (most : f * (2 * d) ≤ carriedOne + 2 * d) where
   unit : d * f ≤ 140737488388096
   unit = omega (arith, mul-left-comm f 2 d, mul-comm f d)
 
@@ -101,14 +102,14 @@ module _ (d f : ℕ) (few : 2 * d ≤ 65536) (most : f * (2 * d) ≤ 28147497671
   pub step-fits : (k : ℕ) → k ≤ 65535 * d → k * (2 * f) < 18446744073709551616
   step-fits k h = omega (arith, unit, mul-le-mul-right f h, mul-assoc 65535 d f, mul-left-comm k 2 f)
 
-  pub sum-small : (n : ℕ) → n ≤ 131071 * d → n * (2 * d) < 281474976710656
+  pub sum-small : (n : ℕ) → n ≤ 131071 * d → n * (2 * d) < carriedOne
   sum-small n h = omega (arith, mul-le-mul {n₁ = n} {m₁ = 2 * d} {n₂ = 4294934528} {m₂ = 65536} (omega arith) few)
 
-pub factor-least : (d : ℕ) → 0 < d → 281474976710656 ≤ (281474976710656 / d + 1) * d
-factor-least d h = omega (arith, add-mul (281474976710656 / d) 1 d, lt-div-mul-add {a = 281474976710656} {b = d} h)
+pub factor-least : (d : ℕ) → 0 < d → carriedOne ≤ (carriedOne / d + 1) * d
+factor-least d h = omega (arith, add-mul (carriedOne / d) 1 d, lt-div-mul-add {a = carriedOne} {b = d} h)
 
-pub factor-most : (d : ℕ) → (281474976710656 / d + 1) * d ≤ 281474976710656 + d
-factor-most d = omega (arith, add-mul (281474976710656 / d) 1 d, mul-div-le 281474976710656 d, mul-comm d (281474976710656 / d))
+pub factor-most : (d : ℕ) → (carriedOne / d + 1) * d ≤ carriedOne + d
+factor-most d = omega (arith, add-mul (carriedOne / d) 1 d, mul-div-le carriedOne d, mul-comm d (carriedOne / d))
 
 pub mass-most : (u v w d p q r : ℕ) → u + v + w ≡ d → p ≤ 65535 → q ≤ 65535 → r ≤ 65535 → massOf u v w d p q r ≤ 131071 * d
 mass-most u v w d p q r e hp hq hr = omega (arith, mean-most u v w d p q r e 65535 hp hq hr)
@@ -152,7 +153,7 @@ module _ (t : Corners) (k : Turned t) (x y p q r : ℕ) (h : covers t x y ≡ tr
       line : (p u v a b : ℕ) → v + b ≡ u + a → p * v + p * b ≡ p * u + p * a
       line p u v a b e = sym (mul-add p v b) ∙ ap (λ (j : ℕ). p * j) e ∙ mul-add p u a
 
-module _ (t : Corners) (k : Turned t) (f : ℕ) (few : 2 * areaOf t ≤ 65536) (most : f * (2 * areaOf t) ≤ 281474976710656 + 2 * areaOf t)
+module _ (t : Corners) (k : Turned t) (f : ℕ) (few : 2 * areaOf t ≤ 65536) (most : f * (2 * areaOf t) ≤ carriedOne + 2 * areaOf t)
     (p q r : ℕ) (hp : p ≤ 65535) (hq : q ≤ 65535) (hr : r ≤ 65535) where
   ready : (x y : ℕ) → covers t x y ≡ true → Ready t (areaOf t) (edgesAt t x y)
   ready x y h = covered-ready t k x y h (omega arith)
@@ -186,37 +187,37 @@ module _ (t : Corners) (k : Turned t) (f : ℕ) (few : 2 * areaOf t ≤ 65536) (
               down-mod _ _ _ v (scale-up (massBy t p q r (x + 1) y) _ (min (fall - rise) (65535 * areaOf t)) f e) (sum-fits (areaOf t) f few most _ c) n;
         }
 
-  pub number : 281474976710656 ≤ f * (2 * areaOf t) → (x y : ℕ) → covers t x y ≡ true
-      → scaled t f p q r x y / 281474976710656 ≡ mixed (amount (edgesAt t x y .bc)) (amount (edgesAt t x y .ca)) (amount (edgesAt t x y .ab)) (areaOf t) p q r
+  pub number : carriedOne ≤ f * (2 * areaOf t) → (x y : ℕ) → covers t x y ≡ true
+      → scaled t f p q r x y / carriedOne ≡ mixed (amount (edgesAt t x y .bc)) (amount (edgesAt t x y .ca)) (amount (edgesAt t x y .ab)) (areaOf t) p q r
   unfolding scaled mixed
   number least x y h = told _ (2 * areaOf t) f (omega (arith, ready x y h .some)) least most (sum-small (areaOf t) f few most _ (mass-at x y h))
 
 -- ---- a long sum, one pixel to the right
 
 -- the sum m is n and 2 * k; v is 2 ^ 48 times 2 * k over d, rounded
-module _ (n m k d a b v : ℕ) (pos : 0 < d) (fits : 2 * m ≤ 131071 * d) (low : n * 281474976710656 ≤ a * d) (high : a * d ≤ n * 281474976710656 + b * d)
+module _ (n m k d a b v : ℕ) (pos : 0 < d) (fits : 2 * m ≤ 131071 * d) (low : n * carriedOne ≤ a * d) (high : a * d ≤ n * carriedOne + b * d)
     (small : b ≤ 65535) where
-  rise-low : m ≡ n + 2 * k → 2 * k * 281474976710656 < v * d + d → m * 281474976710656 ≤ (a + (v + 1)) * d
+  rise-low : m ≡ n + 2 * k → 2 * k * carriedOne < v * d + d → m * carriedOne ≤ (a + (v + 1)) * d
   rise-low e h = omega (arith, add-mul a (v + 1) d, add-mul v 1 d)
 
-  rise-high : m ≡ n + 2 * k → v * d ≤ 2 * k * 281474976710656 → (a + (v + 1)) * d ≤ m * 281474976710656 + (b + 1) * d
+  rise-high : m ≡ n + 2 * k → v * d ≤ 2 * k * carriedOne → (a + (v + 1)) * d ≤ m * carriedOne + (b + 1) * d
   rise-high e h = omega (arith, add-mul a (v + 1) d, add-mul v 1 d, add-mul b 1 d)
 
-  top : (j : ℕ) → j * d ≤ m * 281474976710656 + (b + 1) * d → j < 18446744073709551616
+  top : (j : ℕ) → j * d ≤ m * carriedOne + (b + 1) * d → j < 18446744073709551616
   top j h =
       let l : j ≤ 18446603336221196288 + (b + 1) = le-of-mul-le-mul-right {k = d} (omega (arith, add-mul 18446603336221196288 (b + 1) d)) pos in
       omega arith
 
-  fall-le : n ≡ m + 2 * k → v * d ≤ 2 * k * 281474976710656 → v ≤ a
+  fall-le : n ≡ m + 2 * k → v * d ≤ 2 * k * carriedOne → v ≤ a
   fall-le e h = le-of-mul-le-mul-right {k = d} (omega arith) pos
 
   fall-split : v ≤ a → a * d ≡ (a - v) * d + v * d
   fall-split l = ap (λ (j : ℕ). j * d) (omega arith) ∙ add-mul (a - v) v d
 
-  fall-low : n ≡ m + 2 * k → v * d ≤ 2 * k * 281474976710656 → m * 281474976710656 ≤ (a - v) * d
+  fall-low : n ≡ m + 2 * k → v * d ≤ 2 * k * carriedOne → m * carriedOne ≤ (a - v) * d
   fall-low e h = omega (arith, fall-split (fall-le e h))
 
-  fall-high : n ≡ m + 2 * k → v * d ≤ 2 * k * 281474976710656 → 2 * k * 281474976710656 < v * d + d → (a - v) * d ≤ m * 281474976710656 + (b + 1) * d
+  fall-high : n ≡ m + 2 * k → v * d ≤ 2 * k * carriedOne → 2 * k * carriedOne < v * d + d → (a - v) * d ≤ m * carriedOne + (b + 1) * d
   fall-high e h l = omega (arith, fall-split (fall-le e h), add-mul b 1 d)
 
 module _ (t : Corners) (k : Turned t) (fits : areaOf t ≤ 2147483648) (p q r : ℕ) (hp : p ≤ 65535) (hq : q ≤ 65535) (hr : r ≤ 65535) where
@@ -228,8 +229,8 @@ module _ (t : Corners) (k : Turned t) (fits : areaOf t ≤ 2147483648) (p q r : 
 
   module _ (rise fall : ℕ) (er : rise ≡ p * t .b .y + q * t .c .y + r * t .a .y) (ef : fall ≡ p * t .c .y + q * t .a .y + r * t .b .y) where
     pub drifts-up : (v : ℕ) → fall ≤ rise
-        → v * (2 * areaOf t) ≤ 2 * min (rise - fall) (65535 * areaOf t) * 281474976710656
-        → 2 * min (rise - fall) (65535 * areaOf t) * 281474976710656 < v * (2 * areaOf t) + 2 * areaOf t
+        → v * (2 * areaOf t) ≤ 2 * min (rise - fall) (65535 * areaOf t) * carriedOne
+        → 2 * min (rise - fall) (65535 * areaOf t) * carriedOne < v * (2 * areaOf t) + 2 * areaOf t
         → Drifts t p q r (v + 1)
     drifts-up v l lo hi =
         record {
@@ -246,8 +247,8 @@ module _ (t : Corners) (k : Turned t) (fits : areaOf t ≤ 2147483648) (p q r : 
         }
 
     pub drifts-down : (v g : ℕ) → rise ≤ fall → (g + v) % 2 ^ 64 ≡ 0
-        → v * (2 * areaOf t) ≤ 2 * min (fall - rise) (65535 * areaOf t) * 281474976710656
-        → 2 * min (fall - rise) (65535 * areaOf t) * 281474976710656 < v * (2 * areaOf t) + 2 * areaOf t
+        → v * (2 * areaOf t) ≤ 2 * min (fall - rise) (65535 * areaOf t) * carriedOne
+        → 2 * min (fall - rise) (65535 * areaOf t) * carriedOne < v * (2 * areaOf t) + 2 * areaOf t
         → Drifts t p q r g
     drifts-down v g₀ l nil lo hi =
         record {
@@ -264,7 +265,7 @@ module _ (t : Corners) (k : Turned t) (fits : areaOf t ≤ 2147483648) (p q r : 
               rw (down-mod a (a - v) v g₀ (omega (arith, i)) f nil) (record { low = u; high = w });
         }
 
-  number-long : (x y b a : ℕ) → covers t x y ≡ true → b ≤ 65535 → Near t p q r x y b a → a / 281474976710656 ≡ shade t p q r x y
+  number-long : (x y b a : ℕ) → covers t x y ≡ true → b ≤ 65535 → Near t p q r x y b a → a / carriedOne ≡ shade t p q r x y
   unfolding shade mixed
   number-long x y b a h s n =
       near-told _ (2 * areaOf t) a (omega (arith, ready-long x y h .some)) (n .low)
@@ -282,13 +283,13 @@ module _ (t : Corners) (k : Turned t) (fits : areaOf t ≤ 2147483648) (p q r : 
           rw (run-suc a g j, run-next lo j, ← add-one j)
           (h .go (lo + j) y (j + 1) _ (cov j (omega arith)) (rw (run-next lo j) at (cov (suc j) l)) (omega arith) (at j (omega arith)))
 
-pub runs-short : (t : Corners) (k : Turned t) (f : ℕ) (few : 2 * areaOf t ≤ 65536) (least : 281474976710656 ≤ f * (2 * areaOf t)) (most : f * (2 * areaOf t) ≤ 281474976710656 + 2 * areaOf t)
+pub runs-short : (t : Corners) (k : Turned t) (f : ℕ) (few : 2 * areaOf t ≤ 65536) (least : carriedOne ≤ f * (2 * areaOf t)) (most : f * (2 * areaOf t) ≤ carriedOne + 2 * areaOf t)
     (p q r : ℕ) (hp : p ≤ 65535) (hq : q ≤ 65535) (hr : r ≤ 65535) (lo hi y a g : ℕ)
     → ((j : ℕ) → lo + j < hi → covers t (lo + j) y ≡ true) → a < 18446744073709551616
     → a ≡ scaled t f p q r lo y → Paces t f p q r g → Runs t p q r lo hi y a g
 unfolding shade
 runs-short t k f few least most p q r hp hq hr lo hi y a g cov low n h =
-    record { tells = λ j l. ap (λ (n : ℕ). n / 281474976710656) (at j l) ∙ number t k f few most p q r hp hq hr least (lo + j) y (cov j l) }
+    record { tells = λ j l. ap (λ (n : ℕ). n / carriedOne) (at j l) ∙ number t k f few most p q r hp hq hr least (lo + j) y (cov j l) }
   where
     at : (j : ℕ) → lo + j < hi → (a + j * g) % 2 ^ 64 ≡ scaled t f p q r (lo + j) y
     at zero l = rw (run-zero a g low, add-zero lo) n
@@ -298,7 +299,7 @@ runs-short t k f few least most p q r hp hq hr lo hi y a g cov low n h =
 -- ---- either way
 
 pub runs-of : (t : Corners) → Turned t → areaOf t ≤ 2147483648 → (p q r : ℕ) → p ≤ 65535 → q ≤ 65535 → r ≤ 65535 → (g : Slopes) (add lo hi y a d n : ℕ)
-    → (g .long ≡ false → (2 * areaOf t ≤ 65536) × (281474976710656 ≤ g .f * (2 * areaOf t)) × (g .f * (2 * areaOf t) ≤ 281474976710656 + 2 * areaOf t) × (Paces t (g .f) p q r add))
+    → (g .long ≡ false → (2 * areaOf t ≤ 65536) × (carriedOne ≤ g .f * (2 * areaOf t)) × (g .f * (2 * areaOf t) ≤ carriedOne + 2 * areaOf t) × (Paces t (g .f) p q r add))
     → (g .long ≡ true → Drifts t p q r add)
     → ((j : ℕ) → lo + j < hi → covers t (lo + j) y ≡ true) → hi ≤ 65535 → a < 18446744073709551616
     → d ≡ areaOf t → n ≡ massBy t p q r lo y → Begun d g n a → Runs t p q r lo hi y a add

@@ -11,7 +11,7 @@ use Rattle.picture.specs.declared.Carried.{Carried}
 use Rattle.picture.specs.declared.Kind.the-variants.{Gouraud}
 use Rattle.picture.specs.Offer.{Offer, offer, inWindow, keep}
 use Rattle.picture.specs.Picture.{Picture, drawn}
-use Rattle.picture.specs.Draw.{seen, carriedTo, spanOffers}
+use Rattle.picture.specs.Draw.{carriedOne, seen, carriedTo, spanOffers}
 use Rattle.picture.proofs.Fold.{drawn-nil}
 use Rattle.picture.proofs.Spans.{spans-none, spans-same, spans-part, spans-length}
 use Rattle.picture.proofs.Offers.{keep-seen, keep-out, keep-length, window-in, window-of}
@@ -86,7 +86,7 @@ module _ (pen : Pen) (rows : ℕ) (constant : Bool) (t : Corners) (y : ℕ) wher
 -- ---- the numbers of a run
 
 -- a constant number
-pub flat-told : (v j : ℕ) → v ≤ 65535 → carriedTo (record { first = v * 281474976710656 % 18446744073709551616; add = 0 }) j ≡ v
+pub flat-told : (v j : ℕ) → v ≤ 65535 → carriedTo (record { first = v * carriedOne % 18446744073709551616; add = 0 }) j ≡ v
 unfolding carriedTo
 flat-told v j h = rw (mul-zero j) (omega arith)
 

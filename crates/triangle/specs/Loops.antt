@@ -5,7 +5,7 @@ use mathlib.Core.Bool.{Bool, true, false}
 use lib.Dec.{ltb}
 use Rattle.picture.specs.declared.Vertex.{Vertex}
 use Rattle.picture.specs.declared.Pen.{Pen}
-use Rattle.picture.specs.Draw.{carriedTo}
+use Rattle.picture.specs.Draw.{carriedOne, carriedTo}
 use Rattle.triangle.specs.declared.Corners.{Corners}
 use Rattle.triangle.specs.declared.Edges.{Edges}
 use Rattle.triangle.specs.declared.Span.{Span}
@@ -51,8 +51,8 @@ short false = 1
 -- h is the height of the edge from a to b, with its reciprocal
 pub record Measures (a b : Vertex) (h : Height) : Type 0 where
   pub is : h .tall ≡ a .y - b .y + (b .y - a .y)
-  pub least : 0 < h .tall → 281474976710656 ≤ h .inv * h .tall
-  pub most : 0 < h .tall → h .inv * h .tall ≤ 281474976710656 + h .tall
+  pub least : 0 < h .tall → carriedOne ≤ h .inv * h .tall
+  pub most : 0 < h .tall → h .inv * h .tall ≤ carriedOne + h .tall
 
 -- the edge from a to b leaves the pixel inside
 pub record Keeps (a b : Vertex) (x y : ℕ) : Type 0 where
@@ -139,12 +139,12 @@ pub record Begins (d : ℕ) (g : Slopes) (n : ℕ) : Type 0 where
   pub some : 0 < d
   pub fits : d ≤ 2147483648
   pub low : n ≤ 131071 * d
-  pub factor : g .long ≡ false → (2 * d ≤ 65536) × (g .f * (2 * d) ≤ 281474976710656 + 2 * d)
+  pub factor : g .long ≡ false → (2 * d ≤ 65536) × (g .f * (2 * d) ≤ carriedOne + 2 * d)
 
 -- k is the sum n as it is carried: times the factor, or 2 ^ 48 times its quotient, rounded up
 pub record Begun (d : ℕ) (g : Slopes) (n k : ℕ) : Type 0 where
   pub short : g .long ≡ false → k ≡ n * g .f
-  pub long : g .long ≡ true → (n * 281474976710656 ≤ k * (2 * d)) × (k * (2 * d) ≤ n * 281474976710656 + 1 * (2 * d))
+  pub long : g .long ≡ true → (n * carriedOne ≤ k * (2 * d)) × (k * (2 * d) ≤ n * carriedOne + 1 * (2 * d))
 
 -- a corner number's sum times f: 2 ^ 48 times the number, and less than 2 ^ 48 more
 unfoldable pub scaled : Corners → ℕ → ℕ → ℕ → ℕ → ℕ → ℕ → ℕ
@@ -156,8 +156,8 @@ pub record Paces (t : Corners) (f p q r g : ℕ) : Type 0 where
 
 -- k is 2 ^ 48 times the number, and at most b more
 pub record Near (t : Corners) (p q r x y b k : ℕ) : Type 0 where
-  pub low : massBy t p q r x y * 281474976710656 ≤ k * (2 * areaOf t)
-  pub high : k * (2 * areaOf t) ≤ massBy t p q r x y * 281474976710656 + b * (2 * areaOf t)
+  pub low : massBy t p q r x y * carriedOne ≤ k * (2 * areaOf t)
+  pub high : k * (2 * areaOf t) ≤ massBy t p q r x y * carriedOne + b * (2 * areaOf t)
 
 -- one pixel to the right adds g, modulo 2 ^ 64, and at most 1 to what is too much
 pub record Drifts (t : Corners) (p q r g : ℕ) : Type 0 where
@@ -167,8 +167,8 @@ pub record Drifts (t : Corners) (p q r g : ℕ) : Type 0 where
 -- the sums of a small triangle are carried exactly
 pub record Glides (t : Corners) (g : Slopes) : Type 0 where
   pub few : 2 * areaOf t ≤ 65536
-  pub least : 281474976710656 ≤ g .f * (2 * areaOf t)
-  pub most : g .f * (2 * areaOf t) ≤ 281474976710656 + 2 * areaOf t
+  pub least : carriedOne ≤ g .f * (2 * areaOf t)
+  pub most : g .f * (2 * areaOf t) ≤ carriedOne + 2 * areaOf t
   pub i : Paces t (g .f) (t .a .i) (t .b .i) (t .c .i) (g .i)
   pub z : Paces t (g .f) (t .a .z) (t .b .z) (t .c .z) (g .z)
 
@@ -180,7 +180,7 @@ pub record Carries (t : Corners) (g : Slopes) : Type 0 where
 
 -- k at lo, and g added a pixel modulo 2 ^ 64, carry the number along the columns from lo to hi of row y
 pub record Runs (t : Corners) (p q r lo hi y k g : ℕ) : Type 0 where
-  pub tells : (j : ℕ) → lo + j < hi → (k + j * g) % 2 ^ 64 / 2 ^ 48 ≡ shade t p q r (lo + j) y
+  pub tells : (j : ℕ) → lo + j < hi → (k + j * g) % 2 ^ 64 / carriedOne ≡ shade t p q r (lo + j) y
 
 -- the corners have a doubled area above 2 ^ 31, too large for carried numbers
 pub record Large (t : Corners) : Type 0 where

@@ -8,6 +8,9 @@ mod row;
 use picture::Carried;
 use picture::Vertex;
 
+// What 1 is as a carried number, among sums.
+pub(crate) const CARRIED_ONE: usize = picture::CARRIED_ONE as usize;
+
 // Three corners that turn anticlockwise, and the vertex that completed them.
 pub(crate) struct Corners {
     pub(crate) a: Vertex,

@@ -1,12 +1,14 @@
 // The numbers of covered pixels. Along a row they are carried as 2^48 times themselves and a part, so that a pixel costs a sum and a shift
 // and no division: a factor in place of the quotient where the triangle is small, a quotient rounded up at the row's first pixel where it
 // is not.
+ghost use Rattle.picture.specs.Draw.{carriedOne};
 ghost use mathlib.Core.Path.{_≡_};
 ghost use mathlib.Core.Bool.{true, false};
 ghost use Prim.Native.Nat.{_+_, _*_, _<_, _≤_};
 ghost use Rattle.triangle.specs.Edge.{amount, areaOf};
 ghost use Rattle.triangle.specs.Number.{massOf, mixed};
 ghost use Rattle.triangle.specs.Loops.{Turned, Ready, ahead, behind, massBy, Covered, Sums, Begins, Begun, Paces, Drifts, Carries};
+use crate::CARRIED_ONE;
 use crate::Change;
 use crate::Corners;
 use crate::Edges;
@@ -39,7 +41,7 @@ pub(crate) fn number(t: Corners, d: usize, e: Edges, p: u16, q: u16, r: u16) -> 
 // r over m, times 2^48, rounded down.
 fn part(r: usize, m: usize) -> usize
     requires { ⌜ (r < m) × (m ≤ 4294967296) ⌝ }
-    ensures { λ k. ⌜ (k * m ≤ r * 281474976710656) × (r * 281474976710656 < k * m + m) × (k < 281474976710656) ⌝ }
+    ensures { λ k. ⌜ (k * m ≤ r * carriedOne) × (r * carriedOne < k * m + m) × (k < carriedOne) ⌝ }
 {
     let a = r * 4294967296;
     let b = (a % m) * 65536;
@@ -49,9 +51,9 @@ fn part(r: usize, m: usize) -> usize
 // n over m, times 2^48, rounded down.
 fn fixed(n: usize, m: usize) -> usize
     requires { ⌜ (0 < m) × (m ≤ 4294967296) × (2 * n ≤ 131071 * m) ⌝ }
-    ensures { λ k. ⌜ (k * m ≤ n * 281474976710656) × (n * 281474976710656 < k * m + m) × (k ≤ 18446603336221196288) ⌝ }
+    ensures { λ k. ⌜ (k * m ≤ n * carriedOne) × (n * carriedOne < k * m + m) × (k ≤ 18446603336221196288) ⌝ }
 {
-    (n / m) * 281474976710656 + part(n % m, m)
+    (n / m) * CARRIED_ONE + part(n % m, m)
 }
 
 // A sum at a covered pixel, to be carried along its row.
@@ -149,7 +151,7 @@ pub(crate) fn sum_at(
 
 // What one pixel to the right adds to a scaled sum, modulo 2^64.
 fn pace_of(t: Corners, d: usize, f: usize, p: u16, q: u16, r: u16) -> usize
-    requires { ⌜ (Turned t) × (d ≡ areaOf t) × (2 * d ≤ 65536) × (f * (2 * d) ≤ 281474976710656 + 2 * d) ⌝ }
+    requires { ⌜ (Turned t) × (d ≡ areaOf t) × (2 * d ≤ 65536) × (f * (2 * d) ≤ carriedOne + 2 * d) ⌝ }
     ensures { λ g. ⌜ Paces t f p q r g ⌝ }
 {
     let c = change_of(t.a.y, t.b.y, t.c.y, p, q, r);
@@ -190,7 +192,7 @@ pub(crate) fn slopes_of(t: Corners, d: usize) -> Slopes
             z,
         };
     }
-    let f = 281474976710656 / (2 * d) + 1;
+    let f = CARRIED_ONE / (2 * d) + 1;
     let i = pace_of(t, d, f, t.a.i, t.b.i, t.c.i);
     let z = pace_of(t, d, f, t.a.z, t.b.z, t.c.z);
     Slopes {

@@ -1,9 +1,11 @@
 // The covered columns of a row. What an edge keeps of it is told by one number, which is carried from row to row, and by a product with the edge's
 // reciprocal: no row divides.
+ghost use Rattle.picture.specs.Draw.{carriedOne};
 ghost use mathlib.Core.Path.{_≡_};
 ghost use Prim.Native.Nat.{_+_, _*_, _≤_, _<_};
 ghost use Rattle.triangle.specs.Edge.{closed};
 ghost use Rattle.triangle.specs.Loops.{short, Measures, Stands, Bounds, Cuts, Spanned, Rises};
+use crate::CARRIED_ONE;
 use crate::Corners;
 use crate::Height;
 use crate::Rising;
@@ -32,9 +34,9 @@ fn short_of(a: Vertex, b: Vertex) -> usize
 
 // 2^48 over an edge's height, and a little more. An edge without height has no quotient, and its divisor is 1.
 fn inverse(tall: usize) -> usize
-    ensures { λ r. ⌜ (0 < tall → (281474976710656 ≤ r * tall) × (r * tall ≤ 281474976710656 + tall)) ⌝ }
+    ensures { λ r. ⌜ (0 < tall → (carriedOne ≤ r * tall) × (r * tall ≤ carriedOne + tall)) ⌝ }
 {
-    281474976710656 / most(tall, 1) + 1
+    CARRIED_ONE / most(tall, 1) + 1
 }
 
 // The height of the edge from a to b, with its reciprocal.
@@ -99,7 +101,7 @@ fn bound(a: Vertex, b: Vertex, y: usize, s: Side) -> usize
     }
     let v = s.at - MIDDLE;
     if v < 65536 * s.height.tall {
-        return v * s.height.inv / 281474976710656 + 1;
+        return v * s.height.inv / CARRIED_ONE + 1;
     }
     65536
 }

@@ -1,4 +1,5 @@
 -- `number::slopes_of` meets its contract. Assumes nothing.
+use Rattle.picture.specs.Draw.{carriedOne}
 use mathlib.Core.Path.{sym}
 use Prim.Native.Nat.{_*_, _<_}
 use native.Mathlib.Omega.{arith}
@@ -30,7 +31,7 @@ div-f : tie.Need-div-f
 div-f c = search needs
 
 add-f : tie.Need-add-f
-add-f c = omega (arith, div-le-self 281474976710656 (2 * c .before .args .d))
+add-f c = omega (arith, div-le-self carriedOne (2 * c .before .args .d))
 
 pace-of-requires : tie.Need-pace-of-requires
 pace-of-requires c κs = let s = c .before in (s .pre .0, s .pre .1, omega (arith, c .if1 .left), factor-most (2 * s .args .d))

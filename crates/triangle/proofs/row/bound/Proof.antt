@@ -1,4 +1,5 @@
 -- `row::bound` meets its contract: the side's number tells the bound, by a quotient where that is below 65,536. Assumes nothing.
+use Rattle.picture.specs.Draw.{carriedOne}
 use mathlib.Core.Path.{_≡_, ap, _∙_}
 use native.Mathlib.Omega.{arith}
 use Prim.Native.Nat.{ℕ, _+_, _-_, _*_, _/_, _<_, _≤_}
@@ -17,7 +18,7 @@ mul-if2 c = search needs
 
 -- what the reciprocal of a height above 0 is good for
 quotient : (k : tie.Then2) → let a = k .before .before .before .before .before .args in let v = a .s .at - middle in let h = a .s .height in
-    (v * h .inv / 281474976710656 ≡ v / h .tall) × (v * h .inv < 65536 * 281474976710656)
+    (v * h .inv / carriedOne ≡ v / h .tall) × (v * h .inv < 65536 * carriedOne)
 quotient k =
     let s = k .before .before .before .before .before in
     let a = s .args in

@@ -1,4 +1,5 @@
 -- `row::inverse` meets its contract. Assumes nothing.
+use Rattle.picture.specs.Draw.{carriedOne}
 use mathlib.Core.Path.{_≡_}
 use native.Mathlib.Nat.{div-le-self}
 use native.Mathlib.Omega.{arith}
@@ -14,7 +15,7 @@ div-result : tie.Need-div-result
 div-result c = search needs
 
 add-result : tie.Need-add-result
-add-result c = omega (arith, div-le-self 281474976710656 (c .most .result))
+add-result c = omega (arith, div-le-self carriedOne (c .most .result))
 
 returns : tie.Need-returns
 returns c h =
