@@ -10,7 +10,7 @@ use Rattle.picture.specs.declared.Pen.{Pen}
 use Rattle.picture.specs.declared.Vertex.{Vertex}
 use Rattle.picture.specs.Offer.{Offer}
 use Rattle.picture.specs.Picture.{isDeep, passes, newI, newZ}
-use Rattle.picture.specs.Cell.{Cell, after}
+use Rattle.picture.specs.Cell.{Cell, offerLeaves}
 use Rattle.picture.proofs.Places.{both}
 use Rattle.picture.proofs.Rows.{in-all-planes}
 use Rattle.picture.proofs.Members.{Numbers}
@@ -38,8 +38,8 @@ record Deep (o : Offer) : Type 0 where
   low : o .i ≤ 65535
 
 -- with all on, such an offer lands
-all-on-lands : (pen : Pen) (o : Offer) → isAllOn pen ≡ true → Deep o → (c : Cell) → after pen c o ≡ lands c o
-unfolding isAllOn after passes newI newZ
+all-on-lands : (pen : Pen) (o : Offer) → isAllOn pen ≡ true → Deep o → (c : Cell) → offerLeaves pen c o ≡ lands c o
+unfolding isAllOn offerLeaves passes newI newZ
 all-on-lands pen o on d c =
     let planes = both (pen .depth && pen .ienable && pen .zenable) (eqb (pen .planes) 65535) on in
     let z = both (pen .depth && pen .ienable) (pen .zenable) (planes .0) in
@@ -76,5 +76,5 @@ whole-deep rows r (Segment a b) small on o u =
 
 -- each offer of a word of which so much is supposed lands
 pub supposed-lands : (rows : ℕ) (r : Registers) (f : Completed) → AllVertices (Numbers 65535) f → isSupposed r f ≡ true → (o : Offer) → List·Memᴰ o (figureOffers rows r f)
-    → (c : Cell) → after (penOf r) c o ≡ lands c o
+    → (c : Cell) → offerLeaves (penOf r) c o ≡ lands c o
 supposed-lands rows r f small on o u = let k = whole-deep rows r f small on o (offers-held rows r f o u) in all-on-lands (penOf r) o (k .0) (k .1)

@@ -11,12 +11,12 @@ use Rattle.picture.specs.Place.{Layout, frameOf, layoutOf, mine, inMemory}
 use Rattle.picture.specs.Offer.{Offer, offer, isMasked, inWindow, shows, offered, keep}
 use Rattle.picture.specs.Picture.{passes, newI, newZ}
 use Rattle.picture.specs.Draw.{spans}
-use Rattle.picture.specs.Cell.{after as cellAfter}
-use Rattle.picture.specs.Store.{Store, storedI, storedZ, within, afterStore}
+use Rattle.picture.specs.Cell.{offerLeaves as cellAfter}
+use Rattle.picture.specs.Store.{Store, storedI, storedZ, storable, afterStore}
 use Rattle.picture.proofs.Places.{plain-mine}
 use Rattle.picture.proofs.Spans.{spans-same}
 use Rattle.triangle.specs.Edge.{edgeAt, covers}
-use Rattle.triangle.specs.Offers.{pixelAt, offersAt, rowOffers, turnedOffers, cornersOf, triangleOffers}
+use Rattle.triangle.specs.Offers.{pixelAt, pixelOffers, rowOffers, turnedOffers, cornersOf, triangleOffers}
 use Rattle.line.specs.declared.Mode.{Mode}
 use Rattle.line.specs.declared.Mode.the-variants.{Zero, One, Two}
 use Rattle.line.specs.declared.Style.{Style}
@@ -72,8 +72,8 @@ module _ (k rows : ℕ) (r : Registers) where
       go true = refl
       go false = refl
 
-  within-laid : (s : Store) → within (penOf (laid k r)) rows s ≡ storesHeldBy own (within (penOf (laid 0 r)) rows s)
-  unfolding within inMemory storesHeldBy
+  within-laid : (s : Store) → storable (penOf (laid k r)) rows s ≡ storesHeldBy own (storable (penOf (laid 0 r)) rows s)
+  unfolding storable inMemory storesHeldBy
   within-laid s =
       go (ltb (s .x) (r .frame .line) && ltb (s .y) rows) (mine (layoutOf (frameOf (r .frame .line) 0)) (s .x)) (rows-mine (s .x))
     where
@@ -85,8 +85,8 @@ module _ (k rows : ℕ) (r : Registers) where
   -- ---- a triangle
 
   module _ (constant : Bool) (a b c last : Vertex) where
-    pixel-laid : (x y : ℕ) → offersAt (penOf (laid k r)) rows constant (cornersOf a b c last) x y ≡ heldBy own (offersAt (penOf (laid 0 r)) rows constant (cornersOf a b c last) x y)
-    unfolding offersAt heldBy
+    pixel-laid : (x y : ℕ) → pixelOffers (penOf (laid k r)) rows constant (cornersOf a b c last) x y ≡ heldBy own (pixelOffers (penOf (laid 0 r)) rows constant (cornersOf a b c last) x y)
+    unfolding pixelOffers heldBy
     pixel-laid x y = go (covers (cornersOf a b c last) x y)
       where
         go : (t : Bool)
@@ -97,9 +97,9 @@ module _ (k rows : ℕ) (r : Registers) where
 
     row-laid : (y : ℕ) → rowOffers (penOf (laid k r)) rows constant (cornersOf a b c last) y ≡ heldBy own (rowOffers (penOf (laid 0 r)) rows constant (cornersOf a b c last) y)
     row-laid y =
-        spans-same (λ x. offersAt (penOf (laid k r)) rows constant (cornersOf a b c last) x y) (λ x. heldBy own (offersAt (penOf (laid 0 r)) rows constant (cornersOf a b c last) x y)) (r .frame .line)
+        spans-same (λ x. pixelOffers (penOf (laid k r)) rows constant (cornersOf a b c last) x y) (λ x. heldBy own (pixelOffers (penOf (laid 0 r)) rows constant (cornersOf a b c last) x y)) (r .frame .line)
         (λ x l. pixel-laid x y)
-        ∙ sym (held-spans own (λ x. offersAt (penOf (laid 0 r)) rows constant (cornersOf a b c last) x y) (r .frame .line))
+        ∙ sym (held-spans own (λ x. pixelOffers (penOf (laid 0 r)) rows constant (cornersOf a b c last) x y) (r .frame .line))
 
     turned-laid : turnedOffers (penOf (laid k r)) rows constant (cornersOf a b c last) ≡ heldBy own (turnedOffers (penOf (laid 0 r)) rows constant (cornersOf a b c last))
     turned-laid =

@@ -9,7 +9,7 @@ use borrow.Author.Tests.{eq-eqb, ne-eqb}
 use Rattle.picture.specs.declared.Pen.{Pen}
 use Rattle.picture.specs.Place.{rowsOf}
 use Rattle.picture.specs.Picture.{picture}
-use Rattle.picture.specs.Store.{filled, pixelFor, within}
+use Rattle.picture.specs.Store.{filled, pixelFor, storable}
 use Rattle.registers.specs.declared.Registers.{Registers}
 use Rattle.registers.specs.Next.{penOf, isDeepPicture, transferredOf}
 use Rattle.machine.specs.Machine.{Memories}
@@ -18,11 +18,11 @@ use Rattle.chip.specs.Read.{readAs, pixelOf, readNumber, reading}
 
 -- the region's pixel, stored by the pen and the memory that the registers name
 pub pixel-stored : (r : Registers) (i z : List ℕ) (v : ℕ) {i′ z′ : List ℕ} {pen : Pen} {deep : Bool} → pen ≡ penOf r → deep ≡ isDeepPicture r
-    → picture i′ z′ 0 ≡ filled pen (within pen (rowsOf (pen .frame) (length i) (length z)) (pixelFor deep (r .region .x) (r .region .y) v)) (picture i z 0)
+    → picture i′ z′ 0 ≡ filled pen (storable pen (rowsOf (pen .frame) (length i) (length z)) (pixelFor deep (r .region .x) (r .region .y) v)) (picture i z 0)
     → picture i′ z′ 0 ≡ filled (penOf r) (pictureStores (rowsOf (r .frame) (length i) (length z)) r v) (picture i z 0)
 pixel-stored r i z v {i′} {z′} {pen} {deep} is d e =
-    subst (λ (p : Pen). picture i′ z′ 0 ≡ filled p (within p (rowsOf (p .frame) (length i) (length z)) (pixelFor (isDeepPicture r) (r .region .x) (r .region .y) v)) (picture i z 0)) is
-    (subst (λ (b : Bool). picture i′ z′ 0 ≡ filled pen (within pen (rowsOf (pen .frame) (length i) (length z)) (pixelFor b (r .region .x) (r .region .y) v)) (picture i z 0)) d e)
+    subst (λ (p : Pen). picture i′ z′ 0 ≡ filled p (storable p (rowsOf (p .frame) (length i) (length z)) (pixelFor (isDeepPicture r) (r .region .x) (r .region .y) v)) (picture i z 0)) is
+    (subst (λ (b : Bool). picture i′ z′ 0 ≡ filled pen (storable pen (rowsOf (pen .frame) (length i) (length z)) (pixelFor b (r .region .x) (r .region .y) v)) (picture i z 0)) d e)
 
 module _ (r : Registers) (m : Memories) {n : ℕ} (number : n ≡ readNumber r m) where
   -- a refused read

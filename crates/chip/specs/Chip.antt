@@ -6,7 +6,7 @@ use mathlib.Core.List.{List, [], _∷_}
 use lib.ListN.{getD}
 use lib.Dec.{ltb, eqb}
 use Rattle.picture.specs.Offer.{Offer}
-use Rattle.picture.specs.Store.{Store, pixelFor, within}
+use Rattle.picture.specs.Store.{Store, pixelFor, storable}
 use Rattle.triangle.specs.Offers.{triangleOffers}
 use Rattle.line.specs.declared.Mode.{Mode}
 use Rattle.line.specs.declared.Mode.the-variants.{Zero, One, Two}
@@ -18,7 +18,7 @@ use Rattle.registers.specs.declared.word.Word.the-variants.{Init, Aux, Parm, At
 use Rattle.registers.specs.declared.shape.Completed.{Completed}
 use Rattle.registers.specs.declared.shape.Completed.the-variants.{Nothing, Triangle, Segment}
 use Rattle.registers.specs.Record.{isOn, sectionBit}
-use Rattle.registers.specs.Next.{after, completedBy, penOf, isDeepPicture}
+use Rattle.registers.specs.Next.{accepted, completedBy, penOf, isDeepPicture}
 use Rattle.registers.specs.Refusal.{refusalOf}
 use Rattle.machine.specs.Machine.{Machine}
 
@@ -61,7 +61,7 @@ figureOffers rows r f = cond (isCut r f) [] (wholeOffers rows r f)
 
 -- a number for the region's pixel, in Z or in I, where so many rows are in use
 abbrev pub pictureStores : ℕ → Registers → ℕ → List Store
-pictureStores rows r v = within (penOf r) rows (pixelFor (isDeepPicture r) (r .region .x) (r .region .y) v)
+pictureStores rows r v = storable (penOf r) rows (pixelFor (isDeepPicture r) (r .region .x) (r .region .y) v)
 
 -- what a word stores besides: PTRN its number
 unfoldable pub wordStores : ℕ → Registers → Word → List Store
@@ -81,7 +81,7 @@ chip =
       Registers = Registers;
       Word = Word;
       refusal = refusalOf;
-      next = after;
+      next = accepted;
       pen = penOf;
       offers = λ rows r w. figureOffers rows r (completedBy r w);
       stores = wordStores;

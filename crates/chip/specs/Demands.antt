@@ -10,12 +10,12 @@ use Rattle.picture.specs.Place.{rowsOf}
 use Rattle.picture.specs.Picture.{picture, drawn}
 use Rattle.picture.specs.Store.{filled}
 use Rattle.stream.specs.Format.{fit, unpackOf, packOf}
-use Rattle.stream.specs.Calls.{checked, over, told, sizeOf, packing, unpacking}
+use Rattle.stream.specs.Calls.{checked, over, codedTold, sizeOf, packing, unpacking}
 use Rattle.stream.specs.declared.Coded.{Coded}
 use Rattle.stream.specs.declared.Coded.the-variants.{Done}
 use Rattle.registers.specs.declared.Registers.{Registers}
 use Rattle.registers.specs.Word.{decode, wordOf}
-use Rattle.registers.specs.Next.{after, completedBy, penOf}
+use Rattle.registers.specs.Next.{accepted, completedBy, penOf}
 use Rattle.registers.specs.Refusal.{refusalOf}
 use Rattle.machine.specs.Run.{ran, runOf}
 use Rattle.machine.specs.Along.{Stopped}
@@ -86,7 +86,7 @@ pub record Demand1 : Type 0 where
 -- after an accepted word the registers, both memories and the count of pixels passed are those of document 01, and no other place is
 -- touched
 pub record Accepts (r : Registers) (command d : ℕ) (i z : List ℕ) (o : Stepped r command d i z) : Type 0 where
-  pub registers : o .registers ≡ after r (decode command d)
+  pub registers : o .registers ≡ accepted r (decode command d)
   pub drawing : picture (o .i-left) (o .z-left) (o .passed)
       ≡ filled (penOf r) (wordStores (rowsOf (r .frame) (length i) (length z)) r (decode command d))
       (drawn (penOf r) (figureOffers (rowsOf (r .frame) (length i) (length z)) r (completedBy r (decode command d))) (picture i z 0))
@@ -105,10 +105,10 @@ pub record Demand2 : Type 0 where
   pub runs : (start : Registers) (bytes i z : List ℕ) (o : Ended start bytes i z) → flawOf bytes (memories i z) ≡ 0 → Runs start bytes i z o
   -- with room enough, packing words of 20 bits and unpacking them gives the same words
   pub words-back : (words out packed room unpacked : List ℕ) (first second : Coded) → fit 20 words ≡ true → length (packOf words) ≤ length out
-      → told first packed ≡ packing words out → length words ≤ length room → told second unpacked ≡ unpacking (take (sizeOf first) packed) room
+      → codedTold first packed ≡ packing words out → length words ≤ length room → codedTold second unpacked ≡ unpacking (take (sizeOf first) packed) room
       → (second ≡ Done (length words)) × (unpacked ≡ over words room)
   -- unpacking a good stream of bytes and packing it gives the same bytes
   pub bytes-back : (bytes out unpacked room packed : List ℕ) (first second : Coded) → fit 8 bytes ≡ true → checked bytes 0 ≡ 0
-      → length (unpackOf bytes) ≤ length out → told first unpacked ≡ unpacking bytes out → length bytes ≤ length room
-      → told second packed ≡ packing (take (sizeOf first) unpacked) room
+      → length (unpackOf bytes) ≤ length out → codedTold first unpacked ≡ unpacking bytes out → length bytes ≤ length room
+      → codedTold second packed ≡ packing (take (sizeOf first) unpacked) room
       → (second ≡ Done (length bytes)) × (packed ≡ over bytes room)

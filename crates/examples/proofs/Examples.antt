@@ -22,14 +22,14 @@ use Rattle.picture.proofs.Rows.{every, each}
 use Rattle.line.specs.Segment.{larger, smaller, xLeads, sideAt, xAt, yAt, numberAt, shadeOffers, segmentOffers}
 use Rattle.triangle.specs.Edge.{plusOf, minusOf, edgeAt, closed, inside, covers}
 use Rattle.triangle.specs.Number.{mixed, shade}
-use Rattle.triangle.specs.Offers.{cornersOf, pixelAt, offersAt, triangleOffers}
+use Rattle.triangle.specs.Offers.{cornersOf, pixelAt, pixelOffers, triangleOffers}
 use Rattle.triangle.proofs.Covers.{covered-across, covered-upward}
 use Rattle.triangle.proofs.Turning.{left-turned, right-turned}
 use Rattle.registers.specs.declared.Registers.{Registers}
 use Rattle.registers.specs.Lines.{lineOf, codeIn, chipsIn, unitIn, pageIn}
 use Rattle.registers.specs.Word.{decode}
 use Rattle.registers.specs.Record.{settings}
-use Rattle.registers.specs.Next.{after}
+use Rattle.registers.specs.Next.{accepted}
 use Rattle.registers.specs.Allowed.{initAllowed}
 use Rattle.registers.specs.Bounds.{inBounds}
 use Rattle.registers.specs.Refusal.{refusalOf, next}
@@ -74,7 +74,7 @@ module _ (code top page : ℕ) (h : code < 64) (low : page ≤ 7) where
       go false = refl
 
   init-line : (n : ℕ) (r : Registers) → inBounds r ≡ true → eqb (lineOf code) 0 ≡ false → next n n r (decode 15 (initData top code page)) .frame .line ≡ lineOf code
-  unfolding next after decode settings
+  unfolding next accepted decode settings
   init-line n r e f = rw (init-number n r e, f) (ap lineOf code-found)
 
 code-refused : (code : ℕ) → code < 64 → eqb (lineOf code) 0 ≡ true → Says (codeGives code 9)
@@ -196,7 +196,7 @@ small p q r ps e h o =
         (ltb-true _ _ (h .0), ltb-true _ _ (h .1), g .1)
 
 pub examples : Claim
-unfolding table checked badLength badTail walk through larger smaller xLeads sideAt xAt yAt numberAt every agree inSquare among covered covers closed inside plusOf minusOf inMemory mine layoutOf inWindow shows offered keep spans shadeOffers segmentOffers mixed shade pixelAt offersAt triangleOffers lineOf
+unfolding table checked badLength badTail walk through larger smaller xLeads sideAt xAt yAt numberAt every agree inSquare among covered covers closed inside plusOf minusOf inMemory mine layoutOf inWindow shows offered keep spans shadeOffers segmentOffers mixed shade pixelAt pixelOffers triangleOffers lineOf
 examples =
     lines _ _ _ refl refl also lines _ _ _ refl refl
     also ramped _ _ _ _ refl refl refl also ramped _ _ _ _ refl refl refl

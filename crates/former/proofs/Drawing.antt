@@ -13,13 +13,13 @@ use Rattle.picture.specs.declared.Kind.{Kind}
 use Rattle.picture.specs.declared.Kind.the-variants.{Line0, Line1, Line2}
 use Rattle.picture.specs.Place.{layoutOf, mine, inMemory}
 use Rattle.picture.specs.Offer.{Offer, offer, isMasked, inWindow, shows, offered, keep}
-use Rattle.picture.specs.Picture.{Picture, picture, passes, newI, newZ, stepAt, step, drawn}
-use Rattle.picture.specs.Store.{Store, pixelFor, storedI, storedZ, stored, filled, within}
+use Rattle.picture.specs.Picture.{Picture, picture, passes, newI, newZ, stepAt, drawOne, drawn}
+use Rattle.picture.specs.Store.{Store, pixelFor, storedI, storedZ, stored, filled, storable}
 use Rattle.picture.proofs.Places.{same-test}
 use Rattle.picture.proofs.Offers.{window-in}
 use Rattle.picture.proofs.Spans.{spans-same, spans-stop}
 use Rattle.triangle.specs.Edge.{edgeAt, covers}
-use Rattle.triangle.specs.Offers.{pixelAt, offersAt, rowOffers, turnedOffers, cornersOf, triangleOffers}
+use Rattle.triangle.specs.Offers.{pixelAt, pixelOffers, rowOffers, turnedOffers, cornersOf, triangleOffers}
 use Rattle.triangle.specs.Loops.{Turned}
 use Rattle.triangle.proofs.Sizes.{Below}
 use Rattle.triangle.proofs.Covers.{covered-upward, covered-across}
@@ -82,8 +82,8 @@ module _ (r : Registers) (v : Window) (h : Widened (r .window) v) where
         let l = covered-upward (cornersOf a b c last) turned x y e .1 in
         (omega (arith, k, p .across, q .across, s .across), omega (arith, l, p .up, q .up, s .up))
 
-    pixel-same : (x y : ℕ) → offersAt (penOf (withWindow r v)) rows constant (cornersOf a b c last) x y ≡ offersAt (penOf r) (wasRows rows) constant (cornersOf a b c last) x y
-    unfolding offersAt pixelAt
+    pixel-same : (x y : ℕ) → pixelOffers (penOf (withWindow r v)) rows constant (cornersOf a b c last) x y ≡ pixelOffers (penOf r) (wasRows rows) constant (cornersOf a b c last) x y
+    unfolding pixelOffers pixelAt
     pixel-same x y = go (covers (cornersOf a b c last) x y) refl
       where
         go : (k : Bool) → covers (cornersOf a b c last) x y ≡ k
@@ -156,7 +156,7 @@ module _ (r : Registers) (v : Window) (h : Widened (r .window) v) where
   figure-same rows f near = ap₂ (λ (t : Bool) (os : List Offer). cond t [] os) (cut-same f) (whole-same rows f near)
 
   pub stores-same : (rows : ℕ) (w : Word) → r .region .y ≤ formerCoordinate → wordStores rows (withWindow r v) w ≡ wordStores (wasRows rows) r w
-  unfolding wordStores within inMemory
+  unfolding wordStores storable inMemory
   stores-same rows (Init d) low = refl
   stores-same rows (Aux n) low = refl
   stores-same rows (Parm n) low = refl
@@ -172,9 +172,9 @@ module _ (r : Registers) (v : Window) (h : Widened (r .window) v) where
 
 module _ (r : Registers) (v : Window) where
   pub drawn-same : (os : List Offer) (p : Picture) → drawn (penOf (withWindow r v)) os p ≡ drawn (penOf r) os p
-  unfolding drawn step stepAt passes newI newZ
+  unfolding drawn drawOne stepAt passes newI newZ
   drawn-same [] p = refl
-  drawn-same (o ∷ os) p = drawn-same os (step (penOf r) p o)
+  drawn-same (o ∷ os) p = drawn-same os (drawOne (penOf r) p o)
 
   pub filled-same : (ss : List Store) (p : Picture) → filled (penOf (withWindow r v)) ss p ≡ filled (penOf r) ss p
   unfolding filled stored storedI storedZ newI

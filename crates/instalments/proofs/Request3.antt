@@ -15,7 +15,7 @@ use Rattle.machine.specs.Machine.{Memories, memories}
 use Rattle.machine.proofs.Runs.{zero-or-not}
 use Rattle.chip.specs.Stream.{flawOf}
 use Rattle.instalments.specs.declared.Intake.{Intake}
-use Rattle.instalments.specs.Instalments.{Taking, soFar, taking, intakeOf, fresh, isClosed, isSound, numbered, unsound, given, holding, waiting, bytesIn, feeding, endNumberOf, told, ending}
+use Rattle.instalments.specs.Instalments.{Taking, soFar, taking, intakeOf, fresh, isClosed, isSound, numbered, unsound, given, holding, waiting, bytesIn, feeding, endNumberOf, endTold, ending}
 use Rattle.instalments.specs.Delivered.{Fed, no-part, a-part, Delivered, Left, by-begin, by-feed, by-finish, wordsRun, endedBy, Cut, Request3}
 use Rattle.instalments.proofs.Rows.{past}
 use Rattle.instalments.proofs.Words.{words-run}
@@ -88,7 +88,7 @@ ended-fresh bytes m = zero-or-not (a .refusal) going stopped
     going e =
         let is : t ≡ holding a row = bytes-fresh bytes m ∙ waiting-open a row e in
         let opened : isClosed (t .so .refusal) (t .over) ≡ false = rw is (open-before (a .refusal) e) in
-        ap (λ (u : Taking). u .so) (ending-open t sound opened ∙ ap told is)
+        ap (λ (u : Taking). u .so) (ending-open t sound opened ∙ ap endTold is)
         ∙ ap (λ (n : ℕ). numbered n a) (end-number bytes m)
         ∙ sym (rw (eq-eqb _ _ e))
 
@@ -117,7 +117,7 @@ ending-leaves : (t : Taking) → ending t .so .memories ≡ t .so .memories
 unfolding ending given
 ending-leaves t = go (isSound (intakeOf t)) (isClosed (t .so .refusal) (t .over))
   where
-    go : (b c : Bool) → cond b (cond c t (told t)) (unsound t) .so .memories ≡ t .so .memories
+    go : (b c : Bool) → cond b (cond c t (endTold t)) (unsound t) .so .memories ≡ t .so .memories
     go true true = refl
     go true false = refl
     go false c = refl

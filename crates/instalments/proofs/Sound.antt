@@ -20,7 +20,7 @@ use Rattle.machine.specs.Run.{Ran}
 use Rattle.machine.specs.Machine.{Memories}
 use Rattle.machine.proofs.Runs.{zero-or-not}
 use Rattle.instalments.specs.declared.Intake.{Intake}
-use Rattle.instalments.specs.Instalments.{Taking, intakeOf, fresh, isClosed, isWordNumber, isEndNumber, numberFits, bitsFit, begunFits, isSound, unsound, given, wordIn, waiting, poured, byteIn, bytesIn, feeding, endNumber, endNumberOf, told, ending}
+use Rattle.instalments.specs.Instalments.{Taking, intakeOf, fresh, isClosed, isWordNumber, isEndNumber, numberFits, bitsFit, begunFits, isSound, unsound, given, wordIn, waiting, poured, byteIn, bytesIn, feeding, endNumber, endNumberOf, endTold, ending}
 use Rattle.instalments.proofs.Rows.{bits-open, open-bits, half-odd, closed-bits}
 use Rattle.instalments.proofs.Words.{Fine, word-fine, word-bits}
 use Rattle.instalments.proofs.Bytes.{closed-refused, closed-told, open-before, open-parts, waiting-open, waiting-closed, poured-short, poured-word, byte-open, byte-closed, bytes-append, bytes-closed}
@@ -78,7 +78,7 @@ module _ (t : Taking) where
   feeding-refused e bytes = given-unsound t (bytesIn t bytes) e
 
   -- the end of an open record is told
-  pub ending-open : isSound (intakeOf t) ≡ true → isClosed (t .so .refusal) (t .over) ≡ false → ending t ≡ told t
+  pub ending-open : isSound (intakeOf t) ≡ true → isClosed (t .so .refusal) (t .over) ≡ false → ending t ≡ endTold t
   unfolding ending
   ending-open e c = rw (given-sound t _ e, c)
 

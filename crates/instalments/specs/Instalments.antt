@@ -143,9 +143,9 @@ abbrev pub endNumberOf : Taking → ℕ
 endNumberOf t = endNumber (t .held) (t .count) (length (t .so .memories .i)) (length (t .so .memories .z))
 
 -- the end is told: refusing, it tells the words run and their sum, and leaves the registers and memories that these left
-abbrev pub told : Taking → Taking
-told t = record { so = numbered (endNumberOf t) (t .so); held = 0; count = 0; over = 1 }
+abbrev pub endTold : Taking → Taking
+endTold t = record { so = numbered (endNumberOf t) (t .so); held = 0; count = 0; over = 1 }
 
 -- the end
 unfoldable pub ending : Taking → Taking
-ending t = given t (cond (isClosed (t .so .refusal) (t .over)) t (told t))
+ending t = given t (cond (isClosed (t .so .refusal) (t .over)) t (endTold t))

@@ -19,7 +19,7 @@ use Rattle.line.specs.declared.field.Field.{Field}
 use Rattle.line.specs.declared.slope.Slope.{Slope}
 use Rattle.line.specs.Segment.{distance, towards, larger, sideAt, xAt, yAt}
 use Rattle.line.specs.Step.{slopeOf, OnStep}
-use Rattle.line.specs.Field.{isOpen, liesWhole, fieldOf, within, endsWithin, Inside, isBare}
+use Rattle.line.specs.Field.{isOpen, liesWhole, fieldOf, inField, endsWithin, AllOffered, isBare}
 use Rattle.line.proofs.Steps.{Lands, lands-level, lands-steep}
 
 -- ---- the box between two points
@@ -58,8 +58,8 @@ open-shown pen kind h x y = go (not (isMasked kind)) h
 
 -- inside the window and the rows in use, a column that the memory has is offered
 pub open-offered : (pen : Pen) (rows : ℕ) (kind : Kind) (x y : ℕ) → isOpen pen kind ≡ true
-    → offered pen rows (offer kind x y 0 0) ≡ within pen rows x y && mine (layoutOf (pen .frame)) x
-unfolding offered inMemory within
+    → offered pen rows (offer kind x y 0 0) ≡ inField pen rows x y && mine (layoutOf (pen .frame)) x
+unfolding offered inMemory inField
 open-offered pen rows kind x y h =
     rw (open-shown pen kind h x y) (go (inWindow pen x y) (ltb x (pen .frame .line)) (ltb y rows) (mine (layoutOf (pen .frame)) x))
   where
@@ -79,10 +79,10 @@ whole-mine frame x h = go (liesPlain frame) refl h
     go false e l = tiled-mine frame x l
 
 pub direct-offered : (pen : Pen) (rows : ℕ) (kind : Kind) (x y : ℕ) → liesWhole (pen .frame) && isOpen pen kind ≡ true
-    → offered pen rows (offer kind x y 0 0) ≡ within pen rows x y
+    → offered pen rows (offer kind x y 0 0) ≡ inField pen rows x y
 direct-offered pen rows kind x y h =
     let u = both (liesWhole (pen .frame)) (isOpen pen kind) h in
-    open-offered pen rows kind x y (u .1) ∙ rw (whole-mine (pen .frame) x (u .0)) (go (within pen rows x y))
+    open-offered pen rows kind x y (u .1) ∙ rw (whole-mine (pen .frame) x (u .0)) (go (inField pen rows x y))
   where
     go : (t : Bool) → t && true ≡ t
     go true = refl
@@ -90,16 +90,16 @@ direct-offered pen rows kind x y h =
 
 -- by what was computed
 pub field-offered : (pen : Pen) (rows : ℕ) (kind : Kind) (x y : ℕ) {field : Field} {t : Bool} → field ≡ fieldOf pen kind rows → field .direct ≡ true
-    → t ≡ within pen (field .rows) x y → offered pen rows (offer kind x y 0 0) ≡ t
+    → t ≡ inField pen (field .rows) x y → offered pen rows (offer kind x y 0 0) ≡ t
 field-offered pen rows kind x y e d w =
-    direct-offered pen rows kind x y (sym (ap (λ (f : Field). f .direct) e) ∙ d) ∙ sym (w ∙ ap (λ (f : Field). within pen (f .rows) x y) e)
+    direct-offered pen rows kind x y (sym (ap (λ (f : Field). f .direct) e) ∙ d) ∙ sym (w ∙ ap (λ (f : Field). inField pen (f .rows) x y) e)
 
 -- ---- a segment whose ends are inside
 
 -- what lies between two pixels that are inside the window and the memory is inside
-within-box : (pen : Pen) (rows ax ay bx by x y : ℕ) → within pen rows ax ay ≡ true → within pen rows bx by ≡ true
-    → min ax bx ≤ x → x ≤ max ax bx → min ay by ≤ y → y ≤ max ay by → within pen rows x y ≡ true
-unfolding within
+within-box : (pen : Pen) (rows ax ay bx by x y : ℕ) → inField pen rows ax ay ≡ true → inField pen rows bx by ≡ true
+    → min ax bx ≤ x → x ≤ max ax bx → min ay by ≤ y → y ≤ max ay by → inField pen rows x y ≡ true
+unfolding inField
 within-box pen rows ax ay bx by x y p q l r b t =
     let v = parts ax ay p in
     let w = parts bx by q in
@@ -119,33 +119,33 @@ within-box pen rows ax ay bx by x y p q l r b t =
 
 module _ (pen : Pen) (rows : ℕ) (kind : Kind) (a b : Vertex) where
   -- each step of it is inside
-  step-within : (s : Slope) (k : ℕ) → OnStep a b s k → Inside pen rows kind a b → within pen rows (xAt a b k) (yAt a b k) ≡ true
+  step-within : (s : Slope) (k : ℕ) → OnStep a b s k → AllOffered pen rows kind a b → inField pen rows (xAt a b k) (yAt a b k) ≡ true
   step-within s k h i =
       let l = lands a b s k h in
       let x = towards-between (a .x) (b .x) (l .0) (l .2 .across-fits) in
       let y = towards-between (a .y) (b .y) (l .1) (l .2 .up-fits) in
-      let ends = both (within pen rows (a .x) (a .y)) (within pen rows (b .x) (b .y)) (i .ends) in
+      let ends = both (inField pen rows (a .x) (a .y)) (inField pen rows (b .x) (b .y)) (i .ends) in
       rw (← l .2 .x, ← l .2 .y) (within-box pen rows (a .x) (a .y) (b .x) (b .y) _ _ (ends .0) (ends .1) (x .0) (x .1) (y .0) (y .1))
 
   -- so that it is offered where the memory has its column
-  pub step-offered : (s : Slope) (k : ℕ) → OnStep a b s k → Inside pen rows kind a b
+  pub step-offered : (s : Slope) (k : ℕ) → OnStep a b s k → AllOffered pen rows kind a b
       → offered pen rows (offer kind (xAt a b k) (yAt a b k) 0 0) ≡ mine (layoutOf (pen .frame)) (xAt a b k)
   step-offered s k h i = open-offered pen rows kind (xAt a b k) (yAt a b k) (i .clear) ∙ rw (step-within s k h i)
 
   -- by the tests that were made
   pub inside-of-tests : {t o r : Bool} → t ≡ endsWithin pen rows a b → o ≡ isOpen pen kind → r ≡ isBare pen kind → t && o && r ≡ true
-      → Inside pen rows kind a b × (isBare pen kind ≡ true)
+      → AllOffered pen rows kind a b × (isBare pen kind ≡ true)
   inside-of-tests {t} {o} {r} e f g h =
       let u = both (t && o) r h in
       let v = both t o (u .0) in
       (record { ends = sym e ∙ v .0; clear = sym f ∙ v .1 }, sym g ∙ u .1)
 
 -- its line length suits the layout
-pub inside-whole : (pen : Pen) (ni nz : ℕ) (kind : Kind) (a b : Vertex) → Inside pen (rowsOf (pen .frame) ni nz) kind a b
+pub inside-whole : (pen : Pen) (ni nz : ℕ) (kind : Kind) (a b : Vertex) → AllOffered pen (rowsOf (pen .frame) ni nz) kind a b
     → isWhole (layoutOf (pen .frame)) (pen .frame .line) ≡ true
-unfolding within
+unfolding inField
 inside-whole pen ni nz kind a b i =
     let rows = rowsOf (pen .frame) ni nz in
-    let first = both (within pen rows (a .x) (a .y)) (within pen rows (b .x) (b .y)) (i .ends) .0 in
+    let first = both (inField pen rows (a .x) (a .y)) (inField pen rows (b .x) (b .y)) (i .ends) .0 in
     let memory = both (inWindow pen (a .x) (a .y)) (ltb (a .x) (pen .frame .line) && ltb (a .y) rows) first .1 in
     rows-whole (pen .frame) ni nz (a .y) (ltb-true _ _ (both (ltb (a .x) (pen .frame .line)) (ltb (a .y) rows) memory .1))

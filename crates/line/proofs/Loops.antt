@@ -26,7 +26,7 @@ use Rattle.line.specs.declared.walk.Step.{Step}
 use Rattle.line.specs.declared.pattern.Ink.{Ink}
 use Rattle.line.specs.declared.slope.Pixel.{Pixel}
 use Rattle.line.specs.Segment.{larger, numberAt, xAt, yAt, isSet, firstOf, from, dashOffers, shadeOffers, stepOffers, kindOf}
-use Rattle.line.specs.Step.{slopeOf, pixelAt, OnStep}
+use Rattle.line.specs.Step.{slopeOf, stepPixel, OnStep}
 use Rattle.line.specs.Ink.{ink, hasGround, inkOf, joinedIn}
 use Rattle.line.specs.Walk.{Carries, Stands, startOf, nextOf, OnWalk}
 use Rattle.line.proofs.Segments.{smaller-le}
@@ -221,7 +221,7 @@ module _ (pen : Pen) (rows : ℕ) (style : Style) (a b : Vertex) where
 
   -- by the pixel, the kind and the ink that were computed
   module _ (s : Slope) (p : Step) (q : Pixel) (kind : Kind) (ink : Ink) where
-    pub inked-step : OnWalk a b s p → q ≡ pixelAt a b (p .k) → kind ≡ kindOf (style .mode) → firstOf (joinedIn style (style .mode)) ≤ p .k
+    pub inked-step : OnWalk a b s p → q ≡ stepPixel a b (p .k) → kind ≡ kindOf (style .mode) → firstOf (joinedIn style (style .mode)) ≤ p .k
         → ink ≡ inkOf style (style .mode) (isSet style (p .k)) (p .i / carriedOne) (p .z / carriedOne) → ink .drawn ≡ true
         → keep pen rows (offer kind (q .x) (q .y) (ink .i) (ink .z)) ≡ stepOffers pen rows style (style .mode) a b (p .k)
     inked-step on eq ek t ei d =

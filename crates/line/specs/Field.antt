@@ -25,15 +25,15 @@ abbrev pub fieldOf : Pen → Kind → ℕ → Field
 fieldOf pen kind rows = record { direct = liesWhole (pen .frame) && isOpen pen kind; rows = rows }
 
 -- a pixel is inside the window, and in a column of the line and a row in use
-unfoldable pub within : Pen → ℕ → ℕ → ℕ → Bool
-within pen rows x y = inWindow pen x y && (ltb x (pen .frame .line) && ltb y rows)
+unfoldable pub inField : Pen → ℕ → ℕ → ℕ → Bool
+inField pen rows x y = inWindow pen x y && (ltb x (pen .frame .line) && ltb y rows)
 
 -- both ends of a segment are
 abbrev pub endsWithin : Pen → ℕ → Vertex → Vertex → Bool
-endsWithin pen rows a b = within pen rows (a .x) (a .y) && within pen rows (b .x) (b .y)
+endsWithin pen rows a b = inField pen rows (a .x) (a .y) && inField pen rows (b .x) (b .y)
 
 -- a segment of which every pixel is offered in a column that the memory has: its ends are inside, and the transparency pattern hides nothing of its kind
-pub record Inside (pen : Pen) (rows : ℕ) (kind : Kind) (a b : Vertex) : Type 0 where
+pub record AllOffered (pen : Pen) (rows : ℕ) (kind : Kind) (a b : Vertex) : Type 0 where
   pub ends : endsWithin pen rows a b ≡ true
   pub clear : isOpen pen kind ≡ true
 

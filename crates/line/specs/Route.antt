@@ -20,7 +20,7 @@ use Rattle.line.specs.Course.{OnCourse}
 use Rattle.line.specs.Part.{partOf, hasPlace}
 use Rattle.line.specs.Walk.{Carries, Stands, twiceOf, nextOf}
 use Rattle.line.specs.Ink.{hasGround, joinedIn}
-use Rattle.line.specs.Field.{Inside, isBare}
+use Rattle.line.specs.Field.{AllOffered, isBare}
 
 -- how pixels lie: 0 in rows, 1 in tiles, 2 what a unit has of each row
 unfoldable pub liesOf : Frame → ℕ
@@ -52,5 +52,5 @@ pub record Traces (pen : Pen) (rows : ℕ) (style : Style) (deep ground : Bool) 
   pub grounds : ground ≡ hasGround (style .mode)
   pub layout : lies ≡ liesOf (pen .frame)
   pub route : OnRoute (pen .frame) a b r
-  pub inside : Inside pen rows (kindOf (style .mode)) a b
+  pub inside : AllOffered pen rows (kindOf (style .mode)) a b
   pub bare : isBare pen (kindOf (style .mode)) ≡ true

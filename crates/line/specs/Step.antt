@@ -11,8 +11,8 @@ abbrev pub slopeOf : Vertex → Vertex → Slope
 slopeOf a b = record { level = xLeads a b; n = larger a b; m = smaller a b }
 
 -- the pixel of step k
-abbrev pub pixelAt : Vertex → Vertex → ℕ → Pixel
-pixelAt a b k = record { x = xAt a b k; y = yAt a b k }
+abbrev pub stepPixel : Vertex → Vertex → ℕ → Pixel
+stepPixel a b k = record { x = xAt a b k; y = yAt a b k }
 
 -- k is a step of the segment from a to b
 pub record OnStep (a b : Vertex) (s : Slope) (k : ℕ) : Type 0 where

@@ -2,7 +2,7 @@
 ghost use mathlib.Core.Path.{_≡_};
 ghost use Rattle.picture.specs.Place.{rowsOf};
 ghost use Rattle.line.specs.Segment.{kindOf};
-ghost use Rattle.line.specs.Field.{within, endsWithin, isOpen, liesWhole, fieldOf, isBare};
+ghost use Rattle.line.specs.Field.{inField, endsWithin, isOpen, liesWhole, fieldOf, isBare};
 use crate::Mode;
 use picture::Frame;
 use picture::Kind;
@@ -60,7 +60,7 @@ pub(crate) fn field_of(pen: Pen, mode: Mode, ni: usize, nz: usize) -> Field
 
 // Whether pixel (x, y) is inside the window and the memory, with so many rows in use.
 pub(crate) fn is_within(pen: Pen, rows: usize, x: u16, y: u16) -> bool
-    ensures { λ r. ⌜ r ≡ within pen rows x y ⌝ }
+    ensures { λ r. ⌜ r ≡ inField pen rows x y ⌝ }
 {
     let frame = pen.frame;
     let window = (pen.left <= x) & (x <= pen.right) & (pen.bottom <= y) & (y <= pen.top);

@@ -8,7 +8,7 @@ ghost use Rattle.picture.specs.Picture.{isDeep, picture, stepAt};
 ghost use Rattle.picture.specs.Lent.{Draws, rowsOver};
 ghost use Rattle.line.specs.Segment.{kindOf, firstOf, stepOffers, segmentOffers};
 ghost use Rattle.line.specs.Ink.{joinedIn};
-ghost use Rattle.line.specs.Field.{Inside, isBare};
+ghost use Rattle.line.specs.Field.{AllOffered, isBare};
 ghost use Rattle.line.specs.Walk.{Stands, OnWalk};
 ghost use Rattle.line.specs.Route.{liesOf, OnRoute, Begins, Traces};
 use crate::Mode;
@@ -132,7 +132,7 @@ fn trace_rows(
     im: &mut [u16],
     zm: &mut [u16],
 ) -> u64
-    requires { ⌜ OnRoute (pen .frame) a b r × Begins style r p × Inside pen (rowsOver (pen .frame) im zm) (kindOf (style .mode)) a b × (isBare pen (kindOf (style .mode)) ≡ true) × (liesOf (pen .frame) ≡ 0) ⌝ }
+    requires { ⌜ OnRoute (pen .frame) a b r × Begins style r p × AllOffered pen (rowsOver (pen .frame) im zm) (kindOf (style .mode)) a b × (isBare pen (kindOf (style .mode)) ≡ true) × (liesOf (pen .frame) ≡ 0) ⌝ }
     ensures { λ t. ⌜ Draws pen (λ rows. segmentOffers pen rows style a b) im zm 0 t ⌝ }
 {
     let mode = style.mode;
@@ -154,7 +154,7 @@ fn trace_tiles(
     im: &mut [u16],
     zm: &mut [u16],
 ) -> u64
-    requires { ⌜ OnRoute (pen .frame) a b r × Begins style r p × Inside pen (rowsOver (pen .frame) im zm) (kindOf (style .mode)) a b × (isBare pen (kindOf (style .mode)) ≡ true) × (liesOf (pen .frame) ≡ 1) ⌝ }
+    requires { ⌜ OnRoute (pen .frame) a b r × Begins style r p × AllOffered pen (rowsOver (pen .frame) im zm) (kindOf (style .mode)) a b × (isBare pen (kindOf (style .mode)) ≡ true) × (liesOf (pen .frame) ≡ 1) ⌝ }
     ensures { λ t. ⌜ Draws pen (λ rows. segmentOffers pen rows style a b) im zm 0 t ⌝ }
 {
     let mode = style.mode;
@@ -176,7 +176,7 @@ fn trace_shares(
     im: &mut [u16],
     zm: &mut [u16],
 ) -> u64
-    requires { ⌜ OnRoute (pen .frame) a b r × Begins style r p × Inside pen (rowsOver (pen .frame) im zm) (kindOf (style .mode)) a b × (isBare pen (kindOf (style .mode)) ≡ true) × (liesOf (pen .frame) ≡ 2) ⌝ }
+    requires { ⌜ OnRoute (pen .frame) a b r × Begins style r p × AllOffered pen (rowsOver (pen .frame) im zm) (kindOf (style .mode)) a b × (isBare pen (kindOf (style .mode)) ≡ true) × (liesOf (pen .frame) ≡ 2) ⌝ }
     ensures { λ t. ⌜ Draws pen (λ rows. segmentOffers pen rows style a b) im zm 0 t ⌝ }
 {
     let mode = style.mode;
@@ -196,7 +196,7 @@ pub(crate) fn drawn_inside(
     im: &mut [u16],
     zm: &mut [u16],
 ) -> u64
-    requires { ⌜ Inside pen (rowsOver (pen .frame) im zm) (kindOf (style .mode)) a b × (isBare pen (kindOf (style .mode)) ≡ true) ⌝ }
+    requires { ⌜ AllOffered pen (rowsOver (pen .frame) im zm) (kindOf (style .mode)) a b × (isBare pen (kindOf (style .mode)) ≡ true) ⌝ }
     ensures { λ r. ⌜ Draws pen (λ rows. segmentOffers pen rows style a b) im zm 0 r ⌝ }
 {
     let frame = pen.frame;

@@ -2,7 +2,7 @@
 ghost use mathlib.Core.Path.{_≡_};
 ghost use Prim.Native.Nat.{_≤_};
 ghost use Rattle.line.specs.Segment.{distance, towards, sideAt};
-ghost use Rattle.line.specs.Step.{slopeOf, pixelAt, OnStep};
+ghost use Rattle.line.specs.Step.{slopeOf, stepPixel, OnStep};
 use picture::Vertex;
 
 // Which axis leads (level: x does), the larger distance n and the smaller distance m.
@@ -56,7 +56,7 @@ pub(crate) fn slope_of(a: Vertex, b: Vertex) -> Slope
 // The pixel of step k, which moves so far to the side.
 pub(crate) fn pixel_of(a: Vertex, b: Vertex, s: Slope, k: u64, side: u16) -> Pixel
     requires { ⌜ OnStep a b s k × (side ≡ sideAt (s .n) (s .m) k) ⌝ }
-    ensures { λ r. ⌜ r ≡ pixelAt a b k ⌝ }
+    ensures { λ r. ⌜ r ≡ stepPixel a b k ⌝ }
 {
     let lead = k as u16;
     if s.level {

@@ -15,13 +15,13 @@ use Rattle.picture.specs.Picture.{picture, drawn}
 use Rattle.picture.specs.Store.{Store, site, afterStore, storesAt}
 use Rattle.picture.proofs.Stores.{filled-cell}
 use Rattle.picture.proofs.Fold.{drawn-i, drawn-z}
-use Rattle.picture.specs.Cell.{Cell, after, there}
+use Rattle.picture.specs.Cell.{Cell, offerLeaves, there}
 use Rattle.picture.proofs.Places.{both, place-below}
 use Rattle.picture.proofs.Cells.{drawn-cell, there-member}
 use Rattle.machine.specs.Run.{Ran, ran, runFrom}
 use Rattle.machine.specs.Machine.{Machine, Memories, rowsIn, numberOf, stepOf}
 use Rattle.machine.specs.Touched.{cellIn}
-use Rattle.machine.specs.Promises.{Inside}
+use Rattle.machine.specs.Promises.{StaysInside}
 use Rattle.machine.specs.Offers.{state, allOf, nextIn, offersIn, offersThere, storesIn, storesThere, cellBy, registersIn, offersAt, cellAfter, takenOf, eachIn}
 use Rattle.machine.proofs.Runs.{zero-or-not, stays, advance-accepted, advance-refused}
 use Rattle.machine.proofs.Steps.{step-either, step-number}
@@ -75,17 +75,17 @@ module _ (M : Machine) (r : M .Registers) (w : M .Word) (m : Memories) where
       step-either M r w m (λ o. o .registers ≡ nextIn M (length (m .i)) (length (m .z)) r w) (λ e. sym (next-accepted M _ _ r w e)) (λ e. sym (next-refused M _ _ r w e))
 
   -- of a machine that draws inside, both memories have the place of each offer
-  offer-below : Inside M → (o : Offer) → List·Memᴰ o (M .offers (rowsIn M r m) r w)
+  offer-below : StaysInside M → (o : Offer) → List·Memᴰ o (M .offers (rowsIn M r m) r w)
       → (placeOf (M .pen r .frame) (o .x) (o .y) < length (m .i)) × (placeOf (M .pen r .frame) (o .x) (o .y) < length (m .z))
   offer-below inside o u =
       place-below (M .pen r .frame) (length (m .i)) (length (m .z)) (o .x) (o .y) (inside .at (rowsIn M r m) r w o u)
 
-  store-below : Inside M → (s : Store) → List·Memᴰ s (M .stores (rowsIn M r m) r w) → (site (M .pen r) s < length (m .i)) × (site (M .pen r) s < length (m .z))
+  store-below : StaysInside M → (s : Store) → List·Memᴰ s (M .stores (rowsIn M r m) r w) → (site (M .pen r) s < length (m .i)) × (site (M .pen r) s < length (m .z))
   store-below inside s u =
       place-below (M .pen r .frame) (length (m .i)) (length (m .z)) (s .x) (s .y) (inside .stores (rowsIn M r m) r w s u)
 
   -- and what a word leaves at a place is what its offers and its stores there leave
-  pub step-cell : Inside M → (at : ℕ)
+  pub step-cell : StaysInside M → (at : ℕ)
       → cellIn (stepOf M r w m .memories) at ≡ cellBy M (length (m .i)) (length (m .z)) at r w (cellIn m at)
   unfolding there storesAt
   step-cell inside at =
@@ -103,7 +103,7 @@ module _ (M : Machine) (r : M .Registers) (w : M .Word) (m : Memories) where
       (λ e. ap₂ left (sym (offers-refused M _ _ r w e)) (sym (stores-refused M _ _ r w e)))
     where
       left : List Offer → List Store → Cell
-      left os ss = foldl (afterStore (M .pen r)) (foldl (after (M .pen r)) (cellIn m at) (there (M .pen r .frame) at os)) (storesAt (M .pen r) at ss)
+      left os ss = foldl (afterStore (M .pen r)) (foldl (offerLeaves (M .pen r)) (cellIn m at) (there (M .pen r .frame) at os)) (storesAt (M .pen r) at ss)
 
 -- ---- all of some words
 
@@ -120,7 +120,7 @@ module _ (M : Machine) where
       ∙ ap (λ (q : M .Registers). registersIn M (length (m .i)) (length (m .z)) q ws) (step-registers M r w m)
 
   -- of a machine that draws inside, what they leave at a place depends on the words, the lengths and what stood there, and on no other place
-  pub all-cell : Inside M → (at : ℕ) (ws : List (M .Word)) (r : M .Registers) (m : Memories)
+  pub all-cell : StaysInside M → (at : ℕ) (ws : List (M .Word)) (r : M .Registers) (m : Memories)
       → cellIn (allOf (stepOf M) r ws m .memories) at ≡ cellAfter M (length (m .i)) (length (m .z)) at r ws (cellIn m at)
   unfolding cellAfter
   all-cell inside at [] r m = refl
@@ -181,13 +181,13 @@ fold-alike f g (o ∷ os) h c =
 module _ (M : Machine) (ni nz at : ℕ) (does : Cell → Offer → Cell) (P : M .Registers → Type 0) (Q : M .Word → Type 0) (test : M .Registers → M .Word → Bool)
     (keeps : (r : M .Registers) (w : M .Word) → P r → Q w → P (M .next r w))
     (each : (r : M .Registers) (w : M .Word) → P r → M .refusal ni nz r w ≡ 0 → test r w ≡ true → (o : Offer) → List·Memᴰ o (M .offers (rowsOf (M .pen r .frame) ni nz) r w)
-    → (c : Cell) → after (M .pen r) c o ≡ does c o)
+    → (c : Cell) → offerLeaves (M .pen r) c o ≡ does c o)
     (none : (r : M .Registers) (w : M .Word) → M .refusal ni nz r w ≡ 0 → test r w ≡ true → M .stores (rowsOf (M .pen r .frame) ni nz) r w ≡ [])
   where
     word-as : (r : M .Registers) (w : M .Word) → P r → cond (eqb (M .refusal ni nz r w) 0) (test r w) true ≡ true → (c : Cell)
-        → foldl (after (M .pen r)) c (offersThere M ni nz at r w) ≡ foldl does c (offersThere M ni nz at r w)
+        → foldl (offerLeaves (M .pen r)) c (offersThere M ni nz at r w) ≡ foldl does c (offersThere M ni nz at r w)
     word-as r w p t =
-        fold-alike (after (M .pen r)) does (offersThere M ni nz at r w)
+        fold-alike (offerLeaves (M .pen r)) does (offersThere M ni nz at r w)
         (λ o u c.
         let v = there-member (M .pen r .frame) at (offersIn M ni nz r w) o u in
         zero-or-not (M .refusal ni nz r w)
@@ -199,9 +199,9 @@ module _ (M : Machine) (ni nz at : ℕ) (does : Cell → Offer → Cell) (P : M 
         zero-or-not (M .refusal ni nz r w) (λ e. stores-accepted M ni nz r w e ∙ none r w e (rw (eq-eqb _ _ e) at t)) (λ e. stores-refused M ni nz r w e)
 
     by-offers : (r : M .Registers) (w : M .Word) (c : Cell) → cond (eqb (M .refusal ni nz r w) 0) (test r w) true ≡ true
-        → cellBy M ni nz at r w c ≡ foldl (after (M .pen r)) c (offersThere M ni nz at r w)
+        → cellBy M ni nz at r w c ≡ foldl (offerLeaves (M .pen r)) c (offersThere M ni nz at r w)
     unfolding storesAt
-    by-offers r w c t = ap (λ (ss : List Store). foldl (afterStore (M .pen r)) (foldl (after (M .pen r)) c (offersThere M ni nz at r w)) (storesAt (M .pen r) at ss)) (unstored r w t)
+    by-offers r w c t = ap (λ (ss : List Store). foldl (afterStore (M .pen r)) (foldl (offerLeaves (M .pen r)) c (offersThere M ni nz at r w)) (storesAt (M .pen r) at ss)) (unstored r w t)
 
     -- if each accepted word stores nothing besides, and passes a test under which its offers do what `does` says, the offers at a place do it one after the other
     pub cells-as : (ws : List (M .Word)) (r : M .Registers) (c : Cell) → P r → ((w : M .Word) → List·Memᴰ w ws → Q w) → eachIn M test ni nz r ws ≡ true

@@ -12,8 +12,8 @@ use Rattle.picture.specs.declared.Pen.{Pen}
 use Rattle.picture.specs.declared.Kind.{Kind}
 use Rattle.picture.specs.Place.{placeOf, rowsOf, inMemory}
 use Rattle.picture.specs.Offer.{Offer, onPixel}
-use Rattle.picture.specs.Picture.{passes, newI, newZ, Picture, picture, stepAt, step, drawn}
-use Rattle.picture.specs.Cell.{Cell, cellAt, after, there}
+use Rattle.picture.specs.Picture.{passes, newI, newZ, Picture, picture, stepAt, drawOne, drawn}
+use Rattle.picture.specs.Cell.{Cell, cellAt, offerLeaves, there}
 use Rattle.picture.specs.Store.{Store, filled, afterStore, storesAt}
 use Rattle.picture.proofs.Places.{both, same-test, place-below, place-apart}
 use Rattle.picture.proofs.Fold.{step-i, step-z, drawn-one}
@@ -51,13 +51,13 @@ stores-pixel pen ni nz x y h (s ∷ ss) held =
 pub pixel-cell : (pen : Pen) (ni nz : ℕ) (os : List Offer) (p : Picture) → length (p .i) ≡ ni → length (p .z) ≡ nz
     → ((o : Offer) → List·Memᴰ o os → inMemory (pen .frame) (rowsOf (pen .frame) ni nz) (o .x) (o .y) ≡ true)
     → (x y : ℕ) → inMemory (pen .frame) (rowsOf (pen .frame) ni nz) x y ≡ true
-    → cellAt (drawn pen os p) (placeOf (pen .frame) x y) ≡ foldl (after pen) (cellAt p (placeOf (pen .frame) x y)) (onPixel x y os)
+    → cellAt (drawn pen os p) (placeOf (pen .frame) x y) ≡ foldl (offerLeaves pen) (cellAt p (placeOf (pen .frame) x y)) (onPixel x y os)
 pixel-cell pen ni nz os p li lz held x y h =
     drawn-cell pen os p (placeOf (pen .frame) x y)
     (λ o m e.
     let b = place-below (pen .frame) ni nz (o .x) (o .y) (held o m) in
     (subst (λ (k : ℕ). k < length (p .i)) e (subst (λ (n : ℕ). placeOf (pen .frame) (o .x) (o .y) < n) (sym li) (b .0)), subst (λ (k : ℕ). k < length (p .z)) e (subst (λ (n : ℕ). placeOf (pen .frame) (o .x) (o .y) < n) (sym lz) (b .1))))
-    ∙ ap (foldl (after pen) (cellAt p (placeOf (pen .frame) x y))) (there-pixel (pen .frame) ni nz x y h os held)
+    ∙ ap (foldl (offerLeaves pen) (cellAt p (placeOf (pen .frame) x y))) (there-pixel (pen .frame) ni nz x y h os held)
 
 -- and what stores inside leave there
 pub store-cell : (pen : Pen) (ni nz : ℕ) (ss : List Store) (p : Picture) → length (p .i) ≡ ni → length (p .z) ≡ nz
@@ -75,7 +75,7 @@ store-cell pen ni nz ss p li lz held x y h =
 
 pub record Twins (pen pen′ : Pen) : Type 0 where
   pub pass : (kind : Kind) (z old : ℕ) → passes pen kind z old ≡ passes pen′ kind z old
-  pub leave : (c : Cell) (o : Offer) → after pen c o ≡ after pen′ c o
+  pub leave : (c : Cell) (o : Offer) → offerLeaves pen c o ≡ offerLeaves pen′ c o
   pub store : (c : Cell) (s : Store) → afterStore pen c s ≡ afterStore pen′ c s
 
 -- two folds that do the same at each element are the same
@@ -89,8 +89,8 @@ one-held frame rows o h q m = subst (λ (k : Offer). inMemory frame rows (k .x) 
 
 -- how many have passed after one offer
 pub step-passed : (pen : Pen) (p : Picture) (o : Offer)
-    → step pen p o .passed ≡ cond (passes pen (o .kind) (o .z) (cellAt p (placeOf (pen .frame) (o .x) (o .y)) .z)) (p .passed + 1) (p .passed)
-unfolding step stepAt
+    → drawOne pen p o .passed ≡ cond (passes pen (o .kind) (o .z) (cellAt p (placeOf (pen .frame) (o .x) (o .y)) .z)) (p .passed + 1) (p .passed)
+unfolding drawOne stepAt
 step-passed pen p o = go (passes pen (o .kind) (o .z) (getD (p .z) (placeOf (pen .frame) (o .x) (o .y)) 0)) (newI pen (o .i) (getD (p .i) (placeOf (pen .frame) (o .x) (o .y)) 0)) (newZ pen (o .kind) (o .z) (getD (p .z) (placeOf (pen .frame) (o .x) (o .y)) 0))
   where
     go : (b : Bool) (i z : ℕ) → cond b (picture (set (p .i) (placeOf (pen .frame) (o .x) (o .y)) i) (set (p .z) (placeOf (pen .frame) (o .x) (o .y)) z) (p .passed + 1)) p .passed ≡ cond b (p .passed + 1) (p .passed)
@@ -103,7 +103,7 @@ pub record Sized (ni nz : ℕ) (p : Picture) : Type 0 where
   pub z : length (p .z) ≡ nz
 
 -- an offer leaves the lengths
-pub step-sized : (pen : Pen) (ni nz : ℕ) (p : Picture) (o : Offer) → Sized ni nz p → Sized ni nz (step pen p o)
+pub step-sized : (pen : Pen) (ni nz : ℕ) (p : Picture) (o : Offer) → Sized ni nz p → Sized ni nz (drawOne pen p o)
 step-sized pen ni nz p o s = record { i = step-i pen p o ∙ s .i; z = step-z pen p o ∙ s .z }
 
 module _ (pen pen′ : Pen) (twins : Twins pen pen′) (rows ni nz ni′ nz′ : ℕ) (is : rowsOf (pen .frame) ni nz ≡ rows) (is′ : rowsOf (pen′ .frame) ni′ nz′ ≡ rows)
@@ -125,8 +125,8 @@ module _ (pen pen′ : Pen) (twins : Twins pen pen′) (rows ni nz ni′ nz′ :
     pub drawn-same : (os : List Offer) (p p′ : Picture) → Sized ni nz p → Sized ni′ nz′ p′ → Held os → Same p p′ → Same (drawn pen os p) (drawn pen′ os p′)
     drawn-same os p p′ l l′ held same x y h =
         pixel-cell pen ni nz os p (l .i) (l .z) (λ o m. here (o .x) (o .y) (held o m)) x y (here x y h)
-        ∙ fold-same (after pen) (after pen′) (twins .leave) (onPixel x y os) _
-        ∙ ap (λ (c : Cell). foldl (after pen′) c (onPixel x y os)) (same x y h)
+        ∙ fold-same (offerLeaves pen) (offerLeaves pen′) (twins .leave) (onPixel x y os) _
+        ∙ ap (λ (c : Cell). foldl (offerLeaves pen′) c (onPixel x y os)) (same x y h)
         ∙ sym (pixel-cell pen′ ni′ nz′ os p′ (l′ .i) (l′ .z) (λ o m. here′ (o .x) (o .y) (held o m)) x y (here′ x y h))
 
     -- and so do the same stores
@@ -138,13 +138,13 @@ module _ (pen pen′ : Pen) (twins : Twins pen pen′) (rows ni nz ni′ nz′ :
         ∙ ap (λ (c : Cell). foldl (afterStore pen′) c (storesOn x y ss)) (same x y h)
         ∙ sym (store-cell pen′ ni′ nz′ ss p′ (l′ .i) (l′ .z) (λ s m. here′ (s .x) (s .y) (held s m)) x y (here′ x y h))
 
-    step-same : (o : Offer) (p p′ : Picture) → Sized ni nz p → Sized ni′ nz′ p′ → Held (o ∷ []) → Same p p′ → Same (step pen p o) (step pen′ p′ o)
+    step-same : (o : Offer) (p p′ : Picture) → Sized ni nz p → Sized ni′ nz′ p′ → Held (o ∷ []) → Same p p′ → Same (drawOne pen p o) (drawOne pen′ p′ o)
     step-same o p p′ l l′ held same =
-        subst (λ (q : Picture). Same q (step pen′ p′ o)) (drawn-one pen o p)
+        subst (λ (q : Picture). Same q (drawOne pen′ p′ o)) (drawn-one pen o p)
         (subst (λ (q : Picture). Same (drawn pen (o ∷ []) p) q) (drawn-one pen′ o p′) (drawn-same (o ∷ []) p p′ l l′ held same))
 
     step-count : (o : Offer) (p p′ : Picture) → inMemory (pen .frame) rows (o .x) (o .y) ≡ true → Same p p′ → p .passed ≡ p′ .passed
-        → step pen p o .passed ≡ step pen′ p′ o .passed
+        → drawOne pen p o .passed ≡ drawOne pen′ p′ o .passed
     step-count o p p′ h same e =
         step-passed pen p o
         ∙ ap₂ (λ (b : Bool) (n : ℕ). cond b (n + 1) n)
@@ -158,6 +158,6 @@ module _ (pen pen′ : Pen) (twins : Twins pen pen′) (rows ni nz ni′ nz′ :
     drawn-count [] p p′ l l′ held same e = e
     drawn-count (o ∷ os) p p′ l l′ held same e =
         let first = held o (List·Memᴰ·head refl) in
-        drawn-count os (step pen p o) (step pen′ p′ o) (step-sized pen ni nz p o l) (step-sized pen′ ni′ nz′ p′ o l′) (λ q m. held q (List·Memᴰ·tail m))
+        drawn-count os (drawOne pen p o) (drawOne pen′ p′ o) (step-sized pen ni nz p o l) (step-sized pen′ ni′ nz′ p′ o l′) (λ q m. held q (List·Memᴰ·tail m))
         (step-same o p p′ l l′ (one-held (pen .frame) rows o first) same)
         (step-count o p p′ first same e)

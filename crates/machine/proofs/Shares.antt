@@ -14,9 +14,9 @@ use Rattle.picture.specs.declared.Frame.{Frame}
 use Rattle.picture.specs.declared.Pen.{Pen}
 use Rattle.picture.specs.Place.{Layout, layoutOf, placeOf, mine}
 use Rattle.picture.specs.Offer.{Offer}
-use Rattle.picture.specs.Picture.{passes, Picture, step, drawn}
+use Rattle.picture.specs.Picture.{passes, Picture, drawOne, drawn}
 use Rattle.picture.specs.Draw.{spans}
-use Rattle.picture.specs.Cell.{Cell, cellAt, after, there}
+use Rattle.picture.specs.Cell.{Cell, cellAt, offerLeaves, there}
 use Rattle.picture.specs.Store.{Store, site, filled, afterStore, storesAt}
 use Rattle.picture.proofs.Layouts.{digits-same}
 use Rattle.picture.proofs.Places.{both, same-test}
@@ -194,9 +194,9 @@ module _ (ways n n′ : ℕ) (pen : ℕ → Pen) (pen′ : Pen) (Fit : ℕ → �
           let h = fits o (held-member (k (p % ways)) os o m) in
           within b n (p / ways) l
           (subst (λ (j : ℕ). j < n) (sym (deals .spot (p % ways) (o .x) (o .y) (mod-lt p (deals .some)) h) ∙ e) (deals .low (o .x) (o .y) h)))
-          ∙ ap (foldl (after (pen (p % ways))) (cellAt b (p / ways))) (there-dealt ways n n′ (λ u. pen u .frame) (pen′ .frame) Fit deals p os fits)
-          ∙ fold-same (after (pen (p % ways))) (after pen′) (twins (p % ways) .leave) (there (pen′ .frame) p os) _
-          ∙ ap (λ (c : Cell). foldl (after pen′) c (there (pen′ .frame) p os)) same
+          ∙ ap (foldl (offerLeaves (pen (p % ways))) (cellAt b (p / ways))) (there-dealt ways n n′ (λ u. pen u .frame) (pen′ .frame) Fit deals p os fits)
+          ∙ fold-same (offerLeaves (pen (p % ways))) (offerLeaves pen′) (twins (p % ways) .leave) (there (pen′ .frame) p os) _
+          ∙ ap (λ (c : Cell). foldl (offerLeaves pen′) c (there (pen′ .frame) p os)) same
           ∙ sym (drawn-cell pen′ os q p (λ o m e. within q n′ p l′ (subst (λ (j : ℕ). j < n′) e (deals .low′ (o .x) (o .y) (fits o m)))))
 
       -- and so do stores
@@ -239,7 +239,7 @@ module _ (ways n n′ : ℕ) (pen : ℕ → Pen) (pen′ : Pen) (Fit : ℕ → �
     counts false m = omega arith
 
     -- the one chip's count goes on by it
-    more-one : (q : Picture) (o : Offer) → step pen′ q o .passed ≡ q .passed + more q o
+    more-one : (q : Picture) (o : Offer) → drawOne pen′ q o .passed ≡ q .passed + more q o
     more-one q o = step-passed pen′ q o ∙ counts (passes pen′ (o .kind) (o .z) (cellAt q (placeOf (pen′ .frame) (o .x) (o .y)) .z)) (q .passed)
 
     module _ (b : ℕ → Picture) (q : Picture) (o : Offer) (fit : Fit (o .x) (o .y)) (joined : Joined b q) where
@@ -284,7 +284,7 @@ module _ (ways n n′ : ℕ) (pen : ℕ → Pen) (pen′ : Pen) (Fit : ℕ → �
         let one = more-one q o in
         let all = more-all b q o first joined in
         let same = sum-same ways (λ u. drawn (pen u) (heldBy (k u) (o ∷ os)) (b u) .passed) (λ u. drawn (pen u) (heldBy (k u) os) (given b o u) .passed) (λ u m. ap (λ (c : Picture). c .passed) (given-rest b o os u)) in
-        let rest = count-dealt os (given b o) (step pen′ q o) (λ u m. given-sized b o u (l u m)) (step-sized pen′ n′ n′ q o l′) (λ a m. fits a (List·Memᴰ·tail m))
+        let rest = count-dealt os (given b o) (drawOne pen′ q o) (λ u m. given-sized b o u (l u m)) (step-sized pen′ n′ n′ q o l′) (λ a m. fits a (List·Memᴰ·tail m))
         (λ p h h′.
         drawn-dealt p (o ∷ []) (b (p % ways)) q (l (p % ways) (mod-lt p (deals .some))) l′ (λ a m. subst (λ (c : Offer). Fit (c .x) (c .y)) (sym (List·Memᴰ·eq-of-singleton m)) first) (joined p h h′)
         ∙ ap (λ (c : Picture). cellAt c p) (drawn-one pen′ o q)) in

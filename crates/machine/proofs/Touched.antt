@@ -18,7 +18,7 @@ use Rattle.machine.specs.Run.{Ran, ran, advance, runFrom, runOf}
 use Rattle.machine.specs.Machine.{Machine, Memories, rowsIn, numberOf, stepOf}
 use Rattle.machine.specs.Along.{Along}
 use Rattle.machine.specs.Touched.{cellIn, passedBy, storedBy, touchedBy, touchedNext, passedNext, touchedFrom, passedFrom, passedOf}
-use Rattle.machine.specs.Promises.{Inside, Above}
+use Rattle.machine.specs.Promises.{StaysInside, Above}
 use Rattle.machine.proofs.Runs.{zero-or-not, Comes, took, halted, stood, comes, advance-accepted, advance-refused, advance-stays, run-leaves}
 use Rattle.machine.proofs.Steps.{step-either, step-number}
 use Rattle.machine.proofs.Kept.{step-leaves}
@@ -60,7 +60,7 @@ module _ (M : Machine) (r : M .Registers) (w : M .Word) (m : Memories) where
       filled-away (M .pen r) (M .stores (rowsIn M r m) r w) _ at (λ u. h (Memᴰ·append-right (passedBy M r w m) (rw (sites-accepted e) u)))
       ∙ drawn-away (M .pen r) (M .offers (rowsIn M r m) r w) (picture (m .i) (m .z) 0) at (λ u. h (Memᴰ·append-left {s = passedBy M r w m} _ (rw (touched-accepted e) u))))
 
-  module _ (inside : Inside M) where
+  module _ (inside : StaysInside M) where
     -- a machine that draws inside passes pixels of the rows in use only
     pub touched-low : (at : ℕ) → List·Memᴰ at (touchedBy M r w m) → at < rowsIn M r m * widthOf (layoutOf (M .pen r .frame)) (M .pen r .frame .line)
     touched-low at u =
@@ -141,7 +141,7 @@ module _ (M : Machine) where
         (untouched-along at ws a h)
 
     -- of a machine that draws inside, a place that is above the rows in use at each word keeps both its numbers
-    pub run-above : Inside M → Along (stepOf M) (Above M at) a ws → cellIn (runFrom (stepOf M) a ws .memories) at ≡ cellIn (a .memories) at
+    pub run-above : StaysInside M → Along (stepOf M) (Above M at) a ws → cellIn (runFrom (stepOf M) a ws .memories) at ≡ cellIn (a .memories) at
     run-above inside =
         run-leaves (stepOf M) (λ (c : Memories). cellIn c at) (Above M at) (λ r w m. step-above M r w m inside at) ws a
 

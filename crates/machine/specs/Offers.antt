@@ -6,7 +6,7 @@ use Prim.Native.Nat.{ℕ}
 use lib.Dec.{eqb}
 use Rattle.picture.specs.Place.{rowsOf}
 use Rattle.picture.specs.Offer.{Offer}
-use Rattle.picture.specs.Cell.{Cell, after, there}
+use Rattle.picture.specs.Cell.{Cell, offerLeaves, there}
 use Rattle.picture.specs.Store.{Store, afterStore, storesAt}
 use Rattle.machine.specs.Run.{Step}
 use Rattle.machine.specs.Machine.{Machine}
@@ -52,7 +52,7 @@ storesThere M ni nz at r w = storesAt (M .pen r) at (storesIn M ni nz r w)
 
 -- what a word leaves of the two numbers at a place
 abbrev pub cellBy : (M : Machine) → ℕ → ℕ → ℕ → M .Registers → M .Word → Cell → Cell
-cellBy M ni nz at r w c = foldl (afterStore (M .pen r)) (foldl (after (M .pen r)) c (offersThere M ni nz at r w)) (storesThere M ni nz at r w)
+cellBy M ni nz at r w c = foldl (afterStore (M .pen r)) (foldl (offerLeaves (M .pen r)) c (offersThere M ni nz at r w)) (storesThere M ni nz at r w)
 
 -- ---- some words
 

@@ -12,7 +12,7 @@ use borrow.Author.Tests.{eq-eqb, ne-eqb}
 use lib.ListN.{length, getD, take, drop, set, length-drop, drop-of-length-le, length-map, List·getD-map}
 use lib.Seq.{sets, sets-eq, set-at, take-all, take-suc, drop-cons, drop-drop, getD-drop, length-take-le}
 use Rattle.stream.specs.Format.{fit, unpackOf, packOf, wordAt}
-use Rattle.stream.specs.Calls.{over, told, packing}
+use Rattle.stream.specs.Calls.{over, codedTold, packing}
 use Rattle.stream.specs.declared.Coded.{Coded}
 use Rattle.stream.specs.declared.Coded.the-variants.{Done}
 use Rattle.stream.proofs.Stream.{parity, length-pack}
@@ -156,7 +156,7 @@ module _ (words : List ℕ) (j : ℕ) (out : List ℕ) where
 
   -- the waiting word is packed behind the pairs
   pub put-odd : j % 2 ≡ 1 → fit 20 words ≡ true → 5 * (j / 2) + (length words * 5 + 1) / 2 ≤ length out
-      → (answer : Coded) {left : List ℕ} → told answer left ≡ packing words (take (length out - 5 * (j / 2)) (drop (5 * (j / 2)) out))
+      → (answer : Coded) {left : List ℕ} → codedTold answer left ≡ packing words (take (length out - 5 * (j / 2)) (drop (5 * (j / 2)) out))
       → take (5 * (j / 2)) out ++ (left ++ drop (length out - 5 * (j / 2)) (drop (5 * (j / 2)) out)) ≡ putWaiting words j out
   unfolding putWaiting over
   put-odd e f room answer {left} says =

@@ -12,14 +12,14 @@ use Rattle.picture.specs.declared.Frame.{Frame}
 use Rattle.picture.specs.declared.Pen.{Pen}
 use Rattle.picture.specs.Place.{placeOf}
 use Rattle.picture.specs.Offer.{Offer}
-use Rattle.picture.specs.Picture.{passes, newI, newZ, Picture, picture, stepAt, step, drawn}
-use Rattle.picture.specs.Cell.{Cell, cell, cellAt, after, there}
+use Rattle.picture.specs.Picture.{passes, newI, newZ, Picture, picture, stepAt, drawOne, drawn}
+use Rattle.picture.specs.Cell.{Cell, cell, cellAt, offerLeaves, there}
 use Rattle.picture.proofs.Fold.{step-i, step-z}
 
 -- at its own place an offer does what it does to the two numbers there
 pub step-here : (pen : Pen) (p : Picture) (o : Offer) (at : ℕ) → placeOf (pen .frame) (o .x) (o .y) ≡ at → at < length (p .i) → at < length (p .z)
-    → cellAt (step pen p o) at ≡ after pen (cellAt p at) o
-unfolding step stepAt after
+    → cellAt (drawOne pen p o) at ≡ offerLeaves pen (cellAt p at) o
+unfolding drawOne stepAt offerLeaves
 step-here pen p o at e hi hz = rw e (go (passes pen (o .kind) (o .z) (getD (p .z) at 0)))
   where
     i′ : ℕ
@@ -33,8 +33,8 @@ step-here pen p o at e hi hz = rw e (go (passes pen (o .kind) (o .z) (getD (p .z
     go false = refl
 
 -- at every other place it does nothing
-pub step-away : (pen : Pen) (p : Picture) (o : Offer) (at : ℕ) → at ≢ placeOf (pen .frame) (o .x) (o .y) → cellAt (step pen p o) at ≡ cellAt p at
-unfolding step stepAt
+pub step-away : (pen : Pen) (p : Picture) (o : Offer) (at : ℕ) → at ≢ placeOf (pen .frame) (o .x) (o .y) → cellAt (drawOne pen p o) at ≡ cellAt p at
+unfolding drawOne stepAt
 step-away pen p o at h = go (passes pen (o .kind) (o .z) (getD (p .z) (placeOf (pen .frame) (o .x) (o .y)) 0)) _ _
   where
     go : (b : Bool) (i′ z′ : ℕ)
@@ -46,21 +46,21 @@ step-away pen p o at h = go (passes pen (o .kind) (o .z) (getD (p .z) (placeOf (
 -- of each of them
 pub drawn-cell : (pen : Pen) (os : List Offer) (p : Picture) (at : ℕ)
     → ((o : Offer) → List·Memᴰ o os → placeOf (pen .frame) (o .x) (o .y) ≡ at → (at < length (p .i)) × (at < length (p .z)))
-    → cellAt (drawn pen os p) at ≡ foldl (after pen) (cellAt p at) (there (pen .frame) at os)
+    → cellAt (drawn pen os p) at ≡ foldl (offerLeaves pen) (cellAt p at) (there (pen .frame) at os)
 unfolding drawn there
 drawn-cell pen [] p at has = refl
 drawn-cell pen (o ∷ os) p at has =
-    drawn-cell pen os (step pen p o) at (λ q m e. let k = has q (List·Memᴰ·tail m) e in (rw (step-i pen p o) (k .0), rw (step-z pen p o) (k .1)))
+    drawn-cell pen os (drawOne pen p o) at (λ q m e. let k = has q (List·Memᴰ·tail m) e in (rw (step-i pen p o) (k .0), rw (step-z pen p o) (k .1)))
     ∙ go (eqb (placeOf (pen .frame) (o .x) (o .y)) at) refl
   where
     go : (b : Bool) → eqb (placeOf (pen .frame) (o .x) (o .y)) at ≡ b
-        → foldl (after pen) (cellAt (step pen p o) at) (there (pen .frame) at os)
-        ≡ foldl (after pen) (cellAt p at) (cond b (o ∷ there (pen .frame) at os) (there (pen .frame) at os))
+        → foldl (offerLeaves pen) (cellAt (drawOne pen p o) at) (there (pen .frame) at os)
+        ≡ foldl (offerLeaves pen) (cellAt p at) (cond b (o ∷ there (pen .frame) at os) (there (pen .frame) at os))
     go true e =
         let same = eqb-true _ _ e in
         let k = has o (List·Memᴰ·head refl) same in
-        ap (λ (c : Cell). foldl (after pen) c (there (pen .frame) at os)) (step-here pen p o at same (k .0) (k .1))
-    go false e = ap (λ (c : Cell). foldl (after pen) c (there (pen .frame) at os)) (step-away pen p o at (λ q. eqb-false _ _ e (sym q)))
+        ap (λ (c : Cell). foldl (offerLeaves pen) c (there (pen .frame) at os)) (step-here pen p o at same (k .0) (k .1))
+    go false e = ap (λ (c : Cell). foldl (offerLeaves pen) c (there (pen .frame) at os)) (step-away pen p o at (λ q. eqb-false _ _ e (sym q)))
 
 -- offers made at a place are among the offers
 pub there-member : (frame : Frame) (at : ℕ) (os : List Offer) (o : Offer) → List·Memᴰ o (there frame at os) → List·Memᴰ o os

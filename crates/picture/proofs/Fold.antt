@@ -10,19 +10,19 @@ use Rattle.picture.specs.declared.Pen.{Pen}
 use Rattle.picture.specs.declared.Kind.{Kind}
 use Rattle.picture.specs.Place.{placeOf}
 use Rattle.picture.specs.Offer.{Offer}
-use Rattle.picture.specs.Picture.{passes, newI, newZ, Picture, picture, stepAt, step, drawn}
+use Rattle.picture.specs.Picture.{passes, newI, newZ, Picture, picture, stepAt, drawOne, drawn}
 
 pub drawn-nil : (pen : Pen) (p : Picture) → drawn pen [] p ≡ p
 unfolding drawn
 drawn-nil pen p = refl
 
-pub drawn-one : (pen : Pen) (o : Offer) (p : Picture) → drawn pen (o ∷ []) p ≡ step pen p o
+pub drawn-one : (pen : Pen) (o : Offer) (p : Picture) → drawn pen (o ∷ []) p ≡ drawOne pen p o
 unfolding drawn
 drawn-one pen o p = refl
 
 pub drawn-append : (pen : Pen) (os ps : List Offer) (p : Picture) → drawn pen (os ++ ps) p ≡ drawn pen ps (drawn pen os p)
 unfolding drawn
-drawn-append pen os ps p = foldl-append (step pen) p os ps
+drawn-append pen os ps p = foldl-append (drawOne pen) p os ps
 
 -- ---- what one offer does goes by whether it passes
 
@@ -42,8 +42,8 @@ module _ (pen : Pen) (kind : Kind) (at i z : ℕ) (p : Picture) where
 abbrev pub counted : ℕ → Picture → Picture
 counted n p = picture (p .i) (p .z) (n + p .passed)
 
-step-counted : (pen : Pen) (n : ℕ) (p : Picture) (o : Offer) → step pen (counted n p) o ≡ counted n (step pen p o)
-unfolding step stepAt
+step-counted : (pen : Pen) (n : ℕ) (p : Picture) (o : Offer) → drawOne pen (counted n p) o ≡ counted n (drawOne pen p o)
+unfolding drawOne stepAt
 step-counted pen n p o = go (passes pen (o .kind) (o .z) (getD (p .z) (placeOf (pen .frame) (o .x) (o .y)) 0))
   where
     i : List ℕ
@@ -59,7 +59,7 @@ step-counted pen n p o = go (passes pen (o .kind) (o .z) (getD (p .z) (placeOf (
 drawn-counted : (pen : Pen) (n : ℕ) (os : List Offer) (p : Picture) → drawn pen os (counted n p) ≡ counted n (drawn pen os p)
 unfolding drawn
 drawn-counted pen n [] p = refl
-drawn-counted pen n (o ∷ os) p = ap (drawn pen os) (step-counted pen n p o) ∙ drawn-counted pen n os (step pen p o)
+drawn-counted pen n (o ∷ os) p = ap (drawn pen os) (step-counted pen n p o) ∙ drawn-counted pen n os (drawOne pen p o)
 
 pub drawn-from : (pen : Pen) (os : List Offer) (i z : List ℕ) (n : ℕ) → drawn pen os (picture i z n) ≡ counted n (drawn pen os (picture i z 0))
 drawn-from pen os i z n = ap (λ (m : ℕ). drawn pen os (picture i z m)) (sym (add-zero n)) ∙ drawn-counted pen n os (picture i z 0)
@@ -74,28 +74,28 @@ kept-z : (b : Bool) (q p : Picture) → length (q .z) ≡ length (p .z) → leng
 kept-z true q p e = e
 kept-z false q p e = refl
 
-pub step-i : (pen : Pen) (p : Picture) (o : Offer) → length (step pen p o .i) ≡ length (p .i)
-unfolding step stepAt
+pub step-i : (pen : Pen) (p : Picture) (o : Offer) → length (drawOne pen p o .i) ≡ length (p .i)
+unfolding drawOne stepAt
 step-i pen p o = kept-i (passes pen (o .kind) (o .z) (getD (p .z) (placeOf (pen .frame) (o .x) (o .y)) 0)) _ p (length-set (p .i) _ _)
 
-pub step-z : (pen : Pen) (p : Picture) (o : Offer) → length (step pen p o .z) ≡ length (p .z)
-unfolding step stepAt
+pub step-z : (pen : Pen) (p : Picture) (o : Offer) → length (drawOne pen p o .z) ≡ length (p .z)
+unfolding drawOne stepAt
 step-z pen p o = kept-z (passes pen (o .kind) (o .z) (getD (p .z) (placeOf (pen .frame) (o .x) (o .y)) 0)) _ p (length-set (p .z) _ _)
 
 pub drawn-i : (pen : Pen) (os : List Offer) (p : Picture) → length (drawn pen os p .i) ≡ length (p .i)
 unfolding drawn
 drawn-i pen [] p = refl
-drawn-i pen (o ∷ os) p = drawn-i pen os (step pen p o) ∙ step-i pen p o
+drawn-i pen (o ∷ os) p = drawn-i pen os (drawOne pen p o) ∙ step-i pen p o
 
 pub drawn-z : (pen : Pen) (os : List Offer) (p : Picture) → length (drawn pen os p .z) ≡ length (p .z)
 unfolding drawn
 drawn-z pen [] p = refl
-drawn-z pen (o ∷ os) p = drawn-z pen os (step pen p o) ∙ step-z pen p o
+drawn-z pen (o ∷ os) p = drawn-z pen os (drawOne pen p o) ∙ step-z pen p o
 
 -- ---- no more pass than are offered
 
-step-passed : (pen : Pen) (p : Picture) (o : Offer) → step pen p o .passed ≤ p .passed + 1
-unfolding step stepAt
+step-passed : (pen : Pen) (p : Picture) (o : Offer) → drawOne pen p o .passed ≤ p .passed + 1
+unfolding drawOne stepAt
 step-passed pen p o = go (passes pen (o .kind) (o .z) (getD (p .z) (placeOf (pen .frame) (o .x) (o .y)) 0)) _ _
   where
     go : (b : Bool) (i z : List ℕ) → cond b (picture i z (p .passed + 1)) p .passed ≤ p .passed + 1
@@ -105,4 +105,4 @@ step-passed pen p o = go (passes pen (o .kind) (o .z) (getD (p .z) (placeOf (pen
 pub drawn-passed : (pen : Pen) (os : List Offer) (p : Picture) → drawn pen os p .passed ≤ p .passed + length os
 unfolding drawn
 drawn-passed pen [] p = omega arith
-drawn-passed pen (o ∷ os) p = omega (arith, drawn-passed pen os (step pen p o), step-passed pen p o)
+drawn-passed pen (o ∷ os) p = omega (arith, drawn-passed pen os (drawOne pen p o), step-passed pen p o)

@@ -15,7 +15,7 @@ use Rattle.picture.specs.declared.Kind.the-variants.{Line2}
 use Rattle.picture.specs.declared.Compared.the-variants.{Nearer, Equal, Farther}
 use Rattle.picture.specs.Place.{liesPlain, placeOf, rowsOf, inMemory}
 use Rattle.picture.specs.Offer.{Offer, offer, isMasked, inWindow, shows, offered, keep}
-use Rattle.picture.specs.Picture.{isDeep, comparedOf, wins, passes, inPlanes, newI, newZ, Picture, picture, stepAt, step, drawn}
+use Rattle.picture.specs.Picture.{isDeep, comparedOf, wins, passes, inPlanes, newI, newZ, Picture, picture, stepAt, drawOne, drawn}
 use Rattle.picture.specs.Draw.{placed, shown, seen}
 use Rattle.picture.proofs.Places.{both, inside-parts, inside-of, plain-mine, place-below}
 use Rattle.picture.proofs.Fold.{drawn-passed}
@@ -71,11 +71,11 @@ module _ (pen : Pen) (rows : ℕ) (kind : Kind) (x y : ℕ) where
 
   pub keep-drawn : (i z : ℕ) (p q : Picture) → offered pen rows (offer kind x y 0 0) ≡ true → q ≡ stepAt pen kind (placeOf (pen .frame) x y) i z p
       → q ≡ drawn pen (keep pen rows (offer kind x y i z)) p
-  unfolding keep offered step drawn
+  unfolding keep offered drawOne drawn
   keep-drawn i z p q h e = rw h e
 
   pub keep-left : (i z : ℕ) (p : Picture) → offered pen rows (offer kind x y 0 0) ≡ false → p ≡ drawn pen (keep pen rows (offer kind x y i z)) p
-  unfolding keep offered step drawn
+  unfolding keep offered drawOne drawn
   keep-left i z p h = rw h
 
 -- ---- what is stored of a passed pixel

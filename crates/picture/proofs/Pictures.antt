@@ -11,7 +11,7 @@ use Rattle.picture.specs.declared.Pen.{Pen}
 use Rattle.picture.specs.Place.{placeOf, rowsOf, inMemory}
 use Rattle.picture.specs.Picture.{Picture, picture, inPlanes, newI}
 use Rattle.picture.specs.Cell.{Cell, cellAt}
-use Rattle.picture.specs.Store.{Store, pixelFor, site, filled, within, readOf}
+use Rattle.picture.specs.Store.{Store, pixelFor, site, filled, storable, readOf}
 use Rattle.picture.proofs.Places.{place-below, place-apart}
 use Rattle.picture.proofs.Rows.{in-all-planes}
 use Rattle.picture.proofs.Planes.{planes-same}
@@ -44,14 +44,14 @@ module _ (pen : Pen) (i z : List ℕ) (deep : Bool) (x y v : ℕ) where
 
   -- the picture after a pixel is stored
   abbrev pub left : Picture
-  left = filled pen (within pen inUse (pixelFor deep x y v)) (picture i z 0)
+  left = filled pen (storable pen inUse (pixelFor deep x y v)) (picture i z 0)
 
   rows-stay : rowsOf (pen .frame) (length (left .i)) (length (left .z)) ≡ inUse
-  rows-stay = ap₂ (λ (a b : ℕ). rowsOf (pen .frame) a b) (filled-i pen (within pen inUse (pixelFor deep x y v)) (picture i z 0)) (filled-z pen (within pen inUse (pixelFor deep x y v)) (picture i z 0))
+  rows-stay = ap₂ (λ (a b : ℕ). rowsOf (pen .frame) a b) (filled-i pen (storable pen inUse (pixelFor deep x y v)) (picture i z 0)) (filled-z pen (storable pen inUse (pixelFor deep x y v)) (picture i z 0))
 
   -- a place of another pixel is none of those stored at
-  site-apart : (x′ y′ : ℕ) → ((x ≡ x′) × (y ≡ y′) → ⊥) → inMemory (pen .frame) inUse x′ y′ ≡ true → List·Memᴰ (placeOf (pen .frame) x′ y′) (map (site pen) (within pen inUse (pixelFor deep x y v))) → ⊥
-  unfolding within
+  site-apart : (x′ y′ : ℕ) → ((x ≡ x′) × (y ≡ y′) → ⊥) → inMemory (pen .frame) inUse x′ y′ ≡ true → List·Memᴰ (placeOf (pen .frame) x′ y′) (map (site pen) (storable pen inUse (pixelFor deep x y v))) → ⊥
+  unfolding storable
   site-apart x′ y′ apart h = go (inMemory (pen .frame) inUse x y) refl
     where
       go : (b : Bool) → inMemory (pen .frame) inUse x y ≡ b → List·Memᴰ (placeOf (pen .frame) x′ y′) (map (site pen) (cond b (pixelFor deep x y v ∷ []) [])) → ⊥
@@ -77,7 +77,7 @@ module _ (pen : Pen) (i z : List ℕ) (deep : Bool) (x y v : ℕ) where
             → cond b (getD (cond deep′ (left .z) (left .i)) (placeOf (pen .frame) x′ y′) 0) 0 ≡ cond b (getD (cond deep′ z i) (placeOf (pen .frame) x′ y′) 0) 0
         go true e =
             in-cell left (picture i z 0) (placeOf (pen .frame) x′ y′)
-            (filled-away pen (within pen inUse (pixelFor deep x y v)) (picture i z 0) (placeOf (pen .frame) x′ y′) (site-apart x′ y′ apart e))
+            (filled-away pen (storable pen inUse (pixelFor deep x y v)) (picture i z 0) (placeOf (pen .frame) x′ y′) (site-apart x′ y′ apart e))
         go false e = refl
 
   -- with both enables on and all planes, a number of 16 bits is read back inside the memory

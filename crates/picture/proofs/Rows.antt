@@ -20,7 +20,7 @@ use Rattle.picture.specs.declared.Compared.the-variants.{Nearer, Equal, 
 use Rattle.picture.specs.declared.Carried.{Carried}
 use Rattle.picture.specs.Place.{layoutOf, placeOf, mine, inMemory}
 use Rattle.picture.specs.Offer.{Offer, offer, isMasked, shows}
-use Rattle.picture.specs.Picture.{isDeep, comparedOf, isEdge, wins, passes, inPlanes, newI, newZ, Picture, picture, stepAt, step, drawn}
+use Rattle.picture.specs.Picture.{isDeep, comparedOf, isEdge, wins, passes, inPlanes, newI, newZ, Picture, picture, stepAt, drawOne, drawn}
 use Rattle.picture.specs.Draw.{carriedOne, shown, seen, carriedTo, spanPixel, spanOffers, isPlain, nearerPen}
 use Rattle.picture.specs.Loops.{Plain, isNearer, nearerAt}
 use Rattle.picture.proofs.Places.{both}
@@ -31,7 +31,7 @@ use Rattle.picture.proofs.Spans.{spans-stop, spans-none, spans-alike}
 
 pub shown-drawn : (pen : Pen) (kind : Kind) (x y i z : ℕ) (p q : Picture) → (not (isMasked kind) || shows pen x y) ≡ true
     → q ≡ stepAt pen kind (placeOf (pen .frame) x y) i z p → q ≡ drawn pen (shown pen (offer kind x y i z)) p
-unfolding shown drawn step
+unfolding shown drawn drawOne
 shown-drawn pen kind x y i z p q h e = rw h e
 
 pub shown-left : (pen : Pen) (kind : Kind) (x y i z : ℕ) (p : Picture) → (not (isMasked kind) || shows pen x y) ≡ false

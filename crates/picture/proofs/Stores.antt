@@ -13,7 +13,7 @@ use Rattle.picture.specs.declared.Pen.{Pen}
 use Rattle.picture.specs.declared.Frame.{Frame}
 use Rattle.picture.specs.Picture.{Picture, picture, newI}
 use Rattle.picture.specs.Cell.{Cell, cell, cellAt}
-use Rattle.picture.specs.Store.{Store, pixelFor, storedI, storedZ, site, stored, filled, within, readOf, afterStore, storesAt}
+use Rattle.picture.specs.Store.{Store, pixelFor, storedI, storedZ, site, stored, filled, storable, readOf, afterStore, storesAt}
 use Rattle.picture.specs.Place.{layoutOf, widthOf, placeOf, rowsOf, inMemory}
 
 pub filled-nil : (pen : Pen) (p : Picture) → filled pen [] p ≡ p
@@ -104,21 +104,21 @@ module _ (pen : Pen) (i z : List ℕ) (x y v : ℕ) where
   rows = rowsOf (pen .frame) (length i) (length z)
 
   -- outside the memory nothing is stored
-  pub store-outside : (deep : Bool) → inMemory (pen .frame) rows x y ≡ false → picture i z 0 ≡ filled pen (within pen rows (pixelFor deep x y v)) (picture i z 0)
-  unfolding within filled
+  pub store-outside : (deep : Bool) → inMemory (pen .frame) rows x y ≡ false → picture i z 0 ≡ filled pen (storable pen rows (pixelFor deep x y v)) (picture i z 0)
+  unfolding storable filled
   store-outside deep h = rw h
 
   module _ {deep : Bool} {at : ℕ} (is : at ≡ placeOf (pen .frame) x y) (h : inMemory (pen .frame) rows x y ≡ true) where
     -- inside, in I
     pub store-intensity : {i′ : List ℕ} → deep ≡ false → i′ ≡ set i at (newI pen v (getD i at 0))
-        → picture i′ z 0 ≡ filled pen (within pen rows (pixelFor deep x y v)) (picture i z 0)
-    unfolding within filled stored storedI storedZ
+        → picture i′ z 0 ≡ filled pen (storable pen rows (pixelFor deep x y v)) (picture i z 0)
+    unfolding storable filled stored storedI storedZ
     store-intensity d e = rw (h, d, e, is, set-getD z)
 
     -- inside, in Z
     pub store-deep : {z′ : List ℕ} → deep ≡ true → z′ ≡ set z at (cond (pen .zenable) v (getD z at 0))
-        → picture i z′ 0 ≡ filled pen (within pen rows (pixelFor deep x y v)) (picture i z 0)
-    unfolding within filled stored storedI storedZ
+        → picture i z′ 0 ≡ filled pen (storable pen rows (pixelFor deep x y v)) (picture i z 0)
+    unfolding storable filled stored storedI storedZ
     store-deep d e = rw (h, d, e, is, set-getD i)
 
 module _ (frame : Frame) (i z : List ℕ) (x y : ℕ) where
@@ -142,8 +142,8 @@ module _ (frame : Frame) (i z : List ℕ) (x y : ℕ) where
     read-intensity d = rw (h, d, is)
 
 -- a pixel that is stored lies inside the memory
-pub within-inside : (pen : Pen) (rows : ℕ) (s q : Store) → List·Memᴰ q (within pen rows s) → inMemory (pen .frame) rows (q .x) (q .y) ≡ true
-unfolding within
+pub within-inside : (pen : Pen) (rows : ℕ) (s q : Store) → List·Memᴰ q (storable pen rows s) → inMemory (pen .frame) rows (q .x) (q .y) ≡ true
+unfolding storable
 within-inside pen rows s q = go (inMemory (pen .frame) rows (s .x) (s .y)) refl
   where
     go : (b : Bool) → inMemory (pen .frame) rows (s .x) (s .y) ≡ b → List·Memᴰ q (cond b (s ∷ []) []) → inMemory (pen .frame) rows (q .x) (q .y) ≡ true
@@ -151,8 +151,8 @@ within-inside pen rows s q = go (inMemory (pen .frame) rows (s .x) (s .y)) refl
     go false h u = absurd (List·Memᴰ·not-nil u)
 
 -- and is that pixel
-pub within-is : (pen : Pen) (rows : ℕ) (s q : Store) → List·Memᴰ q (within pen rows s) → q ≡ s
-unfolding within
+pub within-is : (pen : Pen) (rows : ℕ) (s q : Store) → List·Memᴰ q (storable pen rows s) → q ≡ s
+unfolding storable
 within-is pen rows s q = go (inMemory (pen .frame) rows (s .x) (s .y))
   where
     go : (b : Bool) → List·Memᴰ q (cond b (s ∷ []) []) → q ≡ s

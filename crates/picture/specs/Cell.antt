@@ -22,8 +22,8 @@ abbrev pub cellAt : Picture → ℕ → Cell
 cellAt p at = cell (getD (p .i) at 0) (getD (p .z) at 0)
 
 -- what an offer leaves of them
-unfoldable pub after : Pen → Cell → Offer → Cell
-after pen c o = cond (passes pen (o .kind) (o .z) (c .z)) (cell (newI pen (o .i) (c .i)) (newZ pen (o .kind) (o .z) (c .z))) c
+unfoldable pub offerLeaves : Pen → Cell → Offer → Cell
+offerLeaves pen c o = cond (passes pen (o .kind) (o .z) (c .z)) (cell (newI pen (o .i) (c .i)) (newZ pen (o .kind) (o .z) (c .z))) c
 
 -- the offers that are made at a place
 unfoldable pub there : Frame → ℕ → List Offer → List Offer

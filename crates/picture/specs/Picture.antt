@@ -71,9 +71,9 @@ stepAt pen kind at i z p =
     p
 
 -- one offer
-unfoldable pub step : Pen → Picture → Offer → Picture
-step pen p o = stepAt pen (o .kind) (placeOf (pen .frame) (o .x) (o .y)) (o .i) (o .z) p
+unfoldable pub drawOne : Pen → Picture → Offer → Picture
+drawOne pen p o = stepAt pen (o .kind) (placeOf (pen .frame) (o .x) (o .y)) (o .i) (o .z) p
 
 -- offers, one after the other
 unfoldable pub drawn : Pen → List Offer → Picture → Picture
-drawn pen os p = foldl (step pen) p os
+drawn pen os p = foldl (drawOne pen) p os

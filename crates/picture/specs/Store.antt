@@ -42,8 +42,8 @@ unfoldable pub filled : Pen → List Store → Picture → Picture
 filled pen ss p = foldl (stored pen) p ss
 
 -- a pixel inside the memory, of which so many rows are in use: itself, or nothing
-unfoldable pub within : Pen → ℕ → Store → List Store
-within pen rows s = cond (inMemory (pen .frame) rows (s .x) (s .y)) (s ∷ []) []
+unfoldable pub storable : Pen → ℕ → Store → List Store
+storable pen rows s = cond (inMemory (pen .frame) rows (s .x) (s .y)) (s ∷ []) []
 
 -- the number that is read at a pixel, in Z or in I: 0 outside the memory
 unfoldable pub readOf : Frame → Bool → ℕ → ℕ → List ℕ → List ℕ → ℕ

@@ -3,7 +3,7 @@ ghost use mathlib.Core.Path.{_≡_};
 ghost use mathlib.Core.Bool.{cond};
 ghost use Prim.Native.Nat.{_<_};
 ghost use lib.ListN.{length, getD, set};
-ghost use Rattle.picture.specs.Store.{pixelFor, within, readOf};
+ghost use Rattle.picture.specs.Store.{pixelFor, storable, readOf};
 ghost use Rattle.picture.specs.Lent.{Fills};
 use crate::Frame;
 use crate::Pen;
@@ -23,7 +23,7 @@ fn store_depth(pen: Pen, at: usize, z: u16, zm: &mut [u16])
 
 // A number, stored in Z or in I where its pixel is inside the memory.
 pub fn store(pen: Pen, deep: bool, x: u16, y: u16, value: u16, im: &mut [u16], zm: &mut [u16])
-    ensures { λ _. ⌜ Fills pen (λ rows. within pen rows (pixelFor deep x y value)) im zm ⌝ }
+    ensures { λ _. ⌜ Fills pen (λ rows. storable pen rows (pixelFor deep x y value)) im zm ⌝ }
 {
     let frame = pen.frame;
     if is_inside(frame, x, y, im.len(), zm.len()) {

@@ -112,16 +112,16 @@ transferredOf r = withRegion r (nextPixel (r .region))
 -- ---- words
 
 -- the record after an accepted word; the last three are never accepted
-unfoldable pub after : Registers → Word → Registers
-after r (Init d) = initOf r d
-after r (Aux n) = withParked r (awaiting n)
-after r (Parm v) = parmOf r v
-after r (At c n) = coordinateOf r c n
-after r (Img d) = withParked r (awaiting (imgNumber d))
-after r (Ptrn v) = transferredOf r
-after r Reserved = r
-after r Unmodelled = r
-after r Unknown = r
+unfoldable pub accepted : Registers → Word → Registers
+accepted r (Init d) = initOf r d
+accepted r (Aux n) = withParked r (awaiting n)
+accepted r (Parm v) = parmOf r v
+accepted r (At c n) = coordinateOf r c n
+accepted r (Img d) = withParked r (awaiting (imgNumber d))
+accepted r (Ptrn v) = transferredOf r
+accepted r Reserved = r
+accepted r Unmodelled = r
+accepted r Unknown = r
 
 -- the figure that an accepted word completes
 unfoldable pub completedBy : Registers → Word → Completed

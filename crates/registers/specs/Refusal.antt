@@ -8,7 +8,7 @@ use Rattle.registers.specs.declared.word.Word.{Word}
 use Rattle.registers.specs.declared.word.Word.the-variants.{Init, Aux, Parm, At, Img, Ptrn, Reserved, Unmodelled, Unknown}
 use Rattle.registers.specs.declared.Registers.{Registers}
 use Rattle.registers.specs.Subcommand.{largestAux, unmodelledAux, wants}
-use Rattle.registers.specs.Next.{awaited, after}
+use Rattle.registers.specs.Next.{awaited, accepted}
 use Rattle.registers.specs.Allowed.{allowed, fits}
 use Rattle.registers.specs.Bounds.{inBounds}
 use Rattle.registers.specs.Region.{isOpen}
@@ -114,7 +114,7 @@ refusalOf ni nz r w = lowest 1 (table (isUnfit ni nz r) r w)
 
 -- the record after a word: unchanged if it is refused
 unfoldable pub next : ℕ → ℕ → Registers → Word → Registers
-next ni nz r w = cond (eqb (refusalOf ni nz r w) 0) (after r w) r
+next ni nz r w = cond (eqb (refusalOf ni nz r w) 0) (accepted r w) r
 
 -- ---- the read call
 

@@ -9,7 +9,7 @@ use lib.ListN.{length, getD}
 use borrow.Author.Tests.{eq-eqb}
 use Rattle.picture.specs.Place.{rowsOf, inMemory}
 use Rattle.picture.specs.Picture.{Picture, picture}
-use Rattle.picture.specs.Store.{filled, pixelFor, within, readOf}
+use Rattle.picture.specs.Store.{filled, pixelFor, storable, readOf}
 use Rattle.picture.proofs.Stores.{filled-i, filled-z, filled-passed, read-outside}
 use Rattle.picture.proofs.Pictures.{Low, left, read-elsewhere, read-back, read-stored}
 use Rattle.registers.specs.declared.Region.{Region}
@@ -19,7 +19,7 @@ use Rattle.registers.specs.declared.word.Word.the-variants.{Ptrn}
 use Rattle.registers.specs.Record.{isOn, iBit, zBit, nothingAwaited, regionOf, noRegion, withParked, withRegion}
 use Rattle.registers.specs.Region.{moved, nextPixel}
 use Rattle.registers.specs.Subcommand.{subcommandOf}
-use Rattle.registers.specs.Next.{penOf, isDeepPicture, after, completedBy}
+use Rattle.registers.specs.Next.{penOf, isDeepPicture, accepted, completedBy}
 use Rattle.registers.specs.Bounds.{inBounds}
 use Rattle.registers.specs.Refusal.{isCold, awaits, isUnfit, refusalOf}
 use Rattle.registers.proofs.Refusals.{accepted-when, given-14, read-when, read-14}
@@ -35,7 +35,7 @@ use Rattle.chip.specs.Chip.{wordStores, chip}
 use Rattle.chip.specs.Read.{readAs, readNumber, reading}
 use Rattle.chip.proofs.Words.{word-stored}
 use Rattle.chip.proofs.Reading.{read-accepted, read-refused}
-use Rattle.reload.specs.Reload.{Corners, opening, reads, readsLeave, taking, saving, savingLeaves, loading, Allowed, Ready, Word16, apart, sizeOf, stepped, shown, Reload}
+use Rattle.reload.specs.Reload.{Corners, opening, reads, readsLeave, taking, saving, savingLeaves, loading, Allowed, Ready, Word16, apart, sizeOf, stepped, readBack, Reload}
 use Rattle.reload.proofs.Walk.{turned, remaining, Goes, ends, goes, goes-of, size-remaining, walked, stands-at}
 use Rattle.reload.proofs.Opened.{openedAs, opened}
 
@@ -71,10 +71,10 @@ module _ (r : Registers) (begun : isCold r ≡ false) (idle : awaits r ≡ false
   put g v m = memories (drawn g v m .i) (drawn g v m .z)
 
   put-i : (g : Region) (v : ℕ) (m : Memories) → length (put g v m .i) ≡ length (m .i)
-  put-i g v m = filled-i (penOf r) (within (penOf r) (rowsOf (r .frame) (length (m .i)) (length (m .z))) (pixelFor (isDeepPicture r) (g .x) (g .y) v)) (picture (m .i) (m .z) 0)
+  put-i g v m = filled-i (penOf r) (storable (penOf r) (rowsOf (r .frame) (length (m .i)) (length (m .z))) (pixelFor (isDeepPicture r) (g .x) (g .y) v)) (picture (m .i) (m .z) 0)
 
   put-z : (g : Region) (v : ℕ) (m : Memories) → length (put g v m .z) ≡ length (m .z)
-  put-z g v m = filled-z (penOf r) (within (penOf r) (rowsOf (r .frame) (length (m .i)) (length (m .z))) (pixelFor (isDeepPicture r) (g .x) (g .y) v)) (picture (m .i) (m .z) 0)
+  put-z g v m = filled-z (penOf r) (storable (penOf r) (rowsOf (r .frame) (length (m .i)) (length (m .z))) (pixelFor (isDeepPicture r) (g .x) (g .y) v)) (picture (m .i) (m .z) 0)
 
   put-same : (g : Region) (v : ℕ) (m : Memories) → Same m → Same (put g v m)
   put-same g v m h = put-i g v m ∙ h ∙ sym (put-z g v m)
@@ -113,15 +113,15 @@ module _ (r : Registers) (begun : isCold r ≡ false) (idle : awaits r ≡ false
         })
 
     ptrn-step : (v : ℕ) → inBounds (at 1 g) ≡ true → stepOf chip (at 1 g) (Ptrn v) m ≡ outcome 0 0 (withRegion r (nextPixel (turned 1 g))) (put g v m)
-    unfolding completedBy wordStores after
+    unfolding completedBy wordStores accepted
     ptrn-step v s =
         sym (word-stored (at 1 g) (Ptrn v) (m .i) (m .z) refl refl (ptrn-on v s) {i′ = drawn g v m .i} {z′ = drawn g v m .z} refl refl
         (ap (λ (n : ℕ). picture (drawn g v m .i) (drawn g v m .z) n)
-        (sym (filled-passed (penOf r) (within (penOf r) (rowsOf (r .frame) (length (m .i)) (length (m .z))) (pixelFor (isDeepPicture r) (g .x) (g .y) v)) (picture (m .i) (m .z) 0))))
+        (sym (filled-passed (penOf r) (storable (penOf r) (rowsOf (r .frame) (length (m .i)) (length (m .z))) (pixelFor (isDeepPicture r) (g .x) (g .y) v)) (picture (m .i) (m .z) 0))))
         refl)
 
     ptrn-next : ℕ → inBounds (at 1 g) ≡ true → inBounds (withRegion r (nextPixel (turned 1 g))) ≡ true
-    unfolding after
+    unfolding accepted
     ptrn-next v s = after-kept (length (m .i)) (length (m .z)) (at 1 g) (Ptrn v) (ptrn-on v s)
 
   -- with no region open every PTRN is refused
@@ -150,7 +150,7 @@ module _ (r : Registers) (begun : isCold r ≡ false) (idle : awaits r ≡ false
       (λ e. subst (λ (a : Reading). LeftAs (readsLeave n (a .registers) m)) (sym (read-refused (withRegion r k) m e)) (reads-leave n k m s))
 
   loads-leave : (vs : List ℕ) (k : Region) (m : Memories) → inBounds (withRegion r k) ≡ true → LeftAs (taking (withRegion r k) (map Ptrn vs) m .registers)
-  unfolding after
+  unfolding accepted
   loads-leave [] k m s = record { region = k; is = refl; sound = s }
   loads-leave (v ∷ vs) k m s =
       step-either chip (withRegion r k) (Ptrn v) m (λ o. LeftAs (taking (o .registers) (map Ptrn vs) (o .memories) .registers))
@@ -346,15 +346,15 @@ module _ (r : Registers) (begun : isCold r ≡ false) (idle : awaits r ≡ false
             sym (read-outside (r .frame) (put g v m .i) (put g v m .z) (g .x) (g .y) (isDeepPicture r)
             (ap (λ (rows : ℕ). inMemory (r .frame) rows (g .x) (g .y)) (put-rows g v m) ∙ e))
 
-    no-more : (vs : List ℕ) (q : Registers) (m : Memories) (rows : ℕ) (g : Region) → length vs ≡ 0 → reads (length vs) q m ≡ shown (r .frame) rows g vs
-    unfolding reads shown
+    no-more : (vs : List ℕ) (q : Registers) (m : Memories) (rows : ℕ) (g : Region) → length vs ≡ 0 → reads (length vs) q m ≡ readBack (r .frame) rows g vs
+    unfolding reads readBack
     no-more [] q m rows g e = refl
     no-more (v ∷ vs) q m rows g e = absurd (omega (arith, e))
 
     back : (vs : List ℕ) (g : Region) (m : Memories) → Same m → inBounds (at 1 g) ≡ true → inBounds (at 2 g) ≡ true → ((k : ℕ) → Word16 (getD vs k 0))
         → length vs ≤ remaining g + 1
-        → reads (length vs) (at 2 g) (taking (at 1 g) (map Ptrn vs) m .memories) ≡ shown (r .frame) (rowsOf (r .frame) (length (m .i)) (length (m .z))) (turned 1 g) vs
-    unfolding reads shown
+        → reads (length vs) (at 2 g) (taking (at 1 g) (map Ptrn vs) m .memories) ≡ readBack (r .frame) (rowsOf (r .frame) (length (m .i)) (length (m .z))) (turned 1 g) vs
+    unfolding reads readBack
     back [] g m same s₁ s₂ low l = refl
     back (v ∷ vs) g m same s₁ s₂ low l =
         ap (λ (o : Outcome Registers Memories). reads (suc (length vs)) (at 2 g) (taking (o .registers) (map Ptrn vs) (o .memories) .memories)) (ptrn-step g m same v s₁)
@@ -373,9 +373,9 @@ module _ (r : Registers) (begun : isCold r ≡ false) (idle : awaits r ≡ false
         go : Goes g
             → ((h : Region) → inBounds (at 1 h) ≡ true → inBounds (at 2 h) ≡ true → length vs ≤ remaining h + 1
             → reads (length vs) (at 2 h) (taking (at 1 h) (map Ptrn vs) (put g v m) .memories)
-            ≡ shown (r .frame) (rowsOf (r .frame) (length (put g v m .i)) (length (put g v m .z))) (turned 1 h) vs)
+            ≡ readBack (r .frame) (rowsOf (r .frame) (length (put g v m .i)) (length (put g v m .z))) (turned 1 h) vs)
             → look end (g .x) (g .y) ∷ reads (length vs) (withRegion r (nextPixel (turned 2 g))) end
-            ≡ cond (inMemory (r .frame) rows (g .x) (g .y)) v 0 ∷ shown (r .frame) rows (nextPixel (turned 1 g)) vs
+            ≡ cond (inMemory (r .frame) rows (g .x) (g .y)) v 0 ∷ readBack (r .frame) rows (nextPixel (turned 1 g)) vs
         go (ends e z) rest =
             ap₂ (λ (a : ℕ) (l : List ℕ). a ∷ l)
             (ap (λ (a : Region). look (taking (withRegion r a) (map Ptrn vs) (put g v m) .memories) (g .x) (g .y)) (e 1)
@@ -391,7 +391,7 @@ module _ (r : Registers) (begun : isCold r ≡ false) (idle : awaits r ≡ false
             ∙ keeps vs (moved g x y) (put g v m) (put-same g v m same) s (g .x) (g .y) b ∙ put-look g v m (low 0))
             (ap₂ (λ (a b : Region). reads (length vs) (withRegion r b) (taking (withRegion r a) (map Ptrn vs) (put g v m) .memories)) (e 1) (e 2)
             ∙ rest (moved g x y) s t h
-            ∙ ap₂ (λ (n : ℕ) (a : Region). shown (r .frame) n a vs) (put-rows g v m) (sym (e 1)))
+            ∙ ap₂ (λ (n : ℕ) (a : Region). readBack (r .frame) n a vs) (put-rows g v m) (sym (e 1)))
 
 -- ---- the theorem
 
@@ -487,7 +487,7 @@ module _ (c : Corners) (r : Registers) (m : Memories) (k : Allowed c) (q : Ready
   reread : (pixels : List ℕ) → isOn iBit (r .modes .hcontrol) ≡ true → isOn zBit (r .modes .hcontrol) ≡ true → r .modes .planes ≡ 65535
       → ((i : ℕ) → Word16 (getD pixels i 0)) → length pixels ≤ sizeOf c
       → saving (length pixels) c (loading c pixels r m .registers) (loading c pixels r m .memories)
-      ≡ shown (r .frame) (rowsOf (r .frame) (length (m .i)) (length (m .z))) (regionOf 1 (c .x0) (c .y0) (c .x1) (c .y1)) pixels
+      ≡ readBack (r .frame) (rowsOf (r .frame) (length (m .i)) (length (m .z))) (regionOf 1 (c .x0) (c .y0) (c .x1) (c .y1)) pixels
   reread pixels ion zon all low l =
       let into = opened 0 (omega arith) c r m k q in
       let kept = loads-leave calm (q .begun) calm-idle pixels (turned 1 first) m (into .1) in

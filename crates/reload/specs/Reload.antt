@@ -97,9 +97,9 @@ abbrev pub stepped : ℕ → ℕ → ℕ → ℕ
 stepped a b k = cond (ltb a b) (a + k) (a - k)
 
 -- what is read of pixels that were written along a region: each inside the memory is itself, each outside 0
-unfoldable pub shown : Frame → ℕ → Region → List ℕ → List ℕ
-shown frame rows g [] = []
-shown frame rows g (v ∷ vs) = cond (inMemory frame rows (g .x) (g .y)) v 0 ∷ shown frame rows (nextPixel g) vs
+unfoldable pub readBack : Frame → ℕ → Region → List ℕ → List ℕ
+readBack frame rows g [] = []
+readBack frame rows g (v ∷ vs) = cond (inMemory frame rows (g .x) (g .y)) v 0 ∷ readBack frame rows (nextPixel g) vs
 
 -- ---- the theorem
 
@@ -128,4 +128,4 @@ pub record Reload : Type 0 where
       → isOn iBit (r .modes .hcontrol) ≡ true → isOn zBit (r .modes .hcontrol) ≡ true → r .modes .planes ≡ 65535
       → ((k : ℕ) → Word16 (getD pixels k 0)) → length pixels ≤ sizeOf c
       → saving (length pixels) c (loading c pixels r m .registers) (loading c pixels r m .memories)
-      ≡ shown (r .frame) (rowsOf (r .frame) (length (m .i)) (length (m .z))) (regionOf 1 (c .x0) (c .y0) (c .x1) (c .y1)) pixels
+      ≡ readBack (r .frame) (rowsOf (r .frame) (length (m .i)) (length (m .z))) (regionOf 1 (c .x0) (c .y0) (c .x1) (c .y1)) pixels

@@ -8,7 +8,7 @@ use borrow.Author.Tests.{ltb-true, ltb-false}
 use lib.ListN.{length, drop, length-append}
 use lib.Dec.{ltb}
 use lib.Seq.{length-take-le}
-use Rattle.stream.specs.Calls.{Outcome, over, written, outcome}
+use Rattle.stream.specs.Calls.{Outcome, over, written, concluded}
 use Rattle.stream.proofs.Calls.{no-room, room}
 use Rattle.report.specs.Calls.{writingText, wrote, Put, Stands}
 use Rattle.report.specs.declared.Written.{Written}
@@ -18,12 +18,12 @@ use Rattle.report.proofs.Putting.{put-over}
 module _ (text out : List ℕ) where
   -- a text that does not fit is not written
   pub unwritten : length out < length text → wrote NoRoom out ≡ writingText text out
-  unfolding writingText outcome
+  unfolding writingText concluded
   unwritten h = rw (no-room text out h)
 
   -- a text that fits is written
   pub writes : length text ≤ length out → writingText text out ≡ written text out
-  unfolding writingText outcome
+  unfolding writingText concluded
   writes h = rw (room text out h)
 
   pub done : {left : List ℕ} {n : ℕ} → length text ≤ length out → Put text out 0 left n → wrote (Done n) left ≡ writingText text out

@@ -6,14 +6,14 @@ use mathlib.Core.List.{List}
 use lib.ListN.{length, take}
 use lib.Dec.{leb}
 use lib.Seq.{sets}
-use Rattle.stream.specs.Calls.{Outcome, outcome, noRoom, over}
+use Rattle.stream.specs.Calls.{Outcome, concluded, noRoom, over}
 use Rattle.report.specs.Text.{report}
 use Rattle.report.specs.declared.Written.{Written}
 use Rattle.report.specs.declared.Written.the-variants.{Done, NoRoom}
 
 -- writing checks 13
 unfoldable pub writingText : List ℕ → List ℕ → Outcome
-writingText text out = outcome (noRoom text out) text out
+writingText text out = concluded (noRoom text out) text out
 
 -- the text of a run
 abbrev pub writing : ℕ → ℕ → ℕ → ℕ → List ℕ → List ℕ → List ℕ → Outcome

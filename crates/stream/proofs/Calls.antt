@@ -8,7 +8,7 @@ use borrow.Author.Tests.{lt-ltb, le-ltb, ltb-false, eqb-true, ne-eqb}
 use lib.ListN.{length}
 use lib.Dec.{ltb, eqb}
 use Rattle.stream.specs.Format.{fit, unpackOf, packOf, wordAt}
-use Rattle.stream.specs.Calls.{badLength, badTail, checked, noRoom, over, Outcome, written, refused, outcome, unpacking, packing, told, entry, wordCount, wordEntry, answer, answered}
+use Rattle.stream.specs.Calls.{badLength, badTail, checked, noRoom, over, Outcome, written, refused, concluded, unpacking, packing, codedTold, entry, wordCount, wordEntry, answer, answered}
 use Rattle.stream.specs.declared.Coded.{Coded}
 use Rattle.stream.specs.declared.Coded.the-variants.{Done, BadWord, BadLength, BadTail, NoRoom}
 
@@ -76,8 +76,8 @@ room-told result out = go (ltb (length out) (length result)) refl
     go false t e = ltb-false (length out) (length result) t
 
 -- an outcome tells the number that it is refused with
-pub refusal-told : (number : ℕ) (result out : List ℕ) → outcome number result out .refusal ≡ number
-unfolding outcome
+pub refusal-told : (number : ℕ) (result out : List ℕ) → concluded number result out .refusal ≡ number
+unfolding concluded
 refusal-told number result out = go (eqb number 0) refl
   where
     go : (b : Bool) → eqb number 0 ≡ b → (cond {A = Outcome} b (written result out) (refused number out)) .refusal ≡ number
@@ -87,37 +87,37 @@ refusal-told number result out = go (eqb number 0) refl
 -- ---- unpacking
 
 module _ (s out : List ℕ) where
-  pub unpack-cut : badLength s ≡ true → told BadLength out ≡ unpacking s out
-  unfolding unpacking outcome
+  pub unpack-cut : badLength s ≡ true → codedTold BadLength out ≡ unpacking s out
+  unfolding unpacking concluded
   unpack-cut a = rw (cut-told s (noRoom (unpackOf s) out) a)
 
-  pub unpack-tail : badLength s ≡ false → badTail s ≡ true → told BadTail out ≡ unpacking s out
-  unfolding unpacking outcome
+  pub unpack-tail : badLength s ≡ false → badTail s ≡ true → codedTold BadTail out ≡ unpacking s out
+  unfolding unpacking concluded
   unpack-tail a b = rw (tail-told s (noRoom (unpackOf s) out) a b)
 
-  pub unpack-short : badLength s ≡ false → badTail s ≡ false → length out < length (unpackOf s) → told NoRoom out ≡ unpacking s out
-  unfolding unpacking outcome
+  pub unpack-short : badLength s ≡ false → badTail s ≡ false → length out < length (unpackOf s) → codedTold NoRoom out ≡ unpacking s out
+  unfolding unpacking concluded
   unpack-short a b h = rw (next-told s (noRoom (unpackOf s) out) a b, no-room (unpackOf s) out h)
 
   pub unpack-done : {n : ℕ} {left : List ℕ} → badLength s ≡ false → badTail s ≡ false → length (unpackOf s) ≤ length out
-      → n ≡ length (unpackOf s) → left ≡ over (unpackOf s) out → told (Done n) left ≡ unpacking s out
-  unfolding unpacking outcome
+      → n ≡ length (unpackOf s) → left ≡ over (unpackOf s) out → codedTold (Done n) left ≡ unpacking s out
+  unfolding unpacking concluded
   unpack-done a b h p q = rw (next-told s (noRoom (unpackOf s) out) a b, room (unpackOf s) out h, p, q)
 
 -- ---- packing
 
 module _ (ws out : List ℕ) where
-  pub pack-large : fit 20 ws ≡ false → told BadWord out ≡ packing ws out
-  unfolding packing outcome
+  pub pack-large : fit 20 ws ≡ false → codedTold BadWord out ≡ packing ws out
+  unfolding packing concluded
   pack-large a = rw a
 
-  pub pack-short : fit 20 ws ≡ true → length out < length (packOf ws) → told NoRoom out ≡ packing ws out
-  unfolding packing outcome
+  pub pack-short : fit 20 ws ≡ true → length out < length (packOf ws) → codedTold NoRoom out ≡ packing ws out
+  unfolding packing concluded
   pack-short a h = rw (a, no-room (packOf ws) out h)
 
   pub pack-done : {n : ℕ} {left : List ℕ} → fit 20 ws ≡ true → length (packOf ws) ≤ length out
-      → n ≡ length (packOf ws) → left ≡ over (packOf ws) out → told (Done n) left ≡ packing ws out
-  unfolding packing outcome
+      → n ≡ length (packOf ws) → left ≡ over (packOf ws) out → codedTold (Done n) left ≡ packing ws out
+  unfolding packing concluded
   pack-done a h p q = rw (a, room (packOf ws) out h, p, q)
 
 -- ---- the entries for C
@@ -151,8 +151,8 @@ answer-told {left = left} e f = ap (λ (n : ℕ). answer n left) f ∙ ap answer
 
 -- ---- what is told to be written fits the output
 
-size-fits : (number : ℕ) (result out : List ℕ) → (number ≡ 0 → length result ≤ length out) → outcome number result out .size ≤ length out
-unfolding outcome
+size-fits : (number : ℕ) (result out : List ℕ) → (number ≡ 0 → length result ≤ length out) → concluded number result out .size ≤ length out
+unfolding concluded
 size-fits number result out h = go (eqb number 0) refl
   where
     go : (b : Bool) → eqb number 0 ≡ b → cond b (written result out) (refused number out) .size ≤ length out
@@ -160,17 +160,17 @@ size-fits number result out h = go (eqb number 0) refl
     go false e = omega arith
 
 -- an answer's length is that of its outcome
-done-size : {o : Outcome} {answer : Coded} {left : List ℕ} {n : ℕ} → told answer left ≡ o → answer ≡ Done n → n ≡ o .size
+done-size : {o : Outcome} {answer : Coded} {left : List ℕ} {n : ℕ} → codedTold answer left ≡ o → answer ≡ Done n → n ≡ o .size
 done-size e d = ap (λ (o : Outcome). o .size) (rw d at e)
 
-pub unpacked-fits : (s out : List ℕ) {answer : Coded} {left : List ℕ} {n : ℕ} → told answer left ≡ unpacking s out → answer ≡ Done n → n ≤ length out
+pub unpacked-fits : (s out : List ℕ) {answer : Coded} {left : List ℕ} {n : ℕ} → codedTold answer left ≡ unpacking s out → answer ≡ Done n → n ≤ length out
 unfolding unpacking
 unpacked-fits s out e d =
     let number = checked s (noRoom (unpackOf s) out) in
     let low = size-fits number (unpackOf s) out (λ z. room-told (unpackOf s) out (good s (noRoom (unpackOf s) out) z .2)) in
     rw (done-size e d) low
 
-pub packed-fits : (ws out : List ℕ) {answer : Coded} {left : List ℕ} {n : ℕ} → told answer left ≡ packing ws out → answer ≡ Done n → n ≤ length out
+pub packed-fits : (ws out : List ℕ) {answer : Coded} {left : List ℕ} {n : ℕ} → codedTold answer left ≡ packing ws out → answer ≡ Done n → n ≤ length out
 unfolding packing
 packed-fits ws out e d = rw (done-size e d) (size-fits (cond (fit 20 ws) (noRoom (packOf ws) out) 1) (packOf ws) out (go (fit 20 ws)))
   where

@@ -9,7 +9,7 @@ use lib.Seq.{take-append-seam}
 use lib.Arith.{digits-div}
 use lib.Dec.{eqb}
 use Rattle.stream.specs.Format.{bits, fit, unpackOf, packOf, wordAt}
-use Rattle.stream.specs.Calls.{checked, noRoom, over, Outcome, written, unpacking, packing, refusalOf, sizeOf, told, entry, wordCount, wordEntry, Answer, answer, answered}
+use Rattle.stream.specs.Calls.{checked, noRoom, over, Outcome, written, unpacking, packing, codedNumber, sizeOf, codedTold, entry, wordCount, wordEntry, Answer, answer, answered}
 use Rattle.stream.specs.declared.Coded.{Coded}
 use Rattle.stream.specs.declared.Coded.the-variants.{Done, BadWord, BadLength, BadTail, NoRoom}
 use Rattle.stream.proofs.Bits.{Fits, fits, fits-test, bits-split, bits-low}
@@ -23,7 +23,7 @@ codedOf : ℕ → ℕ → Coded
 codedOf number size =
     cond (eqb number 0) (Done size) (cond (eqb number 1) BadWord (cond (eqb number 11) BadLength (cond (eqb number 12) BadTail NoRoom)))
 
-coded-back : (r : Coded) → codedOf (refusalOf r) (sizeOf r) ≡ r
+coded-back : (r : Coded) → codedOf (codedNumber r) (sizeOf r) ≡ r
 unfolding codedOf
 coded-back (Done n) = refl
 coded-back BadWord = refl
@@ -32,7 +32,7 @@ coded-back BadTail = refl
 coded-back NoRoom = refl
 
 -- of `pack` and of `unpack`: the answer and the whole output
-pub settled : {o : Outcome} {r r′ : Coded} {left left′ : List ℕ} → told r left ≡ o → told r′ left′ ≡ o → (r ≡ r′) × (left ≡ left′)
+pub settled : {o : Outcome} {r r′ : Coded} {left left′ : List ℕ} → codedTold r left ≡ o → codedTold r′ left′ ≡ o → (r ≡ r′) × (left ≡ left′)
 settled {r = r} {r′ = r′} p q =
     let same = p ∙ sym q in
     (sym (coded-back r) ∙ ap (λ (t : Outcome). codedOf (t .refusal) (t .size)) same ∙ coded-back r′, ap (λ (t : Outcome). t .left) same)
@@ -65,16 +65,16 @@ unpacks : (s out : List ℕ) → checked s 0 ≡ 0 → length (unpackOf s) ≤ l
 unpacks s out g room = sym (unpack-done s out (good s 0 g .0) (good s 0 g .1) room refl refl)
 
 -- what such a call wrote, taken from the output by the length that it tells
-wrote : (result out : List ℕ) (r : Coded) {left : List ℕ} → told r left ≡ written result out → take (sizeOf r) left ≡ result
+wrote : (result out : List ℕ) (r : Coded) {left : List ℕ} → codedTold r left ≡ written result out → take (sizeOf r) left ≡ result
 wrote result out r e = ap (λ (t : Outcome). take (t .size) (t .left)) e ∙ take-over result out
 
 -- words of 20 bits, packed with room enough and unpacked with room enough, are the same words
 pub words-back : (ws out packed o o′ : List ℕ) (r r′ : Coded)
     → fit 20 ws ≡ true
     → length (packOf ws) ≤ length out
-    → told r packed ≡ packing ws out
+    → codedTold r packed ≡ packing ws out
     → length ws ≤ length o
-    → told r′ o′ ≡ unpacking (take (sizeOf r) packed) o
+    → codedTold r′ o′ ≡ unpacking (take (sizeOf r) packed) o
     → (r′ ≡ Done (length ws)) × (o′ ≡ over ws o)
 words-back ws out packed o o′ r r′ f room p room′ q =
     let stream : take (sizeOf r) packed ≡ packOf ws = wrote (packOf ws) out r (p ∙ packs ws out (fits 20 ws f) room) in
@@ -90,9 +90,9 @@ pub bytes-back : (s out words o o′ : List ℕ) (r r′ : Coded)
     → fit 8 s ≡ true
     → checked s 0 ≡ 0
     → length (unpackOf s) ≤ length out
-    → told r words ≡ unpacking s out
+    → codedTold r words ≡ unpacking s out
     → length s ≤ length o
-    → told r′ o′ ≡ packing (take (sizeOf r) words) o
+    → codedTold r′ o′ ≡ packing (take (sizeOf r) words) o
     → (r′ ≡ Done (length s)) × (o′ ≡ over s o)
 bytes-back s out words o o′ r r′ f g room p room′ q =
     let held : take (sizeOf r) words ≡ unpackOf s = wrote (unpackOf s) out r (p ∙ unpacks s out g room) in
@@ -160,8 +160,8 @@ unrefused s out z =
     (next-told s 0 (g .0) (g .1), room-told (unpackOf s) out (g .2))
 
 pub entries-agree : (s out left : List ℕ) (r : Coded)
-    → told r left ≡ unpacking s out
-    → refusalOf r ≡ 0
+    → codedTold r left ≡ unpacking s out
+    → codedNumber r ≡ 0
     → (wordCount s ≡ sizeOf r) × ((k : ℕ) → k < sizeOf r → wordEntry s k ≡ getD left k 0)
 unfolding wordAt
 entries-agree s out left r p z =

@@ -47,24 +47,24 @@ abbrev pub refused : ℕ → List ℕ → Outcome
 refused number out = record { refusal = number; size = 0; left = out }
 
 -- what comes of a call that its checks refuse with a number, or do not refuse where that is 0
-unfoldable pub outcome : ℕ → List ℕ → List ℕ → Outcome
-outcome number result out = cond (eqb number 0) (written result out) (refused number out)
+unfoldable pub concluded : ℕ → List ℕ → List ℕ → Outcome
+concluded number result out = cond (eqb number 0) (written result out) (refused number out)
 
 -- unpacking checks 11, 12, 13
 unfoldable pub unpacking : List ℕ → List ℕ → Outcome
-unpacking bytes out = outcome (checked bytes (noRoom (unpackOf bytes) out)) (unpackOf bytes) out
+unpacking bytes out = concluded (checked bytes (noRoom (unpackOf bytes) out)) (unpackOf bytes) out
 
 -- packing checks 1 (a word of more than 20 bits), then 13
 unfoldable pub packing : List ℕ → List ℕ → Outcome
-packing words out = outcome (cond (fit 20 words) (noRoom (packOf words) out) 1) (packOf words) out
+packing words out = concluded (cond (fit 20 words) (noRoom (packOf words) out) 1) (packOf words) out
 
 -- the number, and the length, that each answer of the code stands for
-abbrev pub refusalOf : Coded → ℕ
-refusalOf (Done n) = 0
-refusalOf BadWord = 1
-refusalOf BadLength = 11
-refusalOf BadTail = 12
-refusalOf NoRoom = 13
+abbrev pub codedNumber : Coded → ℕ
+codedNumber (Done n) = 0
+codedNumber BadWord = 1
+codedNumber BadLength = 11
+codedNumber BadTail = 12
+codedNumber NoRoom = 13
 
 abbrev pub sizeOf : Coded → ℕ
 sizeOf (Done n) = n
@@ -74,8 +74,8 @@ sizeOf BadTail = 0
 sizeOf NoRoom = 0
 
 -- an answer, with what the call left
-abbrev pub told : Coded → List ℕ → Outcome
-told answer left = record { refusal = refusalOf answer; size = sizeOf answer; left = left }
+abbrev pub codedTold : Coded → List ℕ → Outcome
+codedTold answer left = record { refusal = codedNumber answer; size = sizeOf answer; left = left }
 
 -- ---- the entries for C
 
@@ -93,11 +93,11 @@ wordEntry bytes k = entry (checked bytes (cond (ltb k (length (unpackOf bytes)))
 
 -- an answer, and what the call left in the memory that was lent for it
 pub record Answer : Type 0 where
-  pub told : ℕ
+  pub codedTold : ℕ
   pub left : List ℕ
 
 abbrev pub answer : ℕ → List ℕ → Answer
-answer told left = record { told = told; left = left }
+answer codedTold left = record { codedTold = codedTold; left = left }
 
 -- packing and unpacking as entries give them: the length that was written, or 2 ^ 63 plus the refusal number
 unfoldable pub answered : Outcome → Answer

@@ -1,7 +1,7 @@
 // The entries for the host program in C. Refusing, each answers 2^63 plus the refusal number.
 ghost use mathlib.Core.Path.{_≡_};
 ghost use Prim.Native.Nat.{_+_};
-ghost use Rattle.stream.specs.Calls.{packing, unpacking, refusalOf, sizeOf, entry, wordCount, wordEntry, answer, answered};
+ghost use Rattle.stream.specs.Calls.{packing, unpacking, codedNumber, sizeOf, entry, wordCount, wordEntry, answer, answered};
 use crate::Coded;
 use crate::read::flaw;
 use crate::read::held;
@@ -40,7 +40,7 @@ pub extern "C" fn dextolumen_word_at(bytes: &[u8], k: usize) -> u64
 
 // The length that packing or unpacking wrote, or why it refused.
 fn number_of(coded: Coded) -> u64
-    ensures { λ r. ⌜ r ≡ entry (refusalOf coded) (sizeOf coded) ⌝ }
+    ensures { λ r. ⌜ r ≡ entry (codedNumber coded) (sizeOf coded) ⌝ }
 {
     match coded {
         Coded::Done(n) => n as u64,

@@ -5,7 +5,7 @@ ghost use lib.ListN.{length, getD, take, drop};
 ghost use lib.Seq.{sets};
 ghost use Rattle.stream.specs.Format.{unpackOf, wordAt};
 ghost use Rattle.stream.specs.Loops.{Quad};
-ghost use Rattle.stream.specs.Calls.{badLength, badTail, checked, over, told, unpacking};
+ghost use Rattle.stream.specs.Calls.{badLength, badTail, checked, over, codedTold, unpacking};
 use crate::Coded;
 use crate::word::high_word;
 use crate::word::low_word;
@@ -130,7 +130,7 @@ fn unpack_all(bytes: &[u8], out: &mut [u32])
 
 // Unpacks a stream into `out`, or refuses: the length, then the last half byte, then the room.
 pub fn unpack(bytes: &[u8], out: &mut [u32]) -> Coded
-    ensures { λ r. ⌜ told r (now (out .exit)) ≡ unpacking (now (bytes .entry)) (now (out .entry)) ⌝ }
+    ensures { λ r. ⌜ codedTold r (now (out .exit)) ≡ unpacking (now (bytes .entry)) (now (out .entry)) ⌝ }
 {
     if is_cut(bytes) {
         return Coded::BadLength;

@@ -5,7 +5,7 @@ ghost use mathlib.Core.List.{[], _∷_};
 ghost use lib.ListN.{length};
 ghost use lib.Seq.{sets};
 ghost use Rattle.stream.specs.Format.{packOf, fit};
-ghost use Rattle.stream.specs.Calls.{over, told, packing};
+ghost use Rattle.stream.specs.Calls.{over, codedTold, packing};
 use crate::Coded;
 use crate::word::low_byte;
 use crate::word::seam;
@@ -74,7 +74,7 @@ fn pack_all(words: &[u32], out: &mut [u8])
 
 // Packs words into `out`, or refuses: a word of more than 20 bits, then the room.
 pub fn pack(words: &[u32], out: &mut [u8]) -> Coded
-    ensures { λ r. ⌜ told r (now (out .exit)) ≡ packing (now (words .entry)) (now (out .entry)) ⌝ }
+    ensures { λ r. ⌜ codedTold r (now (out .exit)) ≡ packing (now (words .entry)) (now (out .entry)) ⌝ }
 {
     if all_fit(words) {
         let n = (words.len() * 5 + 1) / 2;

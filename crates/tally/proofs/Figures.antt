@@ -16,7 +16,7 @@ use Rattle.picture.specs.Draw.{spans}
 use Rattle.picture.proofs.Passed.{drawn-leaves-i, drawn-leaves-z}
 use Rattle.picture.proofs.Places.{rows-low}
 use Rattle.picture.proofs.Spans.{spans-same}
-use Rattle.triangle.specs.Offers.{kindOf as triangleKind, offersAt, triangleOffers}
+use Rattle.triangle.specs.Offers.{kindOf as triangleKind, pixelOffers, triangleOffers}
 use Rattle.picture.specs.declared.Vertex.{Vertex}
 use Rattle.line.specs.declared.Mode.{Mode}
 use Rattle.line.specs.declared.Mode.the-variants.{Zero, One, Two}
@@ -51,7 +51,7 @@ muted-step rows r style One a b k = refl
 muted-step rows r style Two a b k = refl
 
 muted-whole : (rows : ℕ) (r : Registers) (f : Completed) → wholeOffers rows (mutedOf r) f ≡ wholeOffers rows r f
-unfolding wholeOffers triangleOffers offersAt segmentOffers spans keep offered inWindow inMemory shows
+unfolding wholeOffers triangleOffers pixelOffers segmentOffers spans keep offered inWindow inMemory shows
 muted-whole rows r Nothing = refl
 muted-whole rows r (Triangle a b c) = refl
 muted-whole rows r (Segment a b) = spans-same _ _ (larger a b + 1) (λ k h. muted-step rows r (styleOf r) (modeOf (r .modes .lmode)) a b k)

@@ -8,7 +8,7 @@ use lib.ListN.{length, getD}
 use Rattle.picture.specs.declared.Pen.{Pen}
 use Rattle.picture.specs.declared.Kind.{Kind}
 use Rattle.picture.specs.Offer.{Offer}
-use Rattle.picture.specs.Picture.{isDeep, comparedOf, wins, passes, Picture, picture, step, drawn}
+use Rattle.picture.specs.Picture.{isDeep, comparedOf, wins, passes, Picture, picture, drawOne, drawn}
 use Rattle.picture.specs.Passed.{spot}
 use Rattle.picture.proofs.Fold.{step-pass, step-fail}
 use Rattle.tally.specs.Hidden.{hides, offeredOf, hiddenOf}
@@ -24,18 +24,18 @@ passes-unhidden pen kind z old = go (pen .depth && isDeep kind) (wins kind (comp
     go false w = refl
 
 -- one pixel passes or is hidden
-step-hidden : (pen : Pen) (o : Offer) (p : Picture) → step pen p o .passed + cond (hides pen (o .kind) (o .z) (getD (p .z) (spot pen o) 0)) 1 0 ≡ p .passed + 1
-unfolding step
+step-hidden : (pen : Pen) (o : Offer) (p : Picture) → drawOne pen p o .passed + cond (hides pen (o .kind) (o .z) (getD (p .z) (spot pen o) 0)) 1 0 ≡ p .passed + 1
+unfolding drawOne
 step-hidden pen o p = go (hides pen (o .kind) (o .z) (getD (p .z) (spot pen o) 0)) refl
   where
-    go : (b : Bool) → hides pen (o .kind) (o .z) (getD (p .z) (spot pen o) 0) ≡ b → step pen p o .passed + cond b 1 0 ≡ p .passed + 1
+    go : (b : Bool) → hides pen (o .kind) (o .z) (getD (p .z) (spot pen o) 0) ≡ b → drawOne pen p o .passed + cond b 1 0 ≡ p .passed + 1
     go true e = rw (step-fail pen (o .kind) (spot pen o) (o .i) (o .z) p (passes-unhidden pen (o .kind) (o .z) _ ∙ ap not e))
     go false e = rw (step-pass pen (o .kind) (spot pen o) (o .i) (o .z) p (passes-unhidden pen (o .kind) (o .z) _ ∙ ap not e)) (omega arith)
 
 pub drawn-hidden : (pen : Pen) (os : List Offer) (p : Picture) → drawn pen os p .passed + hiddenOf pen os p ≡ p .passed + length os
 unfolding drawn hiddenOf
 drawn-hidden pen [] p = refl
-drawn-hidden pen (o ∷ os) p = omega (arith, drawn-hidden pen os (step pen p o), step-hidden pen o p)
+drawn-hidden pen (o ∷ os) p = omega (arith, drawn-hidden pen os (drawOne pen p o), step-hidden pen o p)
 
 module _ (pen : Pen) (os : List Offer) (i z : List ℕ) where
   -- every pixel that is offered passes or is hidden
@@ -51,4 +51,4 @@ pub untested-hidden : (pen : Pen) (os : List Offer) (p : Picture) → pen .depth
 unfolding hiddenOf
 untested-hidden pen [] p h = refl
 untested-hidden pen (o ∷ os) p h =
-    omega (arith, ap {B = ℕ} (λ (b : Bool). cond b 1 0) (untested-hides pen (o .kind) (o .z) (getD (p .z) (spot pen o) 0) h), untested-hidden pen os (step pen p o) h)
+    omega (arith, ap {B = ℕ} (λ (b : Bool). cond b 1 0) (untested-hides pen (o .kind) (o .z) (getD (p .z) (spot pen o) 0) h), untested-hidden pen os (drawOne pen p o) h)

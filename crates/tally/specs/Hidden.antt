@@ -6,7 +6,7 @@ use lib.ListN.{length, getD}
 use Rattle.picture.specs.declared.Pen.{Pen}
 use Rattle.picture.specs.declared.Kind.{Kind}
 use Rattle.picture.specs.Offer.{Offer}
-use Rattle.picture.specs.Picture.{isDeep, comparedOf, wins, Picture, step}
+use Rattle.picture.specs.Picture.{isDeep, comparedOf, wins, Picture, drawOne}
 use Rattle.picture.specs.Passed.{spot}
 
 -- a pixel is hidden by the depth that stands at its place: the depth test is on, the pixel has depth, and its depth does not win
@@ -20,4 +20,4 @@ offeredOf os = length os
 -- how many of them are hidden, each by what stands at its place when it comes
 unfoldable pub hiddenOf : Pen → List Offer → Picture → ℕ
 hiddenOf pen [] p = 0
-hiddenOf pen (o ∷ os) p = cond (hides pen (o .kind) (o .z) (getD (p .z) (spot pen o) 0)) 1 0 + hiddenOf pen os (step pen p o)
+hiddenOf pen (o ∷ os) p = cond (hides pen (o .kind) (o .z) (getD (p .z) (spot pen o) 0)) 1 0 + hiddenOf pen os (drawOne pen p o)

@@ -20,7 +20,7 @@ use Rattle.picture.proofs.Passed.{drawn-leaves-i, drawn-leaves-z}
 use Rattle.ground.proofs.Truth.{both, same-test}
 use Rattle.picture.proofs.Spans.{spans-zero, spans-suc, spans-same}
 use Rattle.triangle.specs.Edge.{covers, edgeAt}
-use Rattle.triangle.specs.Offers.{pixelAt, offersAt, rowOffers, turnedOffers, cornersOf, triangleOffers}
+use Rattle.triangle.specs.Offers.{pixelAt, pixelOffers, rowOffers, turnedOffers, cornersOf, triangleOffers}
 use Rattle.line.specs.declared.Mode.{Mode}
 use Rattle.line.specs.declared.Mode.the-variants.{Zero, One, Two}
 use Rattle.line.specs.declared.Style.{Style}
@@ -109,16 +109,16 @@ module _ (x y : ℕ) where
       -- ---- triangles
 
       pixel-aimed : (constant : Bool) (p q s u : Vertex) (a b : ℕ)
-          → offersAt (penOf (aimed x y r)) rows constant (cornersOf p q s u) a b ≡ onPixel x y (offersAt (penOf r) rows constant (cornersOf p q s u) a b)
-      unfolding offersAt
+          → pixelOffers (penOf (aimed x y r)) rows constant (cornersOf p q s u) a b ≡ onPixel x y (pixelOffers (penOf r) rows constant (cornersOf p q s u) a b)
+      unfolding pixelOffers
       pixel-aimed constant p q s u a b = at-cond (covers (cornersOf p q s u) a b) (keep (penOf r) rows (pixelAt constant (cornersOf p q s u) a b)) [] (keep-aimed (pixelAt constant (cornersOf p q s u) a b)) (sym at-nil)
 
       row-aimed : (constant : Bool) (p q s u : Vertex) (b : ℕ)
           → rowOffers (penOf (aimed x y r)) rows constant (cornersOf p q s u) b ≡ onPixel x y (rowOffers (penOf r) rows constant (cornersOf p q s u) b)
       row-aimed constant p q s u b =
-          spans-same (λ a. offersAt (penOf (aimed x y r)) rows constant (cornersOf p q s u) a b) (λ a. onPixel x y (offersAt (penOf r) rows constant (cornersOf p q s u) a b)) (r .frame .line)
+          spans-same (λ a. pixelOffers (penOf (aimed x y r)) rows constant (cornersOf p q s u) a b) (λ a. onPixel x y (pixelOffers (penOf r) rows constant (cornersOf p q s u) a b)) (r .frame .line)
           (λ a h. pixel-aimed constant p q s u a b)
-          ∙ sym (at-spans (λ a. offersAt (penOf r) rows constant (cornersOf p q s u) a b) (r .frame .line))
+          ∙ sym (at-spans (λ a. pixelOffers (penOf r) rows constant (cornersOf p q s u) a b) (r .frame .line))
 
       turned-aimed : (constant : Bool) (p q s u : Vertex)
           → turnedOffers (penOf (aimed x y r)) rows constant (cornersOf p q s u) ≡ onPixel x y (turnedOffers (penOf r) rows constant (cornersOf p q s u))

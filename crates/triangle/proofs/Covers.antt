@@ -12,7 +12,7 @@ use Rattle.triangle.specs.declared.Corners.{Corners}
 use Rattle.triangle.specs.declared.Edge.{Edge}
 use Rattle.triangle.specs.declared.Edges.{Edges}
 use Rattle.triangle.specs.declared.Span.{Span}
-use Rattle.triangle.specs.Edge.{edgeAt, inside, within, covers, areaOf}
+use Rattle.triangle.specs.Edge.{edgeAt, inside, passesEdge, covers, areaOf}
 use Rattle.triangle.specs.Loops.{edgesAt, Turned, Ready, short, Keeps, Cuts, Spanned}
 use Rattle.triangle.proofs.Plane.{weights, across, upward}
 
@@ -45,8 +45,8 @@ in-keep e own h = go (ltb (e .minus) (e .plus)) own refl h
 pub keeps-of : (t : Corners) (x y : ℕ) → covers t x y ≡ true → (Keeps (t .a) (t .b) x y) × (Keeps (t .b) (t .c) x y) × (Keeps (t .c) (t .a) x y)
 unfolding covers
 keeps-of t x y h =
-    let k = both (within (t .a) (t .b) x y && within (t .b) (t .c) x y) (within (t .c) (t .a) x y) h in
-    let l = both (within (t .a) (t .b) x y) (within (t .b) (t .c) x y) (k .0) in (
+    let k = both (passesEdge (t .a) (t .b) x y && passesEdge (t .b) (t .c) x y) (passesEdge (t .c) (t .a) x y) h in
+    let l = both (passesEdge (t .a) (t .b) x y) (passesEdge (t .b) (t .c) x y) (k .0) in (
       record { so = in-keep (edgeAt (t .a) (t .b) x y) _ (l .0) },
       record { so = in-keep (edgeAt (t .b) (t .c) x y) _ (l .1) },
       record { so = in-keep (edgeAt (t .c) (t .a) x y) _ (k .1) },

@@ -11,7 +11,7 @@ use lib.Dec.{ltb, eqb}
 use lib.IntN.{ℤ, pos, negsuc, negℤ, subℕ, _+ℤ_, _-ℤ_, _*ℤ_}
 use Rattle.picture.specs.declared.Vertex.{Vertex}
 use Rattle.triangle.specs.declared.Corners.{Corners}
-use Rattle.triangle.specs.Edge.{plusOf, minusOf, edgeAt, closed, inside, within, covers, amount, areaOf}
+use Rattle.triangle.specs.Edge.{plusOf, minusOf, edgeAt, closed, inside, passesEdge, covers, amount, areaOf}
 use Rattle.triangle.specs.Number.{massOf, mixed, shade}
 use Rattle.triangle.specs.Integers.{expression, isPositive, isZero, doubledArea, weighted, Rounded}
 use Rattle.triangle.specs.Loops.{edgesAt, Turned}
@@ -103,7 +103,7 @@ gap-zero (pos (suc k)) p m g = ne-eqb m p (λ e. omega arith)
 gap-zero (negsuc k) p m g = ne-eqb m p (λ e. omega arith)
 
 -- the test of an edge: the expression is positive, or is zero on an edge that runs downward or runs level to the right
-pub edge-sign : (a b : Vertex) (x y : ℕ) → within a b x y ≡ isPositive (expression a b x y) || (isZero (expression a b x y) && closed a b)
+pub edge-sign : (a b : Vertex) (x y : ℕ) → passesEdge a b x y ≡ isPositive (expression a b x y) || (isZero (expression a b x y) && closed a b)
 unfolding inside
 edge-sign a b x y = rw (gap-positive (expression a b x y) _ _ (edge-gap a b x y), gap-zero (expression a b x y) _ _ (edge-gap a b x y))
 

@@ -15,7 +15,7 @@ use Rattle.picture.proofs.Members.{Numbers, Member, every-span, every-kept}
 use Rattle.triangle.specs.declared.Corners.{Corners}
 use Rattle.triangle.specs.Edge.{covers}
 use Rattle.triangle.specs.Number.{shade}
-use Rattle.triangle.specs.Offers.{kindOf, pixelAt, offersAt, rowOffers, turnedOffers, cornersOf, triangleOffers}
+use Rattle.triangle.specs.Offers.{kindOf, pixelAt, pixelOffers, rowOffers, turnedOffers, cornersOf, triangleOffers}
 use Rattle.triangle.specs.Loops.{Turned}
 use Rattle.triangle.proofs.Between.{shade-between}
 use Rattle.triangle.proofs.Rows.{row-length}
@@ -31,8 +31,8 @@ module _ (pen : Pen) (rows : ℕ) (constant : Bool) where
         go true = hl
         go false = shade-between t turned x y h 0 n p q r zero-le zero-le zero-le hp hq hr .1
 
-    pixel-member : (x y : ℕ) (o : Offer) → List·Memᴰ o (offersAt pen rows constant t x y) → Member pen rows (kindOf constant) n o
-    unfolding offersAt pixelAt
+    pixel-member : (x y : ℕ) (o : Offer) → List·Memᴰ o (pixelOffers pen rows constant t x y) → Member pen rows (kindOf constant) n o
+    unfolding pixelOffers pixelAt
     pixel-member x y o m = go (covers t x y) refl m
       where
         go : (k : Bool) → covers t x y ≡ k → List·Memᴰ o (cond k (keep pen rows (pixelAt constant t x y)) []) → Member pen rows (kindOf constant) n o
@@ -51,7 +51,7 @@ module _ (pen : Pen) (rows : ℕ) (constant : Bool) where
     turned-member : (o : Offer) → List·Memᴰ o (turnedOffers pen rows constant t) → Member pen rows (kindOf constant) n o
     turned-member =
         every-span _ (rowOffers pen rows constant t) rows
-        (λ y h. every-span _ (λ x. offersAt pen rows constant t x y) (pen .frame .line) (λ x k. pixel-member x y))
+        (λ y h. every-span _ (λ x. pixelOffers pen rows constant t x y) (pen .frame .line) (λ x k. pixel-member x y))
 
   module _ (a b c : Vertex) where
     -- each offer of a triangle

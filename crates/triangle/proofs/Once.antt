@@ -15,7 +15,7 @@ use Rattle.picture.specs.Draw.{spans}
 use Rattle.picture.proofs.Spans.{spans-zero, spans-suc}
 use Rattle.triangle.specs.declared.Corners.{Corners}
 use Rattle.triangle.specs.Edge.{covers}
-use Rattle.triangle.specs.Offers.{pixelAt, offersAt, rowOffers, turnedOffers, cornersOf, triangleOffers}
+use Rattle.triangle.specs.Offers.{pixelAt, pixelOffers, rowOffers, turnedOffers, cornersOf, triangleOffers}
 use Rattle.triangle.proofs.Rows.{offers-length}
 use Rattle.triangle.proofs.Turning.{triangle-either}
 
@@ -70,8 +70,8 @@ module _ (x y : ℕ) where
 
   module _ (pen : Pen) (rows : ℕ) (constant : Bool) where
     -- another column or row makes none
-    at-else : (t : Corners) (i j : ℕ) → ((i ≡ x) × (j ≡ y) → ⊥) → onPixel x y (offersAt pen rows constant t i j) ≡ []
-    unfolding offersAt keep onPixel pixelAt
+    at-else : (t : Corners) (i j : ℕ) → ((i ≡ x) × (j ≡ y) → ⊥) → onPixel x y (pixelOffers pen rows constant t i j) ≡ []
+    unfolding pixelOffers keep onPixel pixelAt
     at-else t i j h = go (covers t i j) (offered pen rows (pixelAt constant t i j))
       where
         go : (c o : Bool) → onPixel x y (cond c (cond o (pixelAt constant t i j ∷ []) []) []) ≡ []
@@ -85,8 +85,8 @@ module _ (x y : ℕ) where
           arith,
           at-once (rowOffers pen rows constant t) y rows
               (λ j n. at-none _ (pen .frame .line) (λ i l. at-else t i j (λ e. n (e .1)))),
-          at-once (λ i. offersAt pen rows constant t i y) x (pen .frame .line) (λ i n. at-else t i y (λ e. n (e .0))),
-          at-length (offersAt pen rows constant t x y),
+          at-once (λ i. pixelOffers pen rows constant t i y) x (pen .frame .line) (λ i n. at-else t i y (λ e. n (e .0))),
+          at-length (pixelOffers pen rows constant t x y),
           offers-length pen rows constant t y x,
         )
 

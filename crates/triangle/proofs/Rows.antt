@@ -20,18 +20,18 @@ use Rattle.triangle.specs.declared.Edges.{Edges}
 use Rattle.triangle.specs.declared.Span.{Span}
 use Rattle.triangle.specs.Edge.{covers, amount, areaOf}
 use Rattle.triangle.specs.Number.{mixed, shade}
-use Rattle.triangle.specs.Offers.{kindOf, pixelAt, offersAt, rowOffers}
+use Rattle.triangle.specs.Offers.{kindOf, pixelAt, pixelOffers, rowOffers}
 use Rattle.triangle.specs.Loops.{edgesAt, Turned, Spanned, InRows, Runs, endOf, startOf}
 use Rattle.triangle.proofs.Covers.{covered-upward}
 
 module _ (pen : Pen) (rows : ℕ) (constant : Bool) (t : Corners) (y : ℕ) where
-  pub offers-covered : (x : ℕ) → covers t x y ≡ true → offersAt pen rows constant t x y ≡ keep pen rows (pixelAt constant t x y)
-  unfolding offersAt
+  pub offers-covered : (x : ℕ) → covers t x y ≡ true → pixelOffers pen rows constant t x y ≡ keep pen rows (pixelAt constant t x y)
+  unfolding pixelOffers
   offers-covered x h = rw h
 
   -- nothing is offered where the cover and the window together are absurd
-  pub offers-none : (x : ℕ) → (covers t x y ≡ true → inWindow pen x y ≡ true → ⊥) → offersAt pen rows constant t x y ≡ []
-  unfolding offersAt pixelAt
+  pub offers-none : (x : ℕ) → (covers t x y ≡ true → inWindow pen x y ≡ true → ⊥) → pixelOffers pen rows constant t x y ≡ []
+  unfolding pixelOffers pixelAt
   offers-none x h = go (covers t x y) (inWindow pen x y) refl refl
     where
       go : (c w : Bool) → covers t x y ≡ c → inWindow pen x y ≡ w → cond c (keep pen rows (pixelAt constant t x y)) [] ≡ []
@@ -42,8 +42,8 @@ module _ (pen : Pen) (rows : ℕ) (constant : Bool) (t : Corners) (y : ℕ) wher
   pub row-none : ((x : ℕ) → covers t x y ≡ true → inWindow pen x y ≡ true → ⊥) → rowOffers pen rows constant t y ≡ []
   row-none h = spans-none _ (pen .frame .line) (λ x a. offers-none x (h x))
 
-  pub offers-length : (x : ℕ) → length (offersAt pen rows constant t x y) ≤ 1
-  unfolding offersAt
+  pub offers-length : (x : ℕ) → length (pixelOffers pen rows constant t x y) ≤ 1
+  unfolding pixelOffers
   offers-length x = go (covers t x y)
     where
       go : (c : Bool) → length (cond c (keep pen rows (pixelAt constant t x y)) []) ≤ 1
@@ -51,10 +51,10 @@ module _ (pen : Pen) (rows : ℕ) (constant : Bool) (t : Corners) (y : ℕ) wher
       go false = omega arith
 
   pub row-length : length (rowOffers pen rows constant t y) ≤ pen .frame .line
-  row-length = omega (arith, spans-length (λ x. offersAt pen rows constant t x y) 1 (pen .frame .line) offers-length)
+  row-length = omega (arith, spans-length (λ x. pixelOffers pen rows constant t x y) 1 (pen .frame .line) offers-length)
 
   module _ (s : Span) (k : Spanned pen t y s) where
-    pub row-quiet : (x : ℕ) → x < pen .frame .line → (s .lo ≤ x → x < s .hi → ⊥) → offersAt pen rows constant t x y ≡ []
+    pub row-quiet : (x : ℕ) → x < pen .frame .line → (s .lo ≤ x → x < s .hi → ⊥) → pixelOffers pen rows constant t x y ≡ []
     row-quiet x l h =
         offers-none x
         (λ p q.
@@ -72,7 +72,7 @@ module _ (pen : Pen) (rows : ℕ) (constant : Bool) (t : Corners) (y : ℕ) wher
     unfolding spanOffers pixelAt
     row-span v l i z e =
         sym
-        (spans-part (λ x. offersAt pen rows constant t x y) (s .lo) (s .hi) (pen .frame .line) (omega arith) (k .wide)
+        (spans-part (λ x. pixelOffers pen rows constant t x y) (s .lo) (s .hi) (pen .frame .line) (omega arith) (k .wide)
         (λ x a. row-quiet x (omega (arith, k .wide)) (λ u w. omega arith))
         (λ x a b. row-quiet x b (λ u w. omega arith))
         ∙ spans-same _ _ (s .hi - s .lo)
@@ -135,7 +135,7 @@ number-told t p q r x y d n e hd he h = h ∙ rw (hd, he)
 
 pub pixel-drawn : (pen : Pen) (rows : ℕ) (t : Corners) (x y i z : ℕ) (p q : Picture) → covers t x y ≡ true
     → i ≡ shade t (t .a .i) (t .b .i) (t .c .i) x y → z ≡ shade t (t .a .z) (t .b .z) (t .c .z) x y
-    → q ≡ drawn pen (keep pen rows (offer Gouraud x y i z)) p → q ≡ drawn pen (offersAt pen rows false t x y) p
+    → q ≡ drawn pen (keep pen rows (offer Gouraud x y i z)) p → q ≡ drawn pen (pixelOffers pen rows false t x y) p
 unfolding pixelAt
 pixel-drawn pen rows t x y i z p q h ei ez e =
     e

@@ -11,7 +11,7 @@ use lib.Dec.{ltb, eqb}
 use Rattle.picture.specs.declared.Vertex.{Vertex}
 use Rattle.picture.proofs.Places.{both}
 use Rattle.triangle.specs.declared.Corners.{Corners}
-use Rattle.triangle.specs.Edge.{plusOf, minusOf, edgeAt, closed, inside, within, covers}
+use Rattle.triangle.specs.Edge.{plusOf, minusOf, edgeAt, closed, inside, passesEdge, covers}
 use Rattle.triangle.specs.Offers.{cornersOf}
 use Rattle.triangle.specs.Loops.{Turned, short}
 use Rattle.triangle.specs.Shared.{SamePoint, Apart, HasEdge, first, second, third, Amid}
@@ -55,7 +55,7 @@ unfolding closed
 closed-once a b h = either (b .y) (a .y) (ltb (a .x) (b .x)) (ltb (b .x) (a .x)) (λ e. ltb-other (a .x) (b .x) (λ d. h .so (d, sym e)))
 
 -- of every pixel just one holds: the test of an edge, or the test of the edge the other way round
-pub edge-once : (a b : Vertex) (x y : ℕ) → Apart a b → within b a x y ≡ not (within a b x y)
+pub edge-once : (a b : Vertex) (x y : ℕ) → Apart a b → passesEdge b a x y ≡ not (passesEdge a b x y)
 unfolding inside
 edge-once a b x y h =
     rw (swap-plus (a .x) (a .y) (b .x) (b .y) x y, swap-minus (a .x) (a .y) (b .x) (b .y) x y)
@@ -77,7 +77,7 @@ next t = cornersOf (t .c) (t .a) (t .b) (t .last)
 
 next-covers : (t : Corners) (x y : ℕ) → covers t x y ≡ covers (next t) x y
 unfolding covers
-next-covers t x y = go (within (t .a) (t .b) x y) (within (t .b) (t .c) x y) (within (t .c) (t .a) x y)
+next-covers t x y = go (passesEdge (t .a) (t .b) x y) (passesEdge (t .b) (t .c) x y) (passesEdge (t .c) (t .a) x y)
   where
     go : (p q r : Bool) → p && q && r ≡ r && p && q
     go true true true = refl
@@ -120,11 +120,11 @@ from-turned t a b (third p q) k = same-turned (next t) a b p q (next-turned t k)
 -- ---- two triangles
 
 -- a covered pixel passes the test of each edge
-passes : (t : Corners) (a b : Vertex) (x y : ℕ) → HasEdge t a b → covers t x y ≡ true → within a b x y ≡ true
+passes : (t : Corners) (a b : Vertex) (x y : ℕ) → HasEdge t a b → covers t x y ≡ true → passesEdge a b x y ≡ true
 unfolding covers
 passes t a b x y e h =
-    both (within a b x y) (within b (opposite e) x y)
-    (both (within a b x y && within b (opposite e) x y) (within (opposite e) a x y) (sym (from-covers t a b e x y) ∙ h) .0)
+    both (passesEdge a b x y) (passesEdge b (opposite e) x y)
+    (both (passesEdge a b x y && passesEdge b (opposite e) x y) (passesEdge (opposite e) a x y) (sym (from-covers t a b e x y) ∙ h) .0)
     .0
 
 -- two triangles on different sides of a shared edge never both cover a pixel
@@ -155,7 +155,7 @@ strictly true h = omega arith
 strictly false h = omega arith
 
 -- there a triangle covers what the test of that edge says
-amid-covers : (t : Corners) (a b : Vertex) (x y : ℕ) → HasEdge t a b → Turned t → Amid a b x y → covers t x y ≡ within a b x y
+amid-covers : (t : Corners) (a b : Vertex) (x y : ℕ) → HasEdge t a b → Turned t → Amid a b x y → covers t x y ≡ passesEdge a b x y
 unfolding covers
 amid-covers t a b x y e k m =
     let c = opposite e in
@@ -164,7 +164,7 @@ amid-covers t a b x y e k m =
     ∙ rw (
       keep-in (edgeAt b c x y) (closed b c) (strictly (closed b c) (amid-second a b c x y l m)),
       keep-in (edgeAt c a x y) (closed c a) (strictly (closed c a) (amid-first a b c x y l m)),
-    ) (go (within a b x y))
+    ) (go (passesEdge a b x y))
   where
     go : (p : Bool) → p && true && true ≡ p
     go true = refl

@@ -26,12 +26,12 @@ unfoldable pub inside : Edge → Bool → Bool
 inside e own = ltb (e .minus) (e .plus) || (eqb (e .minus) (e .plus) && own)
 
 -- the test of the edge from a to b at pixel (x, y)
-abbrev pub within : Vertex → Vertex → ℕ → ℕ → Bool
-within a b x y = inside (edgeAt a b x y) (closed a b)
+abbrev pub passesEdge : Vertex → Vertex → ℕ → ℕ → Bool
+passesEdge a b x y = inside (edgeAt a b x y) (closed a b)
 
 -- corners that turn anticlockwise cover a pixel: it passes the test of all three edges
 unfoldable pub covers : Corners → ℕ → ℕ → Bool
-covers t x y = within (t .a) (t .b) x y && within (t .b) (t .c) x y && within (t .c) (t .a) x y
+covers t x y = passesEdge (t .a) (t .b) x y && passesEdge (t .b) (t .c) x y && passesEdge (t .c) (t .a) x y
 
 -- an expression's amount, where it is not negative
 abbrev pub amount : Edge → ℕ

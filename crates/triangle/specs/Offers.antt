@@ -24,12 +24,12 @@ pixelAt constant t x y =
     (cond constant (t .last .z) (shade t (t .a .z) (t .b .z) (t .c .z) x y))
 
 -- what is offered of pixel (x, y)
-unfoldable pub offersAt : Pen → ℕ → Bool → Corners → ℕ → ℕ → List Offer
-offersAt pen rows constant t x y = cond (covers t x y) (keep pen rows (pixelAt constant t x y)) []
+unfoldable pub pixelOffers : Pen → ℕ → Bool → Corners → ℕ → ℕ → List Offer
+pixelOffers pen rows constant t x y = cond (covers t x y) (keep pen rows (pixelAt constant t x y)) []
 
 -- of row y, and of all rows
 abbrev pub rowOffers : Pen → ℕ → Bool → Corners → ℕ → List Offer
-rowOffers pen rows constant t y = spans (λ x. offersAt pen rows constant t x y) (pen .frame .line)
+rowOffers pen rows constant t y = spans (λ x. pixelOffers pen rows constant t x y) (pen .frame .line)
 
 abbrev pub turnedOffers : Pen → ℕ → Bool → Corners → List Offer
 turnedOffers pen rows constant t = spans (rowOffers pen rows constant t) rows

@@ -7,7 +7,7 @@ ghost use Rattle.picture.specs.Draw.{carriedTo, isPlain};
 ghost use Rattle.picture.specs.Picture.{picture};
 ghost use Rattle.triangle.specs.Edge.{covers, areaOf};
 ghost use Rattle.triangle.specs.Loops.{endOf, startOf, Turned, Spanned, Carries, Shaded, Told, Serves, InRows, Rises, Large};
-ghost use Rattle.triangle.specs.Offers.{kindOf, offersAt, rowOffers, turnedOffers, cornersOf, triangleOffers};
+ghost use Rattle.triangle.specs.Offers.{kindOf, pixelOffers, rowOffers, turnedOffers, cornersOf, triangleOffers};
 ghost use Rattle.picture.specs.Lent.{Draws};
 use crate::Corners;
 use crate::Edge;
@@ -148,7 +148,7 @@ fn divided_pixel(
     zm: &mut [u16],
 ) -> u64
     requires { ⌜ (Turned t) × (d ≡ areaOf t) × (d ≤ 12884508675) × (covers t x y ≡ true) × (x ≤ 65535) × (Large t) ⌝ }
-    ensures { λ r. ⌜ Draws pen (λ rows. offersAt pen rows false t x y) im zm 0 r ⌝ }
+    ensures { λ r. ⌜ Draws pen (λ rows. pixelOffers pen rows false t x y) im zm 0 r ⌝ }
 {
     let e = edges_at(t, x, y as usize);
     let i = number(t, d, e, t.a.i, t.b.i, t.c.i);

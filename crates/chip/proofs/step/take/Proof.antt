@@ -1,6 +1,6 @@
 -- `step::take` meets its contract: a refused word leaves all as it was, and each kind of word has its arm. Assumes nothing.
 use mathlib.Core.Path.{refl}
-use Rattle.registers.specs.Next.{after, completedBy}
+use Rattle.registers.specs.Next.{accepted, completedBy}
 use Rattle.chip.specs.Chip.{wordStores}
 use Rattle.chip.proofs.Words.{word-refused, word-drawn, word-quiet, word-stored}
 use borrow.Author.Needs.{needs}
@@ -92,15 +92,15 @@ quiet-requires-9 : tie.Need-quiet-requires-9
 quiet-requires-9 c κs = search needs
 
 returns-2 : tie.Need-returns-2
-unfolding after completedBy wordStores
+unfolding accepted completedBy wordStores
 returns-2 c = word-quiet _ _ _ _ refl (c .before .before .before .before .before .before .before .before .pre) (c .before .before .before .before .before .if1 .left) (rw (c .before .before .before .word .given .1)) (c .quiet2 .ensures) (rw (c .before .before .before .word .given .1)) (rw (c .before .before .before .word .given .1) (c .before .init .ensures))
 
 returns-3 : tie.Need-returns-3
-unfolding after completedBy wordStores
+unfolding accepted completedBy wordStores
 returns-3 c = word-quiet _ _ _ _ refl (c .before .before .before .before .before .before .before .before .pre) (c .before .before .before .before .before .if1 .left) (rw (c .before .before .before .word2 .given .1)) (c .quiet3 .ensures) (rw (c .before .before .before .word2 .given .1)) (rw (c .before .before .before .word2 .given .1) (c .before .aux .ensures))
 
 returns-4 : tie.Need-returns-4
-unfolding after completedBy wordStores
+unfolding accepted completedBy wordStores
 returns-4 c = word-quiet _ _ _ _ refl (c .before .before .before .before .before .before .before .before .pre) (c .before .before .before .before .before .if1 .left) (rw (c .before .before .before .word3 .given .1)) (c .quiet4 .ensures) (rw (c .before .before .before .word3 .given .1)) (rw (c .before .before .before .word3 .given .1) (c .before .parm .ensures))
 
 same-length : tie.Need-same-length
@@ -110,11 +110,11 @@ same-length-2 : tie.Need-same-length-2
 same-length-2 c = search needs
 
 returns-5 : tie.Need-returns-5
-unfolding after completedBy wordStores
+unfolding accepted completedBy wordStores
 returns-5 c = word-drawn _ _ _ _ refl (c .before .before .before .before .before .before .before .before .before .before .before .before .before .before .before .pre) (c .before .before .before .before .before .before .before .before .before .before .before .before .if1 .left) (rw (c .before .before .before .before .before .before .before .before .before .before .word4 .given .1)) (rw (c .before .before .before .before .before .before .before .before .before .before .word4 .given .1) (c .before .before .before .before .before .before .before .before .completed-by .ensures)) (c .before .before .before .before .before .draw .ensures) (rw (c .before .before .before .before .before .before .before .before .before .before .word4 .given .1) (c .coordinate .ensures))
 
 returns-6 : tie.Need-returns-6
-unfolding after completedBy wordStores
+unfolding accepted completedBy wordStores
 returns-6 c = word-quiet _ _ _ _ refl (c .before .before .before .before .before .before .before .before .pre) (c .before .before .before .before .before .if1 .left) (rw (c .before .before .before .word5 .given .1)) (c .quiet5 .ensures) (rw (c .before .before .before .word5 .given .1)) (rw (c .before .before .before .word5 .given .1) (c .before .img .ensures))
 
 same-length-3 : tie.Need-same-length-3
@@ -124,19 +124,19 @@ same-length-4 : tie.Need-same-length-4
 same-length-4 c = search needs
 
 returns-7 : tie.Need-returns-7
-unfolding after completedBy wordStores
+unfolding accepted completedBy wordStores
 returns-7 c = word-stored _ _ _ _ refl (c .before .before .before .before .before .before .before .before .before .before .before .before .before .before .before .pre) (c .before .before .before .before .before .before .before .before .before .before .before .before .if1 .left) (c .quiet6 .ensures) (rw (c .before .before .before .before .before .before .before .before .before .before .word6 .given .1)) (rw (c .before .before .before .before .before .before .before .before .before .before .word6 .given .1) (c .before .before .before .before .before .before .load .ensures)) (rw (c .before .before .before .before .before .before .before .before .before .before .word6 .given .1) (c .before .transferred .ensures))
 
 returns-8 : tie.Need-returns-8
-unfolding after completedBy wordStores
+unfolding accepted completedBy wordStores
 returns-8 c = word-quiet _ _ _ _ refl (c .before .before .before .before .before .before .pre) (c .before .before .before .if1 .left) (rw (c .before .enum-told .given .1)) (c .quiet7 .ensures) (rw (c .before .enum-told .given .1)) (rw (c .before .enum-told .given .1))
 
 returns-9 : tie.Need-returns-9
-unfolding after completedBy wordStores
+unfolding accepted completedBy wordStores
 returns-9 c = word-quiet _ _ _ _ refl (c .before .before .before .before .before .before .pre) (c .before .before .before .if1 .left) (rw (c .before .enum-told2 .given .1)) (c .quiet8 .ensures) (rw (c .before .enum-told2 .given .1)) (rw (c .before .enum-told2 .given .1))
 
 returns-10 : tie.Need-returns-10
-unfolding after completedBy wordStores
+unfolding accepted completedBy wordStores
 returns-10 c = word-quiet _ _ _ _ refl (c .before .before .before .before .before .before .pre) (c .before .before .before .if1 .left) (rw (c .before .enum-told3 .given .1)) (c .quiet9 .ensures) (rw (c .before .enum-told3 .given .1)) (rw (c .before .enum-told3 .given .1))
 
 pub take-spec : {M : Type 1} → statement M

@@ -1,12 +1,12 @@
 -- `field::is_within` meets its contract. Assumes nothing.
 use mathlib.Core.Path.{refl}
 use Rattle.picture.specs.Offer.{inWindow}
-use Rattle.line.specs.Field.{within}
+use Rattle.line.specs.Field.{inField}
 use Rattle.line.proofs.field.is_within.Statement.{statement}
 use Rattle.line.proofs.field.is_within.Tie as tie
 
 returns : tie.Need-returns
-unfolding within inWindow
+unfolding inField inWindow
 returns c = refl
 
 pub is-within-spec : {M : Type 1} → statement M

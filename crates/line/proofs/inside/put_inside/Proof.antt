@@ -8,7 +8,7 @@ use Rattle.picture.specs.Picture.{picture, stepAt}
 use Rattle.picture.proofs.Places.{place-below}
 use Rattle.picture.proofs.Offers.{offered-inside, keep-drawn}
 use Rattle.line.specs.Segment.{kindOf, xAt, yAt}
-use Rattle.line.specs.Step.{pixelAt}
+use Rattle.line.specs.Step.{stepPixel}
 use Rattle.line.proofs.Steps.{put-step, no-step}
 use Rattle.line.proofs.Insides.{step-offered, inside-whole}
 use Rattle.line.proofs.Loops.{inked-step, blank-step}
@@ -50,7 +50,7 @@ returns-2 c = let s = c .before .before .before .before .before .before .before 
     let a = s .args in
     let ink = c .before .before .before .before .before .before .before .before .before .ink-at .result in
     put-step (a .pen) (rowsOf (a .pen .frame) (length (a .im .now)) (length (a .zm .now))) _ (a .im .now) (a .zm .now)
-    (inked-step (a .pen) _ (a .style) (a .a) (a .b) (a .r .slope) (a .p) (pixelAt (a .a) (a .b) (a .p .k)) (kindOf (a .style .mode)) ink (s .pre .1) refl refl (s .pre .2) (c .before .before .before .before .before .before .before .before .before .ink-at .ensures) (c .before .before .before .before .before .before .before .before .if2 .taken))
+    (inked-step (a .pen) _ (a .style) (a .a) (a .b) (a .r .slope) (a .p) (stepPixel (a .a) (a .b) (a .p .k)) (kindOf (a .style .mode)) ink (s .pre .1) refl refl (s .pre .2) (c .before .before .before .before .before .before .before .before .before .ink-at .ensures) (c .before .before .before .before .before .before .before .before .if2 .taken))
     (keep-drawn (a .pen) (rowsOf (a .pen .frame) (length (a .im .now)) (length (a .zm .now))) (kindOf (a .style .mode)) (xAt (a .a) (a .b) (a .p .k)) (yAt (a .a) (a .b) (a .p .k)) (ink .i) (ink .z) _ _ (step-offered (a .pen) (rowsOf (a .pen .frame) (length (a .im .now)) (length (a .zm .now))) (kindOf (a .style .mode)) (a .a) (a .b) (a .r .slope) (a .p .k) (s .pre .1 .on) (s .pre .0 .inside) ∙ kept-in (a .pen) (length (a .im .now)) (length (a .zm .now)) (a .style) (a .deep) (a .ground) (a .lies) (a .r) (a .a) (a .b) (s .pre .0) (a .p .k) (c .before .before .before .before .before .before .before .before .before .before .before .is-own .ensures) (c .before .before .before .before .before .before .before .before .before .before .if1 .left))
     (c .before .before .before .before .put-bare .ensures ∙ ap (λ (at : ℕ). stepAt (a .pen) (kindOf (a .style .mode)) at (ink .i) (ink .z) (picture (a .im .now) (a .zm .now) 0)) (c .before .before .before .before .before .before .before .place-at .ensures)))
 

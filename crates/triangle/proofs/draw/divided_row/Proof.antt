@@ -9,14 +9,14 @@ use Rattle.picture.specs.Place.{rowsOf}
 use Rattle.picture.specs.Picture.{picture, drawn}
 use borrow.Author.Needs.{needs}
 use native.Mathlib.Nat.{le-refl}
-use Rattle.triangle.specs.Offers.{offersAt}
+use Rattle.triangle.specs.Offers.{pixelOffers}
 use Rattle.picture.proofs.Spans.{Reached, reached-start, reached-add, reached-end, reached-count, reached-i, reached-z}
 use Rattle.triangle.proofs.Rows.{row-quiet, offers-length}
 use Rattle.triangle.proofs.draw.divided_row.Statement.{statement}
 use Rattle.triangle.proofs.draw.divided_row.Tie as tie
 
 abbrev Inv-loop : tie.InvT-loop
-Inv-loop pen t d y im₀ zm₀ hi x₀ n₀ im zm x n = (x₀ ≤ x) × (x ≤ hi) × (Reached pen (λ k. offersAt pen (rowsOf (pen .frame) (length im₀) (length zm₀)) false t k y) im₀ zm₀ im zm n x) × (hi ≤ 65535)
+Inv-loop pen t d y im₀ zm₀ hi x₀ n₀ im zm x n = (x₀ ≤ x) × (x ≤ hi) × (Reached pen (λ k. pixelOffers pen (rowsOf (pen .frame) (length im₀) (length zm₀)) false t k y) im₀ zm₀ im zm n x) × (hi ≤ 65535)
 
 abbrev μ-loop : tie.MeasureT-loop
 μ-loop pen t d y im₀ zm₀ hi x₀ n₀ im zm x n = hi - x
@@ -46,7 +46,7 @@ add-n c =
     let s = l .before .before .before in
     let a = s .args in
     let k = l .loop in
-    let turn = ap₂ (λ (i z : ℕ). drawn (a .pen) (offersAt (a .pen) (rowsOf (a .pen .frame) i z) false (a .t) (k .x) (a .y)) (picture (k .im) (k .zm) 0)) (reached-i (k .inv .2)) (reached-z (k .inv .2)) in
+    let turn = ap₂ (λ (i z : ℕ). drawn (a .pen) (pixelOffers (a .pen) (rowsOf (a .pen .frame) i z) false (a .t) (k .x) (a .y)) (picture (k .im) (k .zm) 0)) (reached-i (k .inv .2)) (reached-z (k .inv .2)) in
     omega (
       arith,
       reached-count 1 (reached-add (k .inv .2) (c .before .before .before .before .divided-pixel .ensures ∙ turn)) (offers-length (a .pen) (rowsOf (a .pen .frame) (length (a .im .now)) (length (a .zm .now))) false (a .t) (a .y)),
@@ -65,7 +65,7 @@ loop-again c =
     let l = c .before .before .before .before .before .before .before .before in
     let a = l .before .before .before .args in
     let k = l .loop in
-    let turn = ap₂ (λ (i z : ℕ). drawn (a .pen) (offersAt (a .pen) (rowsOf (a .pen .frame) i z) false (a .t) (k .x) (a .y)) (picture (k .im) (k .zm) 0)) (reached-i (k .inv .2)) (reached-z (k .inv .2)) in (
+    let turn = ap₂ (λ (i z : ℕ). drawn (a .pen) (pixelOffers (a .pen) (rowsOf (a .pen .frame) i z) false (a .t) (k .x) (a .y)) (picture (k .im) (k .zm) 0)) (reached-i (k .inv .2)) (reached-z (k .inv .2)) in (
       omega (arith, k .inv .0),
       omega (arith, c .before .before .before .before .before .before .before .loop-test .taken),
       reached-add (k .inv .2) (c .before .before .before .before .divided-pixel .ensures ∙ turn),
