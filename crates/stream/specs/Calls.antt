@@ -93,11 +93,11 @@ wordEntry bytes k = entry (checked bytes (cond (ltb k (length (unpackOf bytes)))
 
 -- an answer, and what the call left in the memory that was lent for it
 pub record Answer : Type 0 where
-  pub codedTold : ℕ
+  pub told : ℕ
   pub left : List ℕ
 
 abbrev pub answer : ℕ → List ℕ → Answer
-answer codedTold left = record { codedTold = codedTold; left = left }
+answer told left = record { told = told; left = left }
 
 -- packing and unpacking as entries give them: the length that was written, or 2 ^ 63 plus the refusal number
 unfoldable pub answered : Outcome → Answer
