@@ -16,7 +16,7 @@ use Rattle.picture.specs.Place.{liesPlain, liesTiled, layoutOf, placeOf,
 use Rattle.picture.specs.Offer.{Offer, offer}
 use Rattle.picture.specs.Picture.{comparedOf, Picture, picture, drawn}
 use Rattle.picture.specs.Draw.{spans, shown, carriedTo, spanOffers, nearerPen}
-use Rattle.picture.specs.Loops.{isNearer, nearerAt, runOver, Beside, alongTiles, Shares, untilOwn, ownBelow, stridden, ownOffers}
+use Rattle.picture.specs.Loops.{isNearer, nearerAt, runOver, Beside, alongTiles, Shares, untilOwn, stridden, ownOffers}
 use Rattle.picture.proofs.Layouts.{whole-tiles}
 use Rattle.picture.proofs.Places.{lies-tiled, rows-whole, place-below, place-beside, place-along, inside-of, plain-mine, tiled-mine}
 use Rattle.picture.proofs.Fold.{drawn-nil, drawn-append}

@@ -1,6 +1,6 @@
 // Runs of pixels of which nothing but a nearer depth decides: what most triangles are drawn with. The loops know no pen and no column.
 ghost use mathlib.Core.Path.{_≡_};
-ghost use mathlib.Core.Bool.{true, false, cond};
+ghost use mathlib.Core.Bool.{false, cond};
 ghost use Prim.Native.Nat.{_+_, _-_, _/_, _^_, _≤_, _<_};
 ghost use lib.ListN.{length};
 ghost use Rattle.picture.specs.declared.Kind.the-variants.{Gouraud};
@@ -85,7 +85,7 @@ fn draw_run(run: Run, im: &mut [u16], zm: &mut [u16]) -> u64
     n as u64
 }
 
-// The same once more, so that the loop is compiled for numbers that stay the same, too.
+// The same, and the loop is compiled once more for numbers to which nothing is added.
 fn draw_beside(run: Run, im: &mut [u16], zm: &mut [u16]) -> u64
     requires { ⌜ Fits run (length (now im)) (length (now zm)) ⌝ }
     ensures { λ r. ⌜ Runs (λ j. run .base + j) (run .i) (run .z) (run .count) im zm 0 r ⌝ }
@@ -172,7 +172,7 @@ fn draw_tiled(
     passed
 }
 
-// What a unit of a board has of a row from column lo up to and without hi.
+// What a unit of a board has of a row from column lo up to and without hi: each of two or four columns, which lie side by side.
 fn own_run(frame: Frame, lo: u16, hi: u16, y: u16, i: Carried, z: Carried) -> Run
     requires { ⌜ (lo < hi) × (hi ≤ frame .line) × (liesPlain frame ≡ false) × (liesTiled frame ≡ false) ⌝ }
     ensures { λ r. ⌜ Beside frame lo hi y i z r ⌝ }
@@ -240,7 +240,8 @@ fn draw_row(
     draw_beside(run, im, zm)
 }
 
-// The pixels of row y from column lo up to and without hi, their numbers carried, with a pen of that sort. Answers how many passed.
+// The pixels of row y from column lo up to and without hi, their numbers carried, with the pen of which nothing but a nearer depth decides.
+// Answers how many passed.
 pub fn span_nearer(
     frame: Frame,
     lo: u16,

@@ -1,6 +1,6 @@
 -- `nearer::draw_beside` meets its contract: numbers to which nothing is added are those to which 0 is added. Assumes nothing.
 use mathlib.Core.Path.{ap₂, _∙_}
-use Prim.Native.Nat.{ℕ, _+_}
+use Prim.Native.Nat.{_+_}
 use Rattle.picture.specs.declared.Carried.{Carried}
 use Rattle.picture.specs.Picture.{picture}
 use Rattle.picture.specs.Loops.{runOver}

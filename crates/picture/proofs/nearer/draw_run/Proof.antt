@@ -1,9 +1,8 @@
 -- `nearer::draw_run` meets its contract. The invariant of its loop: j pixels are drawn, and the carried numbers are those of pixel j.
 -- The measure is the number of pixels left. Assumes nothing.
-use mathlib.Core.Path.{_≡_, refl, ap}
-use Prim.Native.Nat.{ℕ, _+_, _-_, _*_, _%_, _^_, _≤_}
+use mathlib.Core.Path.{_≡_, refl}
+use Prim.Native.Nat.{_+_, _-_, _*_, _%_, _^_, _≤_}
 use native.Mathlib.Omega.{arith}
-use Rattle.picture.specs.Picture.{picture}
 use Rattle.picture.proofs.Rows.{carried-start, carried-next, carried-at}
 use Rattle.picture.proofs.Runs.{Ran, ran-start, ran-turn, ran-i, ran-z}
 use borrow.Author.Needs.{needs}

@@ -1,7 +1,7 @@
 -- `nearer::draw_tiled` meets its contract. The invariant of its loop: the pixels before column x are drawn, and the carried numbers are those
 -- of column x. The measure is the number of columns left. Assumes nothing.
 use mathlib.Core.Path.{_≡_, _∙_}
-use Prim.Native.Nat.{ℕ, _+_, _-_, _*_, _%_, _^_, _≤_}
+use Prim.Native.Nat.{_+_, _-_, _*_, _%_, _^_, _≤_}
 use native.Mathlib.Omega.{arith}
 use lib.Dec.{eqb, leb}
 use borrow.Author.Tests.{eqb-true, leb-true}
