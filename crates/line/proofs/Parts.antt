@@ -4,7 +4,7 @@ use mathlib.Core.Path.{_≡_, refl, ap, _∙_}
 use mathlib.Core.Logic.{_⊎_, inl, inr}
 use mathlib.Core.Bool.{Bool, true, false, cond, not, _&&_}
 use Prim.Native.Nat.{ℕ, _+_, _-_, _*_, _/_, _%_, _^_, _≤_, _<_}
-use native.Mathlib.Nat.{add-comm, mul-assoc, mul-comm, mul-left-comm, add-mul-div-left, add-mul-mod-self-left, div-add-mod'}
+use native.Mathlib.Nat.{add-comm, mul-comm, mul-left-comm, add-mul-div-left, add-mul-mod-self-left, div-add-mod'}
 use native.Mathlib.Omega.{arith}
 use lib.Bits.{bitAnd, and-mask}
 use lib.Dec.{ltb, eqb}

@@ -23,9 +23,9 @@ use Rattle.line.specs.Segment.{kindOf, xAt, yAt, stepOffers}
 use Rattle.line.specs.Step.{OnStep}
 use Rattle.line.specs.Course.{spotAt}
 use Rattle.line.specs.Part.{part, partOf, hasPlace}
-use Rattle.line.specs.Walk.{Stands, twiceOf, nextOf, OnWalk}
+use Rattle.line.specs.Walk.{Stands, twiceOf, nextOf}
 use Rattle.line.specs.Field.{liesWhole}
-use Rattle.line.specs.Route.{liesOf, farOf, OnRoute, onwardOf, Traces}
+use Rattle.line.specs.Route.{liesOf, farOf, onwardOf, Traces}
 use Rattle.line.proofs.Steps.{steps-apart}
 use Rattle.line.proofs.Insides.{whole-mine, step-offered, inside-whole}
 use Rattle.line.proofs.Parts.{part-mine, part-between}

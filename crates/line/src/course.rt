@@ -4,7 +4,7 @@ ghost use mathlib.Core.Path.{_≡_};
 ghost use Prim.Native.Nat.{_*_, _≤_};
 ghost use Rattle.line.specs.Segment.{sideAt};
 ghost use Rattle.line.specs.Step.{OnStep};
-ghost use Rattle.line.specs.Course.{moveOf, courseOf, OnCourse, spotAt};
+ghost use Rattle.line.specs.Course.{moveOf, OnCourse, spotAt};
 use crate::slope::Slope;
 use picture::Frame;
 use picture::Vertex;

@@ -9,7 +9,7 @@ ghost use Rattle.picture.specs.Lent.{Draws, rowsOver};
 ghost use Rattle.line.specs.Segment.{kindOf, firstOf, stepOffers, segmentOffers};
 ghost use Rattle.line.specs.Ink.{joinedIn};
 ghost use Rattle.line.specs.Field.{AllOffered, isBare};
-ghost use Rattle.line.specs.Walk.{Stands, OnWalk};
+ghost use Rattle.line.specs.Walk.{OnWalk};
 ghost use Rattle.line.specs.Route.{liesOf, OnRoute, Begins, Traces};
 use crate::Mode;
 use crate::Style;

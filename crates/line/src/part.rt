@@ -1,11 +1,10 @@
-// What part of the whole picture a memory has: in rows and in tiles all of it, and a unit of a board the places whose remainder is its own, one after
-// the other.
+// What part of the whole picture a unit of a board has: of the places that the picture has in rows, those whose remainder by the number of units is
+// its own. The quotient is their place in the unit's memory.
 ghost use mathlib.Core.Path.{_≡_};
-ghost use Prim.Native.Nat.{_≤_};
 ghost use Rattle.line.specs.Part.{partOf, hasPlace};
 use picture::Frame;
 
-// Places by 2 to the power of the shift belong to each unit, and the mask takes the remainder.
+// A unit's remainder, the mask that takes a place's remainder, and the shift that leaves its quotient.
 pub(crate) struct Part {
     pub(crate) shift: u32,
     pub(crate) mask: usize,

@@ -1,7 +1,7 @@
 -- `inside::trace` meets its contract. The invariant of its loop: the steps below that where the walk stands are drawn. The measure
 -- is the steps that are left. Assumes nothing.
-use mathlib.Core.Path.{_≡_, refl}
-use Prim.Native.Nat.{_+_, _-_, _≤_}
+use mathlib.Core.Path.{refl}
+use Prim.Native.Nat.{_+_, _-_}
 use native.Mathlib.Omega.{arith}
 use lib.ListN.{length}
 use Rattle.picture.proofs.Spans.{reached-i, reached-z}

@@ -3,7 +3,7 @@ use mathlib.Core.Path.{sym, ap, ap₂, _∙_}
 use mathlib.Core.Bool.{Bool, cond, _||_}
 use Prim.Native.Nat.{ℕ}
 use Rattle.line.specs.Segment.{isSet}
-use Rattle.line.specs.Ink.{ink, hasGround}
+use Rattle.line.specs.Ink.{ink}
 use Rattle.line.proofs.Loops.{ink-deep, ink-flat}
 use borrow.Author.Needs.{needs}
 use Rattle.line.proofs.pattern.ink_at.Statement.{statement}
