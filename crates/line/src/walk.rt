@@ -26,6 +26,9 @@ pub(crate) struct Step {
     pub(crate) z: u64,
 }
 
+// Half of what 1 is as a carried number.
+const HALF: u64 = 1 << 47;
+
 // A number that goes evenly from one to another in n steps. It starts with a half more, since numbers are rounded to the nearest, and what a
 // step adds is rounded up: in so few steps that makes no number larger.
 fn carried(n: u16, first: u16, second: u16) -> Carried
@@ -38,7 +41,7 @@ fn carried(n: u16, first: u16, second: u16) -> Carried
         };
     }
     let steps = n as u64;
-    let start = (first as u64) * CARRIED_ONE + CARRIED_ONE / 2;
+    let start = (first as u64) * CARRIED_ONE + HALF;
     if first <= second {
         let rise = ((second - first) as u64) * CARRIED_ONE;
         return Carried {

@@ -44,29 +44,39 @@ fail-requires : tie.Need-fail-requires Inv-loop μ-loop
 fail-requires c κs = search needs
 
 same-length : tie.Need-same-length Inv-loop μ-loop
-same-length c = c .before .before .before .before .before .before .before .before .loop .inv .0
+same-length c =
+    let at-loop = c .before .before .before .before .before .before .before .before in
+    at-loop .loop .inv .0
 
 returns : tie.Need-returns Inv-loop μ-loop
 returns c = search needs
 
 array-share-prefix-piece : tie.Need-array-share-prefix-piece Inv-loop μ-loop
 array-share-prefix-piece c =
-    let n = rw (c .before .taken .given .1) at (c .before .before .before .before .take .ensures) in
-    omega (arith, n, c .before .before .before .before .take .kept .0)
+    let at-take = c .before .before .before .before in
+    let n = rw (c .before .taken .given .1) at (at-take .take .ensures) in
+    omega (arith, n, at-take .take .kept .0)
 
 slice-aggregate-read : tie.Need-slice-aggregate-read Inv-loop μ-loop
 slice-aggregate-read c =
-    let n = rw (c .before .before .taken .given .1) at (c .before .before .before .before .before .take .ensures) in
-    sym (length-take-le _ _ (omega (arith, n, c .before .before .before .before .before .take .kept .0)))
+    let at-take = c .before .before .before .before .before in
+    let n = rw (c .before .before .taken .given .1) at (at-take .take .ensures) in
+    sym (length-take-le _ _ (omega (arith, n, at-take .take .kept .0)))
 
 read-requires : tie.Need-read-requires Inv-loop μ-loop
 read-requires c κs = search needs
 
 finish-requires : tie.Need-finish-requires Inv-loop μ-loop
-finish-requires c κs = held-fits _ _ _ _ _ (c .before .before .before .before .read .ensures) (c .before .before .before .before .before .before .before .before .before .before .before .before .before .before .loop .inv .2)
+finish-requires c κs =
+    let at-read = c .before .before .before .before in
+    let at-loop = at-read .before .before .before .before .before .before .before .before .before .before in
+    held-fits _ _ _ _ _ (at-read .read .ensures) (at-loop .loop .inv .2)
 
 same-length-2 : tie.Need-same-length-2 Inv-loop μ-loop
-same-length-2 c = c .before .before .finish .kept .1 .0 ∙ c .before .before .before .before .before .before .before .read .kept .1 .1 .0 ∙ c .before .before .before .before .before .before .before .before .before .before .before .before .before .before .before .before .before .loop .inv .0
+same-length-2 c =
+    let at-read = c .before .before .before .before .before .before .before in
+    let at-loop = at-read .before .before .before .before .before .before .before .before .before .before in
+    c .before .before .finish .kept .1 .0 ∙ at-read .read .kept .1 .1 .0 ∙ at-loop .loop .inv .0
 
 returns-2 : tie.Need-returns-2 Inv-loop μ-loop
 returns-2 c = search needs
@@ -78,7 +88,10 @@ loop-less : tie.Need-loop-less Inv-loop μ-loop
 loop-less c = search needs
 
 loop-again : tie.Need-loop-again Inv-loop μ-loop
-loop-again c = (c .before .before .before .read .kept .1 .1 .0 ∙ c .before .before .before .before .before .before .before .before .before .before .before .before .before .loop .inv .0, omega (arith, c .before .before .before .before .before .before .before .before .before .before .take .kept .0, c .before .before .before .before .before .before .before .before .before .before .before .before .before .loop .inv .1), held-fits _ _ _ _ _ (c .before .before .before .read .ensures) (c .before .before .before .before .before .before .before .before .before .before .before .before .before .loop .inv .2))
+loop-again c =
+    let at-take = c .before .before .before .before .before .before .before .before .before .before in
+    let at-loop = at-take .before .before .before in
+    (c .before .before .before .read .kept .1 .1 .0 ∙ at-loop .loop .inv .0, omega (arith, at-take .take .kept .0, at-loop .loop .inv .1), held-fits _ _ _ _ _ (c .before .before .before .read .ensures) (at-loop .loop .inv .2))
 
 slice-aggregate-say : tie.Need-slice-aggregate-say Inv-loop μ-loop
 slice-aggregate-say c = search needs

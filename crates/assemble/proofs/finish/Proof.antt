@@ -16,10 +16,16 @@ enum-told : tie.Need-enum-told
 enum-told c = search needs
 
 slice-reshare-prefix-write-packed : tie.Need-slice-reshare-prefix-write-packed
-slice-reshare-prefix-write-packed c = held-fits _ _ _ _ _ (c .before .before .before .before .read .ensures) (c .before .before .before .before .before .before .before .before .pre)
+slice-reshare-prefix-write-packed c =
+    let at-read = c .before .before .before .before in
+    let start = at-read .before .before .before .before in
+    held-fits _ _ _ _ _ (at-read .read .ensures) (start .pre)
 
 slice-aggregate-write-packed : tie.Need-slice-aggregate-write-packed
-slice-aggregate-write-packed c = sym (length-take-le _ _ (held-fits _ _ _ _ _ (c .before .before .before .before .before .read .ensures) (c .before .before .before .before .before .before .before .before .before .pre)))
+slice-aggregate-write-packed c =
+    let at-read = c .before .before .before .before .before in
+    let start = at-read .before .before .before .before in
+    sym (length-take-le _ _ (held-fits _ _ _ _ _ (at-read .read .ensures) (start .pre)))
 
 write-packed-requires : tie.Need-write-packed-requires
 write-packed-requires c κs = search needs
@@ -28,10 +34,16 @@ enum-told-2 : tie.Need-enum-told-2
 enum-told-2 c = search needs
 
 slice-reshare-prefix-write-packed-2 : tie.Need-slice-reshare-prefix-write-packed-2
-slice-reshare-prefix-write-packed-2 c = held-fits _ _ _ _ _ (c .before .before .before .before .read .ensures) (c .before .before .before .before .before .before .before .before .pre)
+slice-reshare-prefix-write-packed-2 c =
+    let at-read = c .before .before .before .before in
+    let start = at-read .before .before .before .before in
+    held-fits _ _ _ _ _ (at-read .read .ensures) (start .pre)
 
 slice-aggregate-write-packed-2 : tie.Need-slice-aggregate-write-packed-2
-slice-aggregate-write-packed-2 c = sym (length-take-le _ _ (held-fits _ _ _ _ _ (c .before .before .before .before .before .read .ensures) (c .before .before .before .before .before .before .before .before .before .pre)))
+slice-aggregate-write-packed-2 c =
+    let at-read = c .before .before .before .before .before in
+    let start = at-read .before .before .before .before in
+    sym (length-take-le _ _ (held-fits _ _ _ _ _ (at-read .read .ensures) (start .pre)))
 
 write-packed-requires-2 : tie.Need-write-packed-requires-2
 write-packed-requires-2 c κs = search needs

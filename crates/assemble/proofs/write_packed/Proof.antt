@@ -20,10 +20,14 @@ enum-known-answer : tie.Need-enum-known-answer
 enum-known-answer c = search needs
 
 array-share-prefix-out : tie.Need-array-share-prefix-out
-array-share-prefix-out c = omega (arith, packed-fits _ _ (c .before .before .before .before .pack .ensures) (c .before .answer .given .1), c .before .before .before .before .pack .kept .1 .0)
+array-share-prefix-out c =
+    let at-pack = c .before .before .before .before in
+    omega (arith, packed-fits _ _ (at-pack .pack .ensures) (c .before .answer .given .1), at-pack .pack .kept .1 .0)
 
 slice-aggregate-write : tie.Need-slice-aggregate-write
-slice-aggregate-write c = sym (length-take-le _ _ (omega (arith, packed-fits _ _ (c .before .before .before .before .before .pack .ensures) (c .before .before .answer .given .1), c .before .before .before .before .before .pack .kept .1 .0)))
+slice-aggregate-write c =
+    let at-pack = c .before .before .before .before .before in
+    sym (length-take-le _ _ (omega (arith, packed-fits _ _ (at-pack .pack .ensures) (c .before .before .answer .given .1), at-pack .pack .kept .1 .0)))
 
 write-requires : tie.Need-write-requires
 write-requires c κs = search needs

@@ -29,15 +29,18 @@ same-length-2 c = search needs
 
 returns : tie.Need-returns
 returns c =
-    let a = c .before .before .before .before .before .before .before .before .before .before .before .args in
-    c .before .before .before .before .segment .ensures
+    let at-segment = c .before .before .before .before in
+    let at-pen-of = at-segment .before .before .before in
+    let at-mode-of = at-pen-of .before in
+    let a = at-mode-of .before .before .before .args in
+    at-segment .segment .ensures
     ∙ ap₂
     (λ (p : Pen) (m : Mode).
     drawn p
     (segmentOffers p (rowsOf (p .frame) (length (a .im .now)) (length (a .zm .now)))
     (record { mode = m; pattern = a .pattern; foreground = a .foreground; background = a .background; steps = 0; joined = false }) (vertexOf (a .ax) (a .ay) (a .ai) (a .az)) (vertexOf (a .bx) (a .by) (a .bi) (a .bz)))
     (picture (a .im .now) (a .zm .now) 0))
-    (c .before .before .before .before .before .before .before .pen-of .ensures) (c .before .before .before .before .before .before .before .before .mode-of .ensures)
+    (at-pen-of .pen-of .ensures) (at-mode-of .mode-of .ensures)
 
 pub dextolumen-bench-segment-spec : {M : Type 1} → statement M
 dextolumen-bench-segment-spec =

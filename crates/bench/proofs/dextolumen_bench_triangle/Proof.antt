@@ -24,14 +24,16 @@ same-length-2 c = search needs
 
 returns : tie.Need-returns
 returns c =
-    let a = c .before .before .before .before .before .before .before .before .before .before .args in
-    c .before .before .before .before .triangle .ensures
+    let at-triangle = c .before .before .before .before in
+    let at-pen-of = at-triangle .before .before .before in
+    let a = at-pen-of .before .before .before .args in
+    at-triangle .triangle .ensures
     ∙ ap
     (λ (p : Pen).
     drawn p
     (triangleOffers p (rowsOf (p .frame) (length (a .im .now)) (length (a .zm .now))) (a .constant) (vertexOf (a .ax) (a .ay) (a .ai) (a .az)) (vertexOf (a .bx) (a .by) (a .bi) (a .bz)) (vertexOf (a .cx) (a .cy) (a .ci) (a .cz)))
     (picture (a .im .now) (a .zm .now) 0))
-    (c .before .before .before .before .before .before .before .pen-of .ensures)
+    (at-pen-of .pen-of .ensures)
 
 pub dextolumen-bench-triangle-spec : {M : Type 1} → statement M
 dextolumen-bench-triangle-spec =

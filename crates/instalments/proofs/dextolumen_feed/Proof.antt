@@ -19,7 +19,10 @@ returns c =
     ∙ bytes-closed _ _ (sym (c .before .is-closed .ensures) ∙ c .if2 .taken))
 
 take-all-requires : tie.Need-take-all-requires
-take-all-requires c κs = (sym (c .before .before .before .before .before .is-sound .ensures) ∙ c .before .before .before .before .if1 .taken, sym (c .before .before .before .is-closed .ensures) ∙ c .before .before .if2 .left)
+take-all-requires c κs =
+    let at-if1 = c .before .before .before .before in
+    let at-is-sound = at-if1 .before in
+    (sym (at-is-sound .is-sound .ensures) ∙ at-if1 .if1 .taken, sym (c .before .before .before .is-closed .ensures) ∙ c .before .before .if2 .left)
 
 same-length : tie.Need-same-length
 same-length c = search needs
@@ -28,7 +31,11 @@ same-length-2 : tie.Need-same-length-2
 same-length-2 c = search needs
 
 returns-2 : tie.Need-returns-2
-returns-2 c = c .before .before .before .before .take-all .ensures ∙ sym (feeding-bytes _ (sym (c .before .before .before .before .before .before .before .before .before .before .is-sound .ensures) ∙ c .before .before .before .before .before .before .before .before .before .if1 .taken) _)
+returns-2 c =
+    let at-take-all = c .before .before .before .before in
+    let at-if1 = at-take-all .before .before .before .before .before in
+    let at-is-sound = at-if1 .before in
+    at-take-all .take-all .ensures ∙ sym (feeding-bytes _ (sym (at-is-sound .is-sound .ensures) ∙ at-if1 .if1 .taken) _)
 
 answer-requires : tie.Need-answer-requires
 answer-requires c κs = search needs

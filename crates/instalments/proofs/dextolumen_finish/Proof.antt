@@ -23,8 +23,10 @@ answer-requires c κs = search needs
 
 returns-2 : tie.Need-returns-2
 returns-2 c =
+    let at-if1 = c .before .before .before .before in
+    let at-is-sound = at-if1 .before in
     rw (c .answer .ensures, c .before .end-number .ensures)
-    (sym (ending-open _ (sym (c .before .before .before .before .before .is-sound .ensures) ∙ c .before .before .before .before .if1 .taken) (sym (c .before .before .before .is-closed .ensures) ∙ c .before .before .if2 .left)))
+    (sym (ending-open _ (sym (at-is-sound .is-sound .ensures) ∙ at-if1 .if1 .taken) (sym (c .before .before .before .is-closed .ensures) ∙ c .before .before .if2 .left)))
 
 answer-requires-2 : tie.Need-answer-requires-2
 answer-requires-2 c κs = search needs

@@ -26,7 +26,10 @@ same-length-2 c = search needs
 
 returns : tie.Need-returns
 unfolding wordOf
-returns c = rw (c .answer .ensures) (word-refused _ _ (c .before .before .before .before .before .before .before .before .before .before .before .before .before .pre .0) (c .before .before .before .before .before .before .before .step .ensures) (omega (arith, c .before .before .before .before .before .before .before .before .before .before .before .before .before .good)) (c .before .if1 .taken))
+returns c =
+    let at-step = c .before .before .before .before .before .before .before in
+    let start = at-step .before .before .before .before .before .before in
+    rw (c .answer .ensures) (word-refused _ _ (start .pre .0) (at-step .step .ensures) (omega (arith, start .good)) (c .before .if1 .taken))
 
 wrapping-add-u64-requires : tie.Need-wrapping-add-u64-requires
 wrapping-add-u64-requires c κs = search needs
@@ -42,7 +45,10 @@ same-length-4 c = search needs
 
 returns-2 : tie.Need-returns-2
 unfolding wordOf
-returns-2 c = rw (c .before .wrapping-add-u64 .ensures, c .wrapping-add-u642 .ensures) (word-accepted _ _ (c .before .before .before .before .before .before .before .before .before .before .before .before .before .before .before .pre .0) (c .before .before .before .before .before .before .before .before .before .step .ensures) (c .before .before .before .if1 .left))
+returns-2 c =
+    let at-step = c .before .before .before .before .before .before .before .before .before in
+    let start = at-step .before .before .before .before .before .before in
+    rw (c .before .wrapping-add-u64 .ensures, c .wrapping-add-u642 .ensures) (word-accepted _ _ (start .pre .0) (at-step .step .ensures) (c .before .before .before .if1 .left))
 
 pub run-word-spec : {M : Type 1} → statement M
 run-word-spec =

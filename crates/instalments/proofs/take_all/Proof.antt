@@ -31,12 +31,15 @@ shared-slice-read-v : tie.Need-shared-slice-read-v Inv-loop μ-loop
 shared-slice-read-v c = search needs
 
 cast-v : tie.Need-cast-v Inv-loop μ-loop
-cast-v c = omega (arith, c .before .before .before .before .before .shared-slice-known .given (c .before .before .loop .k) .fits)
+cast-v c =
+    let at-shared-slice-known = c .before .before .before .before .before in
+    omega (arith, at-shared-slice-known .shared-slice-known .given (c .before .before .loop .k) .fits)
 
 add-v : tie.Need-add-v Inv-loop μ-loop
 add-v c =
+    let at-shared-slice-known = c .before .before .before .before .before in
     let h = c .before .before .loop .inv .3 in
-    omega (arith, held-low _ _ (h .few) (h .fits), c .before .before .before .before .before .shared-slice-known .given (c .before .before .loop .k) .fits)
+    omega (arith, held-low _ _ (h .few) (h .fits), at-shared-slice-known .shared-slice-known .given (c .before .before .loop .k) .fits)
 
 add-n : tie.Need-add-n Inv-loop μ-loop
 add-n c = let h = c .before .before .loop .inv .3 in omega (arith, h .few)
@@ -49,47 +52,69 @@ loop-less c = search needs
 
 loop-again : tie.Need-loop-again Inv-loop μ-loop
 loop-again c =
-    (omega (arith, c .before .before .loop-test .taken), c .before .before .before .loop .inv .1, c .before .before .before .loop .inv .2, turned-short (c .before .before .before .loop .inv .3) (c .before .before .loop-test .taken) (c .before .before .before .before .before .before .shared-slice-known .given (c .before .before .before .loop .k) .fits) (c .if1 .taken))
+    let at-shared-slice-known = c .before .before .before .before .before .before in
+    (omega (arith, c .before .before .loop-test .taken), c .before .before .before .loop .inv .1, c .before .before .before .loop .inv .2, turned-short (c .before .before .before .loop .inv .3) (c .before .before .loop-test .taken) (at-shared-slice-known .shared-slice-known .given (c .before .before .before .loop .k) .fits) (c .if1 .taken))
 
 shr-run-word : tie.Need-shr-run-word Inv-loop μ-loop
 shr-run-word c = let h = c .before .before .before .loop .inv .3 in omega (arith, h .few)
 
 run-word-requires : tie.Need-run-word-requires Inv-loop μ-loop
 run-word-requires c κs =
-    let h = c .before .before .before .before .before .loop .inv .3 in
-    (h .goes, front-fits _ _ (c .before .before .if1 .left) (byte-fits _ _ _ (c .before .before .before .before .before .before .before .before .shared-slice-known .given (c .before .before .before .before .before .loop .k) .fits) (h .fits)))
+    let at-loop = c .before .before .before .before .before in
+    let at-shared-slice-known = at-loop .before .before .before in
+    let h = at-loop .loop .inv .3 in
+    (h .goes, front-fits _ _ (c .before .before .if1 .left) (byte-fits _ _ _ (at-shared-slice-known .shared-slice-known .given (at-loop .loop .k) .fits) (h .fits)))
 
 answer-requires : tie.Need-answer-requires Inv-loop μ-loop
 answer-requires c κs = search needs
 
 same-length : tie.Need-same-length Inv-loop μ-loop
-same-length c = c .before .before .before .before .before .before .before .run-word .kept .1 .1 .0 ∙ c .before .before .before .before .before .before .before .before .before .before .before .before .before .loop .inv .1
+same-length c =
+    let at-run-word = c .before .before .before .before .before .before .before in
+    let at-loop = at-run-word .before .before .before .before .before .before in
+    at-run-word .run-word .kept .1 .1 .0 ∙ at-loop .loop .inv .1
 
 same-length-2 : tie.Need-same-length-2 Inv-loop μ-loop
-same-length-2 c = c .before .before .before .before .before .before .before .run-word .kept .1 .1 .1 .0 ∙ c .before .before .before .before .before .before .before .before .before .before .before .before .before .loop .inv .2
+same-length-2 c =
+    let at-run-word = c .before .before .before .before .before .before .before in
+    let at-loop = at-run-word .before .before .before .before .before .before in
+    at-run-word .run-word .kept .1 .1 .1 .0 ∙ at-loop .loop .inv .2
 
 returns : tie.Need-returns Inv-loop μ-loop
 returns c =
+    let at-run-word = c .before .before .before .before .before .before .before in
+    let at-if1 = at-run-word .before .before .before in
+    let in-loop = at-if1 .before .before in
+    let at-loop = in-loop .before in
+    let at-shared-slice-known = at-loop .before .before .before in
     rw (c .answer .ensures)
-    (turned-refused (c .before .before .before .before .before .before .before .before .before .before .before .before .before .loop .inv .3) (c .before .before .before .before .before .before .before .before .before .before .before .before .loop-test .taken) (c .before .before .before .before .before .before .before .before .before .before .before .before .before .before .before .before .shared-slice-known .given (c .before .before .before .before .before .before .before .before .before .before .before .before .before .loop .k) .fits) (c .before .before .before .before .before .before .before .before .before .before .if1 .left) (c .before .before .before .before .before .before .before .run-word .ensures) (c .before .if2 .taken))
+    (turned-refused (at-loop .loop .inv .3) (in-loop .loop-test .taken) (at-shared-slice-known .shared-slice-known .given (at-loop .loop .k) .fits) (at-if1 .if1 .left) (at-run-word .run-word .ensures) (c .before .if2 .taken))
 
 shl-held : tie.Need-shl-held Inv-loop μ-loop
 shl-held c = let h = c .before .before .before .before .before .before .before .before .before .before .before .before .loop .inv .3 in omega (arith, h .few)
 
 rem-held : tie.Need-rem-held Inv-loop μ-loop
-rem-held c = let h = c .before .before .before .before .before .before .before .before .before .before .before .before .loop .inv .3 in rw (rest-power (c .before .before .before .before .before .before .before .before .before .before .before .before .loop .count + 8 - 20) (omega (arith, h .few))) (pow-pos _)
+rem-held c =
+    let at-loop = c .before .before .before .before .before .before .before .before .before .before .before .before in
+    let h = at-loop .loop .inv .3 in
+    rw (rest-power (at-loop .loop .count + 8 - 20) (omega (arith, h .few))) (pow-pos _)
 
 loop-less-2 : tie.Need-loop-less-2 Inv-loop μ-loop
 loop-less-2 c = search needs
 
 loop-again-2 : tie.Need-loop-again-2 Inv-loop μ-loop
 loop-again-2 c =
-    let h = c .before .before .before .before .before .before .before .before .before .before .before .before .loop .inv .3 in (
-      omega (arith, c .before .before .before .before .before .before .before .before .before .before .before .loop-test .taken),
+    let at-run-word = c .before .before .before .before .before .before in
+    let at-if1 = at-run-word .before .before .before in
+    let in-loop = at-if1 .before .before in
+    let at-loop = in-loop .before in
+    let at-shared-slice-known = at-loop .before .before .before in
+    let h = at-loop .loop .inv .3 in (
+      omega (arith, in-loop .loop-test .taken),
       search needs,
       search needs,
-      (rw (rest-power (c .before .before .before .before .before .before .before .before .before .before .before .before .loop .count + 8 - 20) (omega (arith, h .few)))
-          (turned-word h (c .before .before .before .before .before .before .before .before .before .before .before .loop-test .taken) (c .before .before .before .before .before .before .before .before .before .before .before .before .before .before .before .shared-slice-known .given (c .before .before .before .before .before .before .before .before .before .before .before .before .loop .k) .fits) (c .before .before .before .before .before .before .before .before .before .if1 .left) (c .before .before .before .before .before .before .run-word .ensures) (c .if2 .left))),
+      (rw (rest-power (at-loop .loop .count + 8 - 20) (omega (arith, h .few)))
+          (turned-word h (in-loop .loop-test .taken) (at-shared-slice-known .shared-slice-known .given (at-loop .loop .k) .fits) (at-if1 .if1 .left) (at-run-word .run-word .ensures) (c .if2 .left))),
     )
 
 answer-requires-2 : tie.Need-answer-requires-2 Inv-loop μ-loop

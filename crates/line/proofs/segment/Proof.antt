@@ -15,7 +15,11 @@ is-bare-requires : tie.Need-is-bare-requires
 is-bare-requires c κs = search needs
 
 drawn-inside-requires : tie.Need-drawn-inside-requires
-drawn-inside-requires c κs = let a = c .before .before .before .before .before .before .before .before .args in inside-of-tests (a .pen) _ (kindOf (a .style .mode)) (a .a) (a .b) (c .before .before .before .before .before .has-ends .ensures) (c .before .before .before .before .is-open .ensures) (c .before .before .before .is-bare .ensures) (c .before .before .if1 .taken)
+drawn-inside-requires c κs =
+    let at-is-open = c .before .before .before .before in
+    let at-has-ends = at-is-open .before in
+    let a = at-has-ends .before .before .before .args in
+    inside-of-tests (a .pen) _ (kindOf (a .style .mode)) (a .a) (a .b) (at-has-ends .has-ends .ensures) (at-is-open .is-open .ensures) (c .before .before .before .is-bare .ensures) (c .before .before .if1 .taken)
 
 same-length : tie.Need-same-length
 same-length c = search needs

@@ -32,13 +32,15 @@ enum-known-taken c = search needs
 
 array-share-prefix-bytes : tie.Need-array-share-prefix-bytes
 array-share-prefix-bytes c =
-    let n = rw (c .before .taken .given .1) at (c .before .before .before .before .take .ensures) in
-    omega (arith, n, c .before .before .before .before .take .kept .0)
+    let at-take = c .before .before .before .before in
+    let n = rw (c .before .taken .given .1) at (at-take .take .ensures) in
+    omega (arith, n, at-take .take .kept .0)
 
 slice-aggregate-list : tie.Need-slice-aggregate-list
 slice-aggregate-list c =
-    let n = rw (c .before .before .taken .given .1) at (c .before .before .before .before .before .take .ensures) in
-    sym (length-take-le _ _ (omega (arith, n, c .before .before .before .before .before .take .kept .0)))
+    let at-take = c .before .before .before .before .before in
+    let n = rw (c .before .before .taken .given .1) at (at-take .take .ensures) in
+    sym (length-take-le _ _ (omega (arith, n, at-take .take .kept .0)))
 
 list-requires : tie.Need-list-requires
 list-requires c κs = search needs

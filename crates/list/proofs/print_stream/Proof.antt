@@ -21,13 +21,20 @@ enum-known-answer : tie.Need-enum-known-answer
 enum-known-answer c = search needs
 
 array-share-prefix-words : tie.Need-array-share-prefix-words
-array-share-prefix-words c = omega (arith, unpacked-fits _ _ (c .before .before .before .before .unpack .ensures) (c .before .answer .given .1), c .before .before .before .before .unpack .kept .1 .0)
+array-share-prefix-words c =
+    let at-unpack = c .before .before .before .before in
+    omega (arith, unpacked-fits _ _ (at-unpack .unpack .ensures) (c .before .answer .given .1), at-unpack .unpack .kept .1 .0)
 
 slice-aggregate-print-words : tie.Need-slice-aggregate-print-words
-slice-aggregate-print-words c = sym (length-take-le _ _ (omega (arith, unpacked-fits _ _ (c .before .before .before .before .before .unpack .ensures) (c .before .before .answer .given .1), c .before .before .before .before .before .unpack .kept .1 .0)))
+slice-aggregate-print-words c =
+    let at-unpack = c .before .before .before .before .before in
+    sym (length-take-le _ _ (omega (arith, unpacked-fits _ _ (at-unpack .unpack .ensures) (c .before .before .answer .given .1), at-unpack .unpack .kept .1 .0)))
 
 print-words-requires : tie.Need-print-words-requires
-print-words-requires c κs = omega (arith, unpacked-fits _ _ (c .before .before .before .before .before .unpack .ensures) (c .before .before .answer .given .1), c .before .before .before .before .before .before .before .words .ensures, length-take (c .before .before .answer .given .0 .0) (c .before .before .before .before .before .unpack .last .1 .0))
+print-words-requires c κs =
+    let at-unpack = c .before .before .before .before .before in
+    let at-words = at-unpack .before .before in
+    omega (arith, unpacked-fits _ _ (at-unpack .unpack .ensures) (c .before .before .answer .given .1), at-words .words .ensures, length-take (c .before .before .answer .given .0 .0) (at-unpack .unpack .last .1 .0))
 
 enum-told : tie.Need-enum-told
 enum-told c = search needs

@@ -19,7 +19,9 @@ loop-holds : tie.Need-loop-holds Inv-loop μ-loop
 loop-holds c = tt
 
 put-page-requires : tie.Need-put-page-requires Inv-loop μ-loop
-put-page-requires c κs = (omega (arith, c .before .loop-test .taken), c .before .before .before .before .before .pre)
+put-page-requires c κs =
+    let start = c .before .before .before .before .before in
+    (omega (arith, c .before .loop-test .taken), start .pre)
 
 array-share-prefix-page : tie.Need-array-share-prefix-page Inv-loop μ-loop
 array-share-prefix-page c = c .put-page .ensures .counts .0

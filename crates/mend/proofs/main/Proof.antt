@@ -32,13 +32,15 @@ enum-known-taken c = search needs
 
 array-share-prefix-bytes : tie.Need-array-share-prefix-bytes
 array-share-prefix-bytes c =
-    let n = rw (c .before .taken .given .1) at (c .before .before .before .before .take .ensures) in
-    omega (arith, n, c .before .before .before .before .take .kept .0)
+    let at-take = c .before .before .before .before in
+    let n = rw (c .before .taken .given .1) at (at-take .take .ensures) in
+    omega (arith, n, at-take .take .kept .0)
 
 slice-aggregate-mend-read : tie.Need-slice-aggregate-mend-read
 slice-aggregate-mend-read c =
-    let n = rw (c .before .before .taken .given .1) at (c .before .before .before .before .before .take .ensures) in
-    sym (length-take-le _ _ (omega (arith, n, c .before .before .before .before .before .take .kept .0)))
+    let at-take = c .before .before .before .before .before in
+    let n = rw (c .before .before .taken .given .1) at (at-take .take .ensures) in
+    sym (length-take-le _ _ (omega (arith, n, at-take .take .kept .0)))
 
 mend-read-requires : tie.Need-mend-read-requires
 mend-read-requires c κs = search needs

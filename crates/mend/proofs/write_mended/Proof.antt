@@ -25,13 +25,19 @@ slice-aggregate-repair-3 : tie.Need-slice-aggregate-repair-3
 slice-aggregate-repair-3 c = search needs
 
 repair-requires : tie.Need-repair-requires
-repair-requires c κs = enough-room _ _ _ _ (c .before .before .before .before .before .before .before .pre) (c .before .before .before .before .before .recording .ensures .long) (c .before .before .before .before .index-room .ensures .long) (c .before .before .before .number-room .ensures .long)
+repair-requires c κs =
+    let at-index-room = c .before .before .before .before in
+    let at-recording = at-index-room .before in
+    let start = at-recording .before .before in
+    enough-room _ _ _ _ (start .pre) (at-recording .recording .ensures .long) (at-index-room .index-room .ensures .long) (c .before .before .before .number-room .ensures .long)
 
 array-share-prefix-out : tie.Need-array-share-prefix-out
 array-share-prefix-out c = size-fits (c .before .before .before .repair .ensures)
 
 slice-aggregate-write-all : tie.Need-slice-aggregate-write-all
-slice-aggregate-write-all c = sym (length-take-le _ _ (size-fits (c .before .before .before .before .repair .ensures)))
+slice-aggregate-write-all c =
+    let at-repair = c .before .before .before .before in
+    sym (length-take-le _ _ (size-fits (at-repair .repair .ensures)))
 
 write-all-requires : tie.Need-write-all-requires
 write-all-requires c κs = search needs
@@ -49,25 +55,40 @@ returns-2 : tie.Need-returns-2
 returns-2 c = search needs
 
 array-share-prefix-indices : tie.Need-array-share-prefix-indices
-array-share-prefix-indices c = indices-fit (c .before .before .before .before .before .before .before .before .before .repair .ensures)
+array-share-prefix-indices c =
+    let at-repair = c .before .before .before .before .before .before .before .before .before in
+    indices-fit (at-repair .repair .ensures)
 
 slice-aggregate-say-list : tie.Need-slice-aggregate-say-list
-slice-aggregate-say-list c = sym (length-take-le _ _ (indices-fit (c .before .before .before .before .before .before .before .before .before .before .repair .ensures)))
+slice-aggregate-say-list c =
+    let at-repair = c .before .before .before .before .before .before .before .before .before .before in
+    sym (length-take-le _ _ (indices-fit (at-repair .repair .ensures)))
 
 array-share-prefix-numbers : tie.Need-array-share-prefix-numbers
-array-share-prefix-numbers c = numbers-fit (c .before .before .before .before .before .before .before .before .before .before .repair .ensures)
+array-share-prefix-numbers c =
+    let at-repair = c .before .before .before .before .before .before .before .before .before .before in
+    numbers-fit (at-repair .repair .ensures)
 
 slice-aggregate-say-list-2 : tie.Need-slice-aggregate-say-list-2
-slice-aggregate-say-list-2 c = sym (length-take-le _ _ (numbers-fit (c .before .before .before .before .before .before .before .before .before .before .before .repair .ensures)))
+slice-aggregate-say-list-2 c =
+    let at-repair = c .before .before .before .before .before .before .before .before .before .before .before in
+    sym (length-take-le _ _ (numbers-fit (at-repair .repair .ensures)))
 
 say-list-requires : tie.Need-say-list-requires
-say-list-requires c κs = (listed-alike (c .before .before .before .before .before .before .before .before .before .before .before .repair .ensures), listed-low (c .before .before .before .before .before .before .before .before .before .before .before .repair .ensures) (c .before .before .before .before .before .before .before .before .before .before .before .before .before .before .before .before .before .before .before .pre))
+say-list-requires c κs =
+    let at-repair = c .before .before .before .before .before .before .before .before .before .before .before in
+    let start = at-repair .before .before .before .before .before .before .before .before in
+    (listed-alike (at-repair .repair .ensures), listed-low (at-repair .repair .ensures) (start .pre))
 
 array-share-prefix-out-2 : tie.Need-array-share-prefix-out-2
-array-share-prefix-out-2 c = size-fits (c .before .before .before .before .before .before .before .before .before .before .before .before .repair .ensures)
+array-share-prefix-out-2 c =
+    let at-repair = c .before .before .before .before .before .before .before .before .before .before .before .before in
+    size-fits (at-repair .repair .ensures)
 
 slice-aggregate-held : tie.Need-slice-aggregate-held
-slice-aggregate-held c = sym (length-take-le _ _ (size-fits (c .before .before .before .before .before .before .before .before .before .before .before .before .before .repair .ensures)))
+slice-aggregate-held c =
+    let at-repair = c .before .before .before .before .before .before .before .before .before .before .before .before .before in
+    sym (length-take-le _ _ (size-fits (at-repair .repair .ensures)))
 
 held-requires : tie.Need-held-requires
 held-requires c κs = search needs

@@ -22,10 +22,14 @@ kept-requires : tie.Need-kept-requires
 kept-requires c κs = search needs
 
 mul-size : tie.Need-mul-size
-mul-size c = omega (arith, c .kept .ensures, kept-few (now (c .before .before .before .before .before .before .before .before .args .bytes)))
+mul-size c =
+    let start = c .before .before .before .before .before .before .before .before in
+    omega (arith, c .kept .ensures, kept-few (now (start .args .bytes)))
 
 add-size : tie.Need-add-size
-add-size c = omega (arith, c .kept .ensures, kept-few (now (c .before .before .before .before .before .before .before .before .args .bytes)))
+add-size c =
+    let start = c .before .before .before .before .before .before .before .before in
+    omega (arith, c .kept .ensures, kept-few (now (start .args .bytes)))
 
 held-requires : tie.Need-held-requires
 held-requires c κs = search needs
@@ -86,10 +90,12 @@ same-length-5 c = search needs
 
 returns-3 : tie.Need-returns-3
 returns-3 c =
-    let e = c .before .before .before .before .before .before .before .before .before .before .before .before .before .before .before .before .before .before .before .before in
+    let at-run = c .before .before .before .before .before .before in
+    let at-sort = at-run .before .before .before .before .before .before .before .before .before .before in
+    let e = at-sort .before .before .before .before in
     mend-done _ _ _ _ _ (e .before .before .before .if1 .left) (e .before .before .kept .ensures)
     (e .before .held .ensures) (e .if2 .left)
-    (c .before .before .before .before .before .before .before .before .before .before .before .before .before .before .before .before .sort .ensures) (c .before .before .before .before .before .before .run .ensures) (c .before .cut-bits .ensures) (c .half-cleared .ensures)
+    (at-sort .sort .ensures) (at-run .run .ensures) (c .before .cut-bits .ensures) (c .half-cleared .ensures)
 
 pub dextolumen-mend-spec : {M : Type 1} → statement M
 dextolumen-mend-spec =

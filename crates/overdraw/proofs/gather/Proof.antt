@@ -37,29 +37,43 @@ is-whole-requires : tie.Need-is-whole-requires Inv-loop μ-loop
 is-whole-requires c κs = search needs
 
 returns : tie.Need-returns Inv-loop μ-loop
-returns c = c .before .before .before .before .before .before .before .loop .inv .1 _ (c .before .before .before .before .before .before .before .before .begin .ensures)
+returns c =
+    let at-loop = c .before .before .before .before .before .before .before in
+    let at-begin = at-loop .before in
+    at-loop .loop .inv .1 _ (at-begin .begin .ensures)
 
 array-share-prefix-bytes : tie.Need-array-share-prefix-bytes Inv-loop μ-loop
 array-share-prefix-bytes c =
-    let n = rw (c .before .found .given .1) at (c .before .before .before .before .find .ensures) in
+    let at-find = c .before .before .before .before in
+    let n = rw (c .before .found .given .1) at (at-find .find .ensures) in
     omega (arith, n, c .before .before .before .bytes2 .given)
 
 slice-aggregate-add : tie.Need-slice-aggregate-add Inv-loop μ-loop
 slice-aggregate-add c =
-    let n = rw (c .before .before .found .given .1) at (c .before .before .before .before .before .find .ensures) in
-    sym (length-take-le _ _ (omega (arith, n, c .before .before .before .before .bytes2 .given)))
+    let at-bytes2 = c .before .before .before .before in
+    let at-find = at-bytes2 .before in
+    let n = rw (c .before .before .found .given .1) at (at-find .find .ensures) in
+    sym (length-take-le _ _ (omega (arith, n, at-bytes2 .bytes2 .given)))
 
 add-requires : tie.Need-add-requires Inv-loop μ-loop
-add-requires c κs = come-ready (c .before .before .before .before .before .before .before .before .before .before .loop .inv .1 _ (c .before .before .before .before .before .before .before .before .before .before .before .begin .ensures)) (c .before .before .before .before .before .before .before .before .if1 .taken)
+add-requires c κs =
+    let at-if1 = c .before .before .before .before .before .before .before .before in
+    let at-loop = at-if1 .before .before in
+    let at-begin = at-loop .before in
+    come-ready (at-loop .loop .inv .1 _ (at-begin .begin .ensures)) (at-if1 .if1 .taken)
 
 loop-less : tie.Need-loop-less Inv-loop μ-loop
-loop-less c = omega (arith, c .add .ensures .files, c .before .before .before .before .before .before .before .before .before .if1 .taken)
+loop-less c =
+    let at-if1 = c .before .before .before .before .before .before .before .before .before in
+    omega (arith, c .add .ensures .files, at-if1 .if1 .taken)
 
 loop-again : tie.Need-loop-again Inv-loop μ-loop
 loop-again c =
-    let l = c .before .before .before .before .before .before .before .before .before .before .before .loop in (
-      c .before .before .before .before .before .before .bytes2 .given,
-      λ old h. come-more (l .inv .1 old h) (c .before .before .before .before .before .before .before .before .before .if1 .taken) (c .add .ensures),
+    let at-bytes2 = c .before .before .before .before .before .before in
+    let at-if1 = at-bytes2 .before .before .before in
+    let l = at-if1 .before .before .loop in (
+      at-bytes2 .bytes2 .given,
+      λ old h. come-more (l .inv .1 old h) (at-if1 .if1 .taken) (c .add .ensures),
     )
 
 returns-2 : tie.Need-returns-2 Inv-loop μ-loop

@@ -11,7 +11,9 @@ finish-requires : tie.Need-finish-requires
 finish-requires c κs = come-room (c .before .before .before .gather .ensures)
 
 returns : tie.Need-returns
-returns c = come-whole (c .before .before .before .before .gather .ensures) (c .finish .ensures)
+returns c =
+    let at-gather = c .before .before .before .before in
+    come-whole (at-gather .gather .ensures) (c .finish .ensures)
 
 returns-2 : tie.Need-returns-2
 returns-2 c = come-part (c .before .before .gather .ensures)

@@ -46,13 +46,15 @@ returns c = search needs
 
 array-share-prefix-piece : tie.Need-array-share-prefix-piece Inv-loop μ-loop
 array-share-prefix-piece c =
-    let n = rw (c .before .taken .given .1) at (c .before .before .before .before .take .ensures) in
-    omega (arith, n, c .before .before .before .before .take .kept .0)
+    let at-take = c .before .before .before .before in
+    let n = rw (c .before .taken .given .1) at (at-take .take .ensures) in
+    omega (arith, n, at-take .take .kept .0)
 
 slice-aggregate-dextolumen-feed : tie.Need-slice-aggregate-dextolumen-feed Inv-loop μ-loop
 slice-aggregate-dextolumen-feed c =
-    let n = rw (c .before .before .taken .given .1) at (c .before .before .before .before .before .take .ensures) in
-    sym (length-take-le _ _ (omega (arith, n, c .before .before .before .before .before .take .kept .0)))
+    let at-take = c .before .before .before .before .before in
+    let n = rw (c .before .before .taken .given .1) at (at-take .take .ensures) in
+    sym (length-take-le _ _ (omega (arith, n, at-take .take .kept .0)))
 
 dextolumen-feed-requires : tie.Need-dextolumen-feed-requires Inv-loop μ-loop
 dextolumen-feed-requires c κs = search needs
@@ -70,7 +72,10 @@ loop-less : tie.Need-loop-less Inv-loop μ-loop
 loop-less c = search needs
 
 loop-again : tie.Need-loop-again Inv-loop μ-loop
-loop-again c = omega (arith, c .before .before .before .before .before .before .before .before .before .take .kept .0, c .before .before .before .before .before .before .before .before .before .before .before .before .loop .inv)
+loop-again c =
+    let at-take = c .before .before .before .before .before .before .before .before .before in
+    let at-loop = at-take .before .before .before in
+    omega (arith, at-take .take .kept .0, at-loop .loop .inv)
 
 slice-aggregate-print : tie.Need-slice-aggregate-print Inv-loop μ-loop
 slice-aggregate-print c = search needs

@@ -35,7 +35,8 @@ slice-aggregate-write-drawn-2 c = sym (length-take-le _ _ (search needs))
 
 write-drawn-requires : tie.Need-write-drawn-requires
 write-drawn-requires c κs =
-    first-fresh (c .before .before .before .before .before .before .args .wanted .places) (search needs) (c .before .before .before .blank .ensures) (c .before .before .blank2 .ensures)
+    let start = c .before .before .before .before .before .before in
+    first-fresh (start .args .wanted .places) (search needs) (c .before .before .before .blank .ensures) (c .before .before .blank2 .ensures)
 
 returns-2 : tie.Need-returns-2
 returns-2 c = search needs

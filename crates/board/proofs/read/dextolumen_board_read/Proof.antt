@@ -17,7 +17,10 @@ read-requires : tie.Need-read-requires
 read-requires c κs = search needs
 
 returns-2 : tie.Need-returns-2
-returns-2 c = read-taken _ _ (c .before .before .before .before .before .is-even .ensures) (c .before .before .before .before .read-number .ensures) (c .before .before .before .if1 .left) (c .before .read .ensures)
+returns-2 c =
+    let at-read-number = c .before .before .before .before in
+    let at-is-even = at-read-number .before in
+    read-taken _ _ (at-is-even .is-even .ensures) (at-read-number .read-number .ensures) (c .before .before .before .if1 .left) (c .before .read .ensures)
 
 pub dextolumen-board-read-spec : {M : Type 1} → statement M
 dextolumen-board-read-spec = tie.close (tie.spec is-even-requires read-number-requires returns read-requires returns-2)

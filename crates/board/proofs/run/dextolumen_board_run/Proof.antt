@@ -11,37 +11,59 @@ stopped-requires : tie.Need-stopped-requires
 stopped-requires c κs = search needs
 
 returns : tie.Need-returns
-returns c = run-none _ _ _ (c .before .before .before .before .dextolumen-board-reset .ensures) (c .stopped .ensures) (c .before .if1 .taken)
+returns c =
+    let at-dextolumen-board-reset = c .before .before .before .before in
+    run-none _ _ _ (at-dextolumen-board-reset .dextolumen-board-reset .ensures) (c .stopped .ensures) (c .before .if1 .taken)
 
 run-from-requires : tie.Need-run-from-requires
 run-from-requires c κs = search needs
 
 same-length : tie.Need-same-length
-same-length c = c .before .before .before .before .before .before .before .before .before .before .before .before .before .before .before .before .run-from .kept .1 .1 .0
+same-length c =
+    let at-run-from = c .before .before .before .before .before .before .before .before .before .before .before .before .before .before .before .before in
+    at-run-from .run-from .kept .1 .1 .0
 
 same-length-2 : tie.Need-same-length-2
-same-length-2 c = c .before .before .before .before .before .before .before .before .before .before .before .before .before .before .before .before .run-from .kept .1 .1 .1 .0
+same-length-2 c =
+    let at-run-from = c .before .before .before .before .before .before .before .before .before .before .before .before .before .before .before .before in
+    at-run-from .run-from .kept .1 .1 .1 .0
 
 same-length-3 : tie.Need-same-length-3
-same-length-3 c = c .before .before .before .before .before .before .before .before .before .before .before .before .before .before .before .before .run-from .kept .1 .1 .1 .1 .0
+same-length-3 c =
+    let at-run-from = c .before .before .before .before .before .before .before .before .before .before .before .before .before .before .before .before in
+    at-run-from .run-from .kept .1 .1 .1 .1 .0
 
 same-length-4 : tie.Need-same-length-4
-same-length-4 c = c .before .before .before .before .before .before .before .before .before .before .before .before .before .before .before .before .run-from .kept .1 .1 .1 .1 .1 .0
+same-length-4 c =
+    let at-run-from = c .before .before .before .before .before .before .before .before .before .before .before .before .before .before .before .before in
+    at-run-from .run-from .kept .1 .1 .1 .1 .1 .0
 
 same-length-5 : tie.Need-same-length-5
-same-length-5 c = c .before .before .before .before .before .before .before .before .before .before .before .before .before .before .before .before .run-from .kept .1 .1 .1 .1 .1 .1 .0
+same-length-5 c =
+    let at-run-from = c .before .before .before .before .before .before .before .before .before .before .before .before .before .before .before .before in
+    at-run-from .run-from .kept .1 .1 .1 .1 .1 .1 .0
 
 same-length-6 : tie.Need-same-length-6
-same-length-6 c = c .before .before .before .before .before .before .before .before .before .before .before .before .before .before .before .before .run-from .kept .1 .1 .1 .1 .1 .1 .1 .0
+same-length-6 c =
+    let at-run-from = c .before .before .before .before .before .before .before .before .before .before .before .before .before .before .before .before in
+    at-run-from .run-from .kept .1 .1 .1 .1 .1 .1 .1 .0
 
 same-length-7 : tie.Need-same-length-7
-same-length-7 c = c .before .before .before .before .before .before .before .before .before .before .before .before .before .before .before .before .run-from .kept .1 .1 .1 .1 .1 .1 .1 .1 .0
+same-length-7 c =
+    let at-run-from = c .before .before .before .before .before .before .before .before .before .before .before .before .before .before .before .before in
+    at-run-from .run-from .kept .1 .1 .1 .1 .1 .1 .1 .1 .0
 
 same-length-8 : tie.Need-same-length-8
-same-length-8 c = c .before .before .before .before .before .before .before .before .before .before .before .before .before .before .before .before .run-from .kept .1 .1 .1 .1 .1 .1 .1 .1 .1 .0
+same-length-8 c =
+    let at-run-from = c .before .before .before .before .before .before .before .before .before .before .before .before .before .before .before .before in
+    at-run-from .run-from .kept .1 .1 .1 .1 .1 .1 .1 .1 .1 .0
 
 returns-2 : tie.Need-returns-2
-returns-2 c = run-some _ _ _ (c .before .before .before .before .before .before .before .before .before .before .before .before .before .before .before .before .before .before .before .before .before .before .before .before .before .before .before .before .dextolumen-board-reset .ensures) (c .before .before .before .before .before .before .before .before .before .before .before .before .before .before .before .before .run-from .ensures) (c .before .before .before .before .before .before .before .before .before .before .before .before .before .before .before .before .before .before .before .before .before .before .before .before .before .if1 .left)
+returns-2 c =
+    let at-run-from = c .before .before .before .before .before .before .before .before .before .before .before .before .before .before .before .before in
+    let at-if1 = at-run-from .before .before .before .before .before .before .before .before .before in
+    let at-dextolumen-board-reset = at-if1 .before .before .before in
+    run-some _ _ _ (at-dextolumen-board-reset .dextolumen-board-reset .ensures) (at-run-from .run-from .ensures) (at-if1 .if1 .left)
 
 pub dextolumen-board-run-spec : {M : Type 1} → statement M
 dextolumen-board-run-spec = tie.close (tie.spec dextolumen-board-reset-requires stopped-requires returns run-from-requires same-length same-length-2 same-length-3 same-length-4 same-length-5 same-length-6 same-length-7 same-length-8 returns-2)

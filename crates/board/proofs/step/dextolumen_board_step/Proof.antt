@@ -17,7 +17,9 @@ refused-requires : tie.Need-refused-requires
 refused-requires c κs = search needs
 
 returns : tie.Need-returns
-returns c = step-unfit _ _ (c .before .before .before .before .is-even .ensures) (c .before .before .before .is-whole .ensures) _ _ (c .before .before .if1 .taken) (c .before .unfit-number .ensures) (c .refused .ensures)
+returns c =
+    let at-is-even = c .before .before .before .before in
+    step-unfit _ _ (at-is-even .is-even .ensures) (c .before .before .before .is-whole .ensures) _ _ (c .before .before .if1 .taken) (c .before .unfit-number .ensures) (c .refused .ensures)
 
 command-of-requires : tie.Need-command-of-requires
 command-of-requires c κs = search needs
@@ -26,34 +28,60 @@ data-of-requires : tie.Need-data-of-requires
 data-of-requires c κs = search needs
 
 units-step-requires : tie.Need-units-step-requires
-units-step-requires c κs = whole-low _ _ (c .before .before .before .before .before .before .before .before .before .before .before .is-whole .ensures) (c .before .before .before .before .before .before .before .before .before .before .if1 .left)
+units-step-requires c κs =
+    let at-if1 = c .before .before .before .before .before .before .before .before .before .before in
+    let at-is-whole = at-if1 .before in
+    whole-low _ _ (at-is-whole .is-whole .ensures) (at-if1 .if1 .left)
 
 same-length : tie.Need-same-length
-same-length c = c .before .before .before .before .before .before .before .before .before .before .before .before .before .before .before .before .units-step .kept .1 .1 .1 .0
+same-length c =
+    let at-units-step = c .before .before .before .before .before .before .before .before .before .before .before .before .before .before .before .before in
+    at-units-step .units-step .kept .1 .1 .1 .0
 
 same-length-2 : tie.Need-same-length-2
-same-length-2 c = c .before .before .before .before .before .before .before .before .before .before .before .before .before .before .before .before .units-step .kept .1 .1 .1 .1 .0
+same-length-2 c =
+    let at-units-step = c .before .before .before .before .before .before .before .before .before .before .before .before .before .before .before .before in
+    at-units-step .units-step .kept .1 .1 .1 .1 .0
 
 same-length-3 : tie.Need-same-length-3
-same-length-3 c = c .before .before .before .before .before .before .before .before .before .before .before .before .before .before .before .before .units-step .kept .1 .1 .1 .1 .1 .0
+same-length-3 c =
+    let at-units-step = c .before .before .before .before .before .before .before .before .before .before .before .before .before .before .before .before in
+    at-units-step .units-step .kept .1 .1 .1 .1 .1 .0
 
 same-length-4 : tie.Need-same-length-4
-same-length-4 c = c .before .before .before .before .before .before .before .before .before .before .before .before .before .before .before .before .units-step .kept .1 .1 .1 .1 .1 .1 .0
+same-length-4 c =
+    let at-units-step = c .before .before .before .before .before .before .before .before .before .before .before .before .before .before .before .before in
+    at-units-step .units-step .kept .1 .1 .1 .1 .1 .1 .0
 
 same-length-5 : tie.Need-same-length-5
-same-length-5 c = c .before .before .before .before .before .before .before .before .before .before .before .before .before .before .before .before .units-step .kept .1 .1 .1 .1 .1 .1 .1 .0
+same-length-5 c =
+    let at-units-step = c .before .before .before .before .before .before .before .before .before .before .before .before .before .before .before .before in
+    at-units-step .units-step .kept .1 .1 .1 .1 .1 .1 .1 .0
 
 same-length-6 : tie.Need-same-length-6
-same-length-6 c = c .before .before .before .before .before .before .before .before .before .before .before .before .before .before .before .before .units-step .kept .1 .1 .1 .1 .1 .1 .1 .1 .0
+same-length-6 c =
+    let at-units-step = c .before .before .before .before .before .before .before .before .before .before .before .before .before .before .before .before in
+    at-units-step .units-step .kept .1 .1 .1 .1 .1 .1 .1 .1 .0
 
 same-length-7 : tie.Need-same-length-7
-same-length-7 c = c .before .before .before .before .before .before .before .before .before .before .before .before .before .before .before .before .units-step .kept .1 .1 .1 .1 .1 .1 .1 .1 .1 .0
+same-length-7 c =
+    let at-units-step = c .before .before .before .before .before .before .before .before .before .before .before .before .before .before .before .before in
+    at-units-step .units-step .kept .1 .1 .1 .1 .1 .1 .1 .1 .1 .0
 
 same-length-8 : tie.Need-same-length-8
-same-length-8 c = c .before .before .before .before .before .before .before .before .before .before .before .before .before .before .before .before .units-step .kept .1 .1 .1 .1 .1 .1 .1 .1 .1 .1 .0
+same-length-8 c =
+    let at-units-step = c .before .before .before .before .before .before .before .before .before .before .before .before .before .before .before .before in
+    at-units-step .units-step .kept .1 .1 .1 .1 .1 .1 .1 .1 .1 .1 .0
 
 returns-2 : tie.Need-returns-2
-returns-2 c = step-whole _ _ (c .before .before .before .before .before .before .before .before .before .before .before .before .before .before .before .before .before .before .before .before .before .before .before .before .before .before .before .before .before .is-even .ensures) (c .before .before .before .before .before .before .before .before .before .before .before .before .before .before .before .before .before .before .before .before .before .before .before .before .before .before .before .before .is-whole .ensures) _ _ (c .before .before .before .before .before .before .before .before .before .before .before .before .before .before .before .before .before .before .before .before .before .before .before .before .before .before .before .if1 .left) (c .before .before .before .before .before .before .before .before .before .before .before .before .before .before .before .before .before .before .before .before .before .before .before .before .before .before .command-of .ensures) (c .before .before .before .before .before .before .before .before .before .before .before .before .before .before .before .before .before .before .before .before .before .before .before .before .before .data-of .ensures) (c .before .before .before .before .before .before .before .before .before .before .before .before .before .before .before .before .units-step .ensures)
+returns-2 c =
+    let at-units-step = c .before .before .before .before .before .before .before .before .before .before .before .before .before .before .before .before in
+    let at-data-of = at-units-step .before .before .before .before .before .before .before .before .before in
+    let at-command-of = at-data-of .before in
+    let at-if1 = at-command-of .before in
+    let at-is-whole = at-if1 .before in
+    let at-is-even = at-is-whole .before in
+    step-whole _ _ (at-is-even .is-even .ensures) (at-is-whole .is-whole .ensures) _ _ (at-if1 .if1 .left) (at-command-of .command-of .ensures) (at-data-of .data-of .ensures) (at-units-step .units-step .ensures)
 
 pub dextolumen-board-step-spec : {M : Type 1} → statement M
 dextolumen-board-step-spec = tie.close (tie.spec is-even-requires is-whole-requires unfit-number-requires refused-requires returns command-of-requires data-of-requires units-step-requires same-length same-length-2 same-length-3 same-length-4 same-length-5 same-length-6 same-length-7 same-length-8 returns-2)

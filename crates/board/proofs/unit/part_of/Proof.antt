@@ -23,7 +23,12 @@ same-length-2 : tie.Need-same-length-2
 same-length-2 c = search needs
 
 returns-2 : tie.Need-returns-2
-returns-2 c = part-present _ _ _ _ _ (c .before .before .before .before .before .before .before .before .before .if1 .left) (c .before .before .before .before .before .before .before .before .layout-of .ensures) (c .before .before .before .before .before .before .before .in-layout .ensures) (c .before .before .before .before .step .ensures)
+returns-2 c =
+    let at-step = c .before .before .before .before in
+    let at-in-layout = at-step .before .before .before in
+    let at-layout-of = at-in-layout .before in
+    let at-if1 = at-layout-of .before in
+    part-present _ _ _ _ _ (at-if1 .if1 .left) (at-layout-of .layout-of .ensures) (at-in-layout .in-layout .ensures) (at-step .step .ensures)
 
 pub part-of-spec : {M : Type 1} → statement M
 part-of-spec = tie.close (tie.spec returns layout-of-requires in-layout-requires step-requires same-length same-length-2 returns-2)

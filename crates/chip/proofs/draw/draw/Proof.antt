@@ -24,8 +24,11 @@ same-length-2 c = search needs
 
 returns-2 : tie.Need-returns-2
 returns-2 c =
-    let a = c .before .before .before .before .before .before .before .before .before .before .before .args in
-    uncut-drawn (a .r) (now (a .im)) (now (a .zm)) (a .figure) (c .before .before .before .before .before .before .before .before .is-cut .ensures) (c .before .before .before .before .before .before .before .if1 .left) (c .before .before .before .before .draw-whole .ensures)
+    let at-draw-whole = c .before .before .before .before in
+    let at-if1 = at-draw-whole .before .before .before in
+    let at-is-cut = at-if1 .before in
+    let a = at-is-cut .before .before .before .args in
+    uncut-drawn (a .r) (now (a .im)) (now (a .zm)) (a .figure) (at-is-cut .is-cut .ensures) (at-if1 .if1 .left) (at-draw-whole .draw-whole .ensures)
 
 pub draw-spec : {M : Type 1} → statement M
 draw-spec = tie.close (tie.spec is-cut-requires returns draw-whole-requires same-length same-length-2 returns-2)

@@ -27,7 +27,9 @@ segment-requires : tie.Need-segment-requires
 segment-requires c κs = search needs
 
 returns : tie.Need-returns
-returns c = none-drawn (c .before .before .before .before .before .before .before .args .r) (now (c .before .before .before .before .before .before .before .args .im)) (now (c .before .before .before .before .before .before .before .args .zm)) (c .enum-told .given .1)
+returns c =
+    let start = c .before .before .before .before .before .before .before in
+    none-drawn (start .args .r) (now (start .args .im)) (now (start .args .zm)) (c .enum-told .given .1)
 
 same-length : tie.Need-same-length
 same-length c = search needs
@@ -36,7 +38,12 @@ same-length-2 : tie.Need-same-length-2
 same-length-2 c = search needs
 
 returns-2 : tie.Need-returns-2
-returns-2 c = triangle-drawn (c .before .before .before .before .before .before .before .before .before .before .before .before .before .before .before .args .r) (now (c .before .before .before .before .before .before .before .before .before .before .before .before .before .before .before .args .im)) (now (c .before .before .before .before .before .before .before .before .before .before .before .before .before .before .before .args .zm)) (c .before .before .before .before .before .before .before .before .before .before .before .before .pen .ensures) (c .before .before .before .before .before .before .before .before .figure .given .1) (c .before .before .before .before .triangle .ensures)
+returns-2 c =
+    let at-triangle = c .before .before .before .before in
+    let at-figure = at-triangle .before .before .before .before in
+    let at-pen = at-figure .before .before .before .before in
+    let start = at-pen .before .before .before in
+    triangle-drawn (start .args .r) (now (start .args .im)) (now (start .args .zm)) (at-pen .pen .ensures) (at-figure .figure .given .1) (at-triangle .triangle .ensures)
 
 same-length-3 : tie.Need-same-length-3
 same-length-3 c = search needs
@@ -45,7 +52,13 @@ same-length-4 : tie.Need-same-length-4
 same-length-4 c = search needs
 
 returns-3 : tie.Need-returns-3
-returns-3 c = segment-drawn (c .before .before .before .before .before .before .before .before .before .before .before .before .before .before .before .args .r) (now (c .before .before .before .before .before .before .before .before .before .before .before .before .before .before .before .args .im)) (now (c .before .before .before .before .before .before .before .before .before .before .before .before .before .before .before .args .zm)) (c .before .before .before .before .before .before .before .before .before .before .before .before .pen .ensures) (c .before .before .before .before .before .before .before .before .before .before .style-of .ensures) (c .before .before .before .before .before .before .before .before .figure2 .given .1) (c .before .before .before .before .segment .ensures)
+returns-3 c =
+    let at-segment = c .before .before .before .before in
+    let at-figure2 = at-segment .before .before .before .before in
+    let at-style-of = at-figure2 .before .before in
+    let at-pen = at-style-of .before .before in
+    let start = at-pen .before .before .before in
+    segment-drawn (start .args .r) (now (start .args .im)) (now (start .args .zm)) (at-pen .pen .ensures) (at-style-of .style-of .ensures) (at-figure2 .figure2 .given .1) (at-segment .segment .ensures)
 
 pub draw-whole-spec : {M : Type 1} → statement M
 draw-whole-spec =

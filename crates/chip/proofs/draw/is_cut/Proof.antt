@@ -19,7 +19,9 @@ returns c = rw (c .enum-told .given .1)
 
 returns-2 : tie.Need-returns-2
 unfolding isCut
-returns-2 c = rw (c .before .before .before .before .before .figure .given .1)
+returns-2 c =
+    let at-figure = c .before .before .before .before .before in
+    rw (at-figure .figure .given .1)
 
 returns-3 : tie.Need-returns-3
 unfolding isCut

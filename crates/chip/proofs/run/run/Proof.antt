@@ -23,9 +23,11 @@ same-length-2 c = search needs
 
 returns : tie.Need-returns
 returns c =
-    let a = c .before .before .before .before .before .before .before .before .before .before .before .args in
-    c .before .before .before .before .run-from .ensures
-    ∙ ap (λ (r : Registers). running r (a .bytes .now) (memories (a .im .now) (a .zm .now))) (c .before .before .before .before .before .before .before .reset .ensures)
+    let at-run-from = c .before .before .before .before in
+    let at-reset = at-run-from .before .before .before in
+    let a = at-reset .before .before .before .before .args in
+    at-run-from .run-from .ensures
+    ∙ ap (λ (r : Registers). running r (a .bytes .now) (memories (a .im .now) (a .zm .now))) (at-reset .reset .ensures)
 
 pub run-spec : {M : Type 1} → statement M
 run-spec = tie.close (tie.spec reset-requires run-from-requires same-length same-length-2 returns)

@@ -20,7 +20,9 @@ returns-2 : tie.Need-returns-2
 returns-2 c = run-unlike _ _ _ (c .before .before .before .flaw .ensures) (c .before .before .if1 .left) (c .refused2 .ensures) (c .before .if2 .taken)
 
 run-words-requires : tie.Need-run-words-requires
-run-words-requires c κs = (c .before .before .before .before .before .before .before .before .pre, c .before .before .if2 .left)
+run-words-requires c κs =
+    let start = c .before .before .before .before .before .before .before .before in
+    (start .pre, c .before .before .if2 .left)
 
 same-length : tie.Need-same-length
 same-length c = search needs
@@ -29,7 +31,12 @@ same-length-2 : tie.Need-same-length-2
 same-length-2 c = search needs
 
 returns-3 : tie.Need-returns-3
-returns-3 c = run-good _ _ _ (c .before .before .before .before .before .before .before .before .before .flaw .ensures) (c .before .before .before .before .before .before .before .before .if1 .left) (c .before .before .before .before .run-words .ensures) (c .before .before .before .before .before .before .before .if2 .left)
+returns-3 c =
+    let at-run-words = c .before .before .before .before in
+    let at-if2 = at-run-words .before .before .before in
+    let at-if1 = at-if2 .before in
+    let at-flaw = at-if1 .before in
+    run-good _ _ _ (at-flaw .flaw .ensures) (at-if1 .if1 .left) (at-run-words .run-words .ensures) (at-if2 .if2 .left)
 
 pub run-from-spec : {M : Type 1} → statement M
 run-from-spec =

@@ -24,7 +24,9 @@ held-requires : tie.Need-held-requires Inv-loop μ-loop
 held-requires c κs = search needs
 
 loop-holds : tie.Need-loop-holds Inv-loop μ-loop
-loop-holds c = (omega arith, c .held .ensures, refl, refl, c .before .before .before .before .pre .0, reached-start _ _ _ refl)
+loop-holds c =
+    let start = c .before .before .before .before in
+    (omega arith, c .held .ensures, refl, refl, start .pre .0, reached-start _ _ _ refl)
 
 step-at-requires : tie.Need-step-at-requires Inv-loop μ-loop
 step-at-requires c κs =
@@ -39,7 +41,11 @@ same-length-2 : tie.Need-same-length-2 Inv-loop μ-loop
 same-length-2 c = search needs
 
 returns : tie.Need-returns Inv-loop μ-loop
-returns c = reached-halt _ _ _ (c .before .before .before .before .before .before .before .before .before .before .before .loop .inv .5) (rw (c .before .before .before .before .before .before .before .before .before .before .before .loop .inv .1) at (c .before .before .before .before .before .before .before .before .before .before .loop-test .taken)) (c .before .before .before .before .before .before .before .step-at .ensures) (c .if1 .taken)
+returns c =
+    let at-step-at = c .before .before .before .before .before .before .before in
+    let in-loop = at-step-at .before .before .before in
+    let at-loop = in-loop .before in
+    reached-halt _ _ _ (at-loop .loop .inv .5) (rw (at-loop .loop .inv .1) at (in-loop .loop-test .taken)) (at-step-at .step-at .ensures) (c .if1 .taken)
 
 wrapping-add-u64-requires : tie.Need-wrapping-add-u64-requires Inv-loop μ-loop
 wrapping-add-u64-requires c κs = search needs
@@ -51,7 +57,11 @@ loop-less : tie.Need-loop-less Inv-loop μ-loop
 loop-less c = search needs
 
 loop-again : tie.Need-loop-again Inv-loop μ-loop
-loop-again c = (omega (arith, c .before .before .before .before .before .before .before .before .before .before .before .loop-test .taken), c .before .before .before .before .before .before .before .before .before .before .before .before .loop .inv .1, search needs, search needs, reached-kept _ _ _ (c .before .before .before .before .before .before .before .before .before .before .before .before .loop .inv .5) (rw (c .before .before .before .before .before .before .before .before .before .before .before .before .loop .inv .1) at (c .before .before .before .before .before .before .before .before .before .before .before .loop-test .taken)) (c .before .before .before .before .before .before .before .before .step-at .ensures) (c .before .before .before .before .before .before .before .before .before .before .before .before .loop .inv .4), rw (c .wrapping-add-u64 .ensures) (reached-more _ _ _ (c .before .before .before .before .before .before .before .before .before .before .before .before .loop .inv .5) (rw (c .before .before .before .before .before .before .before .before .before .before .before .before .loop .inv .1) at (c .before .before .before .before .before .before .before .before .before .before .before .loop-test .taken)) (c .before .before .before .before .before .before .before .before .step-at .ensures) (c .before .if1 .left)))
+loop-again c =
+    let at-step-at = c .before .before .before .before .before .before .before .before in
+    let in-loop = at-step-at .before .before .before in
+    let at-loop = in-loop .before in
+    (omega (arith, in-loop .loop-test .taken), at-loop .loop .inv .1, search needs, search needs, reached-kept _ _ _ (at-loop .loop .inv .5) (rw (at-loop .loop .inv .1) at (in-loop .loop-test .taken)) (at-step-at .step-at .ensures) (at-loop .loop .inv .4), rw (c .wrapping-add-u64 .ensures) (reached-more _ _ _ (at-loop .loop .inv .5) (rw (at-loop .loop .inv .1) at (in-loop .loop-test .taken)) (at-step-at .step-at .ensures) (c .before .if1 .left)))
 
 same-length-3 : tie.Need-same-length-3 Inv-loop μ-loop
 same-length-3 c = search needs

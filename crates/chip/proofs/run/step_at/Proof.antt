@@ -11,7 +11,9 @@ word-requires : tie.Need-word-requires
 word-requires c κs = search needs
 
 cast-decoded : tie.Need-cast-decoded
-cast-decoded c = omega (arith, c .word .ensures, word-fits (now (c .before .before .before .before .args .bytes)) (c .before .before .before .before .args .k))
+cast-decoded c =
+    let start = c .before .before .before .before in
+    omega (arith, c .word .ensures, word-fits (now (start .args .bytes)) (start .args .k))
 
 cast-decoded-2 : tie.Need-cast-decoded-2
 cast-decoded-2 c = search needs

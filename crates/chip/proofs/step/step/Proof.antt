@@ -19,7 +19,10 @@ same-length-2 : tie.Need-same-length-2
 same-length-2 c = search needs
 
 returns : tie.Need-returns
-returns c = rw (c .before .before .before .before .before .before .before .before .decoded .ensures) at (c .before .before .before .before .take .ensures)
+returns c =
+    let at-take = c .before .before .before .before in
+    let at-decoded = at-take .before .before .before .before in
+    rw (at-decoded .decoded .ensures) at (at-take .take .ensures)
 
 pub step-spec : {M : Type 1} → statement M
 step-spec =

@@ -18,7 +18,9 @@ same-length-2 : tie.Need-same-length-2
 same-length-2 c = search needs
 
 returns : tie.Need-returns
-returns c = c .before .before .before .before .take .ensures
+returns c =
+    let at-take = c .before .before .before .before in
+    at-take .take .ensures
 
 pub step-kept-spec : {M : Type 1} → statement M
 step-kept-spec =

@@ -11,7 +11,9 @@ quiet-requires : tie.Need-quiet-requires
 quiet-requires c κs = search needs
 
 returns : tie.Need-returns
-returns c = word-refused _ _ _ _ refl (c .before .before .before .before .pre) (c .quiet .ensures) (c .before .if1 .taken)
+returns c =
+    let start = c .before .before .before .before in
+    word-refused _ _ _ _ refl (start .pre) (c .quiet .ensures) (c .before .if1 .taken)
 
 enum-known-word : tie.Need-enum-known-word
 enum-known-word c = search needs
@@ -93,15 +95,24 @@ quiet-requires-9 c κs = search needs
 
 returns-2 : tie.Need-returns-2
 unfolding accepted completedBy wordStores
-returns-2 c = word-quiet _ _ _ _ refl (c .before .before .before .before .before .before .before .before .pre) (c .before .before .before .before .before .if1 .left) (rw (c .before .before .before .word .given .1)) (c .quiet2 .ensures) (rw (c .before .before .before .word .given .1)) (rw (c .before .before .before .word .given .1) (c .before .init .ensures))
+returns-2 c =
+    let at-if1 = c .before .before .before .before .before in
+    let start = at-if1 .before .before .before in
+    word-quiet _ _ _ _ refl (start .pre) (at-if1 .if1 .left) (rw (c .before .before .before .word .given .1)) (c .quiet2 .ensures) (rw (c .before .before .before .word .given .1)) (rw (c .before .before .before .word .given .1) (c .before .init .ensures))
 
 returns-3 : tie.Need-returns-3
 unfolding accepted completedBy wordStores
-returns-3 c = word-quiet _ _ _ _ refl (c .before .before .before .before .before .before .before .before .pre) (c .before .before .before .before .before .if1 .left) (rw (c .before .before .before .word2 .given .1)) (c .quiet3 .ensures) (rw (c .before .before .before .word2 .given .1)) (rw (c .before .before .before .word2 .given .1) (c .before .aux .ensures))
+returns-3 c =
+    let at-if1 = c .before .before .before .before .before in
+    let start = at-if1 .before .before .before in
+    word-quiet _ _ _ _ refl (start .pre) (at-if1 .if1 .left) (rw (c .before .before .before .word2 .given .1)) (c .quiet3 .ensures) (rw (c .before .before .before .word2 .given .1)) (rw (c .before .before .before .word2 .given .1) (c .before .aux .ensures))
 
 returns-4 : tie.Need-returns-4
 unfolding accepted completedBy wordStores
-returns-4 c = word-quiet _ _ _ _ refl (c .before .before .before .before .before .before .before .before .pre) (c .before .before .before .before .before .if1 .left) (rw (c .before .before .before .word3 .given .1)) (c .quiet4 .ensures) (rw (c .before .before .before .word3 .given .1)) (rw (c .before .before .before .word3 .given .1) (c .before .parm .ensures))
+returns-4 c =
+    let at-if1 = c .before .before .before .before .before in
+    let start = at-if1 .before .before .before in
+    word-quiet _ _ _ _ refl (start .pre) (at-if1 .if1 .left) (rw (c .before .before .before .word3 .given .1)) (c .quiet4 .ensures) (rw (c .before .before .before .word3 .given .1)) (rw (c .before .before .before .word3 .given .1) (c .before .parm .ensures))
 
 same-length : tie.Need-same-length
 same-length c = search needs
@@ -111,11 +122,20 @@ same-length-2 c = search needs
 
 returns-5 : tie.Need-returns-5
 unfolding accepted completedBy wordStores
-returns-5 c = word-drawn _ _ _ _ refl (c .before .before .before .before .before .before .before .before .before .before .before .before .before .before .before .pre) (c .before .before .before .before .before .before .before .before .before .before .before .before .if1 .left) (rw (c .before .before .before .before .before .before .before .before .before .before .word4 .given .1)) (rw (c .before .before .before .before .before .before .before .before .before .before .word4 .given .1) (c .before .before .before .before .before .before .before .before .completed-by .ensures)) (c .before .before .before .before .before .draw .ensures) (rw (c .before .before .before .before .before .before .before .before .before .before .word4 .given .1) (c .coordinate .ensures))
+returns-5 c =
+    let at-draw = c .before .before .before .before .before in
+    let at-completed-by = at-draw .before .before .before in
+    let at-word4 = at-completed-by .before .before in
+    let at-if1 = at-word4 .before .before in
+    let start = at-if1 .before .before .before in
+    word-drawn _ _ _ _ refl (start .pre) (at-if1 .if1 .left) (rw (at-word4 .word4 .given .1)) (rw (at-word4 .word4 .given .1) (at-completed-by .completed-by .ensures)) (at-draw .draw .ensures) (rw (at-word4 .word4 .given .1) (c .coordinate .ensures))
 
 returns-6 : tie.Need-returns-6
 unfolding accepted completedBy wordStores
-returns-6 c = word-quiet _ _ _ _ refl (c .before .before .before .before .before .before .before .before .pre) (c .before .before .before .before .before .if1 .left) (rw (c .before .before .before .word5 .given .1)) (c .quiet5 .ensures) (rw (c .before .before .before .word5 .given .1)) (rw (c .before .before .before .word5 .given .1) (c .before .img .ensures))
+returns-6 c =
+    let at-if1 = c .before .before .before .before .before in
+    let start = at-if1 .before .before .before in
+    word-quiet _ _ _ _ refl (start .pre) (at-if1 .if1 .left) (rw (c .before .before .before .word5 .given .1)) (c .quiet5 .ensures) (rw (c .before .before .before .word5 .given .1)) (rw (c .before .before .before .word5 .given .1) (c .before .img .ensures))
 
 same-length-3 : tie.Need-same-length-3
 same-length-3 c = search needs
@@ -125,19 +145,30 @@ same-length-4 c = search needs
 
 returns-7 : tie.Need-returns-7
 unfolding accepted completedBy wordStores
-returns-7 c = word-stored _ _ _ _ refl (c .before .before .before .before .before .before .before .before .before .before .before .before .before .before .before .pre) (c .before .before .before .before .before .before .before .before .before .before .before .before .if1 .left) (c .quiet6 .ensures) (rw (c .before .before .before .before .before .before .before .before .before .before .word6 .given .1)) (rw (c .before .before .before .before .before .before .before .before .before .before .word6 .given .1) (c .before .before .before .before .before .before .load .ensures)) (rw (c .before .before .before .before .before .before .before .before .before .before .word6 .given .1) (c .before .transferred .ensures))
+returns-7 c =
+    let at-load = c .before .before .before .before .before .before in
+    let at-word6 = at-load .before .before .before .before in
+    let at-if1 = at-word6 .before .before in
+    let start = at-if1 .before .before .before in
+    word-stored _ _ _ _ refl (start .pre) (at-if1 .if1 .left) (c .quiet6 .ensures) (rw (at-word6 .word6 .given .1)) (rw (at-word6 .word6 .given .1) (at-load .load .ensures)) (rw (at-word6 .word6 .given .1) (c .before .transferred .ensures))
 
 returns-8 : tie.Need-returns-8
 unfolding accepted completedBy wordStores
-returns-8 c = word-quiet _ _ _ _ refl (c .before .before .before .before .before .before .pre) (c .before .before .before .if1 .left) (rw (c .before .enum-told .given .1)) (c .quiet7 .ensures) (rw (c .before .enum-told .given .1)) (rw (c .before .enum-told .given .1))
+returns-8 c =
+    let start = c .before .before .before .before .before .before in
+    word-quiet _ _ _ _ refl (start .pre) (c .before .before .before .if1 .left) (rw (c .before .enum-told .given .1)) (c .quiet7 .ensures) (rw (c .before .enum-told .given .1)) (rw (c .before .enum-told .given .1))
 
 returns-9 : tie.Need-returns-9
 unfolding accepted completedBy wordStores
-returns-9 c = word-quiet _ _ _ _ refl (c .before .before .before .before .before .before .pre) (c .before .before .before .if1 .left) (rw (c .before .enum-told2 .given .1)) (c .quiet8 .ensures) (rw (c .before .enum-told2 .given .1)) (rw (c .before .enum-told2 .given .1))
+returns-9 c =
+    let start = c .before .before .before .before .before .before in
+    word-quiet _ _ _ _ refl (start .pre) (c .before .before .before .if1 .left) (rw (c .before .enum-told2 .given .1)) (c .quiet8 .ensures) (rw (c .before .enum-told2 .given .1)) (rw (c .before .enum-told2 .given .1))
 
 returns-10 : tie.Need-returns-10
 unfolding accepted completedBy wordStores
-returns-10 c = word-quiet _ _ _ _ refl (c .before .before .before .before .before .before .pre) (c .before .before .before .if1 .left) (rw (c .before .enum-told3 .given .1)) (c .quiet9 .ensures) (rw (c .before .enum-told3 .given .1)) (rw (c .before .enum-told3 .given .1))
+returns-10 c =
+    let start = c .before .before .before .before .before .before in
+    word-quiet _ _ _ _ refl (start .pre) (c .before .before .before .if1 .left) (rw (c .before .enum-told3 .given .1)) (c .quiet9 .ensures) (rw (c .before .enum-told3 .given .1)) (rw (c .before .enum-told3 .given .1))
 
 pub take-spec : {M : Type 1} → statement M
 take-spec =

@@ -21,7 +21,12 @@ same-length-2 : tie.Need-same-length-2
 same-length-2 c = search needs
 
 returns : tie.Need-returns
-returns c = let a = c .before .before .before .before .before .before .before .before .before .before .before .args in pixel-stored (a .r) (now (a .im)) (now (a .zm)) (a .value) (c .before .before .before .before .before .before .before .before .pen .ensures) (c .before .before .before .before .before .before .before .is-deep-picture .ensures) (c .before .before .before .before .store .ensures)
+returns c =
+    let at-store = c .before .before .before .before in
+    let at-is-deep-picture = at-store .before .before .before in
+    let at-pen = at-is-deep-picture .before in
+    let a = at-pen .before .before .before .args in
+    pixel-stored (a .r) (now (a .im)) (now (a .zm)) (a .value) (at-pen .pen .ensures) (at-is-deep-picture .is-deep-picture .ensures) (at-store .store .ensures)
 
 pub load-spec : {M : Type 1} → statement M
 load-spec =

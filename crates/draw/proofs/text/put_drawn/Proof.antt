@@ -20,7 +20,9 @@ put-text-requires c κs = search needs
 
 returns : tie.Need-returns
 unfolding streamText freshRun textOf
-returns c = rw (ap textOf (c .before .before .before .before .before .before .run .ensures)) at (c .put-text .ensures)
+returns c =
+    let at-run = c .before .before .before .before .before .before in
+    rw (ap textOf (at-run .run .ensures)) at (c .put-text .ensures)
 
 pub put-drawn-spec : {M : Type 1} → statement M
 put-drawn-spec =

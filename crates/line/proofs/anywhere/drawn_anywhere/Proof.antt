@@ -41,25 +41,45 @@ begin-requires : tie.Need-begin-requires Inv-loop μ-loop
 begin-requires c κs = search needs
 
 loop-holds : tie.Need-loop-holds Inv-loop μ-loop
-loop-holds c = let a = c .before .before .before .before .before .before .before .before .before .args in
-    walked-start (before-first (a .pen) _ (a .style) (a .a) (a .b) (a .style .mode)) (first-low (joinedIn (a .style) (a .style .mode))) (c .before .before .before .before .before .before .slope-of .ensures) refl
-    (omega (arith, c .before .before .before .before .before .struct-known .given)) (c .before .before .before .before .walk-of .ensures) (c .begin .ensures .0, c .begin .ensures .1 ∙ ap firstOf (c .before .is-joined .ensures))
+loop-holds c =
+    let at-walk-of = c .before .before .before .before in
+    let at-struct-known = at-walk-of .before in
+    let at-slope-of = at-struct-known .before in
+    let a = at-slope-of .before .before .before .args in
+    walked-start (before-first (a .pen) _ (a .style) (a .a) (a .b) (a .style .mode)) (first-low (joinedIn (a .style) (a .style .mode))) (at-slope-of .slope-of .ensures) refl
+    (omega (arith, at-struct-known .struct-known .given)) (at-walk-of .walk-of .ensures) (c .begin .ensures .0, c .begin .ensures .1 ∙ ap firstOf (c .before .is-joined .ensures))
 
 put-step-requires : tie.Need-put-step-requires Inv-loop μ-loop
-put-step-requires c κs = let h = c .before .before .before .before .loop .inv in
-    (walked-on h (omega (arith, c .before .before .if1 .taken)), c .before .before .before .before .before .before .before .kind-of .ensures, h .begun, rw (c .before .before .before .before .before .before .before .kind-of .ensures, walked-rows h) (c .before .before .before .before .before .before .before .before .field-of .ensures))
+put-step-requires c κs =
+    let at-kind-of = c .before .before .before .before .before .before .before in
+    let at-field-of = at-kind-of .before in
+    let h = c .before .before .before .before .loop .inv in
+    (walked-on h (omega (arith, c .before .before .if1 .taken)), at-kind-of .kind-of .ensures, h .begun, rw (at-kind-of .kind-of .ensures, walked-rows h) (at-field-of .field-of .ensures))
 
 add-passed : tie.Need-add-passed Inv-loop μ-loop
-add-passed c = let h = c .before .before .before .before .before .before .before .before .before .loop .inv in omega (arith, h .count, h .small, c .before .before .before .before .before .before .before .if1 .taken, c .before .before .before .before .put-step .ensures .1)
+add-passed c =
+    let at-put-step = c .before .before .before .before in
+    let at-if1 = at-put-step .before .before .before in
+    let h = at-if1 .before .before .loop .inv in
+    omega (arith, h .count, h .small, at-if1 .if1 .taken, at-put-step .put-step .ensures .1)
 
 next-requires : tie.Need-next-requires Inv-loop μ-loop
-next-requires c κs = omega (arith, c .before .before .before .before .before .before .before .before .before .loop .inv .small, c .before .before .before .before .before .before .before .if1 .taken)
+next-requires c κs =
+    let at-if1 = c .before .before .before .before .before .before .before in
+    let at-loop = at-if1 .before .before in
+    omega (arith, at-loop .loop .inv .small, at-if1 .if1 .taken)
 
 loop-less : tie.Need-loop-less Inv-loop μ-loop
-loop-less c = omega (arith, ap (λ (p : Step). p .k) (c .next .ensures), c .before .before .before .before .before .before .before .before .if1 .taken)
+loop-less c =
+    let at-if1 = c .before .before .before .before .before .before .before .before in
+    omega (arith, ap (λ (p : Step). p .k) (c .next .ensures), at-if1 .if1 .taken)
 
 loop-again : tie.Need-loop-again Inv-loop μ-loop
-loop-again c = let d = c .before .before .before .before .before .put-step .ensures in walked-step (c .before .before .before .before .before .before .before .before .before .before .loop .inv) (omega (arith, c .before .before .before .before .before .before .before .before .if1 .taken)) (d .0) (d .1) (c .next .ensures)
+loop-again c =
+    let at-if1 = c .before .before .before .before .before .before .before .before in
+    let at-loop = at-if1 .before .before in
+    let d = c .before .before .before .before .before .put-step .ensures in
+    walked-step (at-loop .loop .inv) (omega (arith, at-if1 .if1 .taken)) (d .0) (d .1) (c .next .ensures)
 
 same-length : tie.Need-same-length Inv-loop μ-loop
 same-length c = reached-i (c .before .before .loop .inv .so-far)

@@ -24,12 +24,18 @@ same-length-2 : tie.Need-same-length-2
 same-length-2 c = search needs
 
 returns : tie.Need-returns
-returns c = let s = c .before .before .before .before .before .before .before .before .before .before .before .before .before .before in
+returns c =
+    let at-put-placed = c .before .before .before .before in
+    let at-place = at-put-placed .before .before .before in
+    let at-if2 = at-place .before .before in
+    let at-is-within = at-if2 .before in
+    let at-if1 = at-is-within .before in
+    let s = at-if1 .before .before .before in
     let a = s .args in
-    c .before .before .before .before .put-placed .ensures
+    at-put-placed .put-placed .ensures
     ∙ keep-placed (a .pen) (length (a .im .now)) (length (a .zm .now)) (a .kind) (a .x) (a .y) (a .i) (a .z) _ (a .im .now) (a .zm .now) 0 refl refl
-    (field-offered (a .pen) (rowsOf (a .pen .frame) (length (a .im .now)) (length (a .zm .now))) (a .kind) (a .x) (a .y) (s .pre) (c .before .before .before .before .before .before .before .before .before .before .before .if1 .taken) (c .before .before .before .before .before .before .before .before .before .before .is-within .ensures) ∙ c .before .before .before .before .before .before .before .before .before .if2 .taken)
-    (c .before .before .before .before .before .before .before .place .ensures .0)
+    (field-offered (a .pen) (rowsOf (a .pen .frame) (length (a .im .now)) (length (a .zm .now))) (a .kind) (a .x) (a .y) (s .pre) (at-if1 .if1 .taken) (at-is-within .is-within .ensures) ∙ at-if2 .if2 .taken)
+    (at-place .place .ensures .0)
 
 returns-2 : tie.Need-returns-2
 returns-2 c = let s = c .before .before .before .before .before in

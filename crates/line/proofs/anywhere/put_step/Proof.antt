@@ -24,7 +24,9 @@ pixel-of-requires : tie.Need-pixel-of-requires
 pixel-of-requires c κs = let h = c .before .before .before .before .before .before .before .pre .0 in (h .on, c .whole .ensures ∙ h .side)
 
 put-pixel-requires : tie.Need-put-pixel-requires
-put-pixel-requires c κs = c .before .before .before .before .before .before .before .before .before .before .pre .3
+put-pixel-requires c κs =
+    let start = c .before .before .before .before .before .before .before .before .before .before in
+    start .pre .3
 
 same-length : tie.Need-same-length
 same-length c = search needs
@@ -33,11 +35,16 @@ same-length-2 : tie.Need-same-length-2
 same-length-2 c = search needs
 
 returns : tie.Need-returns
-returns c = let s = c .before .before .before .before .before .before .before .before .before .before .before .before .before .before .before in
+returns c =
+    let at-put-pixel = c .before .before .before .before in
+    let at-pixel-of = at-put-pixel .before .before .before in
+    let at-if1 = at-pixel-of .before .before in
+    let at-ink-at = at-if1 .before in
+    let s = at-ink-at .before .before .before .before .before in
     let a = s .args in
     put-step (a .pen) (rowsOf (a .pen .frame) (length (a .im .now)) (length (a .zm .now))) _ (a .im .now) (a .zm .now)
-    (inked-step (a .pen) _ (a .style) (a .a) (a .b) (a .s) (a .p) _ (a .kind) _ (s .pre .0) (c .before .before .before .before .before .before .before .pixel-of .ensures) (s .pre .1) (s .pre .2) (c .before .before .before .before .before .before .before .before .before .before .ink-at .ensures) (c .before .before .before .before .before .before .before .before .before .if1 .taken))
-    (c .before .before .before .before .put-pixel .ensures)
+    (inked-step (a .pen) _ (a .style) (a .a) (a .b) (a .s) (a .p) _ (a .kind) _ (s .pre .0) (at-pixel-of .pixel-of .ensures) (s .pre .1) (s .pre .2) (at-ink-at .ink-at .ensures) (at-if1 .if1 .taken))
+    (at-put-pixel .put-pixel .ensures)
 
 returns-2 : tie.Need-returns-2
 returns-2 c = let s = c .before .before .before .before .before .before in

@@ -28,11 +28,15 @@ move-of-requires-2 c κs = search needs
 
 returns : tie.Need-returns
 unfolding courseOf
-returns c = rw (c .if1 .taken, c .before .before .before .before .times .ensures .0, c .before .before .move-of .ensures, c .before .move-of2 .ensures)
+returns c =
+    let at-times = c .before .before .before .before in
+    rw (c .if1 .taken, at-times .times .ensures .0, c .before .before .move-of .ensures, c .before .move-of2 .ensures)
 
 returns-2 : tie.Need-returns-2
 unfolding courseOf
-returns-2 c = rw (c .if1 .left, c .before .before .before .before .times .ensures .0, c .before .before .move-of .ensures, c .before .move-of2 .ensures)
+returns-2 c =
+    let at-times = c .before .before .before .before in
+    rw (c .if1 .left, at-times .times .ensures .0, c .before .before .move-of .ensures, c .before .move-of2 .ensures)
 
 pub course-of-spec : {M : Type 1} → statement M
 course-of-spec =

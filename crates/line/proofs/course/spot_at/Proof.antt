@@ -33,14 +33,18 @@ add-result : tie.Need-add-result
 add-result c = search needs
 
 sub-result : tie.Need-sub-result
-sub-result c = let s = c .before .before .before .before .before .before .before in
+sub-result c =
+    let at-times = c .before .before .before .before in
+    let s = at-times .before .before .before in
     let a = s .args in
-    omega (arith, course-place (a .frame) (a .a) (a .b) (a .s) (a .k) (a .side) (a .c) (s .pre .0) (s .pre .1) (s .pre .2), c .before .before .before .before .times .ensures .0, c .before .before .before .times2 .ensures .0, c .before .before .times3 .ensures .0, c .before .times4 .ensures .0)
+    omega (arith, course-place (a .frame) (a .a) (a .b) (a .s) (a .k) (a .side) (a .c) (s .pre .0) (s .pre .1) (s .pre .2), at-times .times .ensures .0, c .before .before .before .times2 .ensures .0, c .before .before .times3 .ensures .0, c .before .times4 .ensures .0)
 
 returns : tie.Need-returns
-returns c = let s = c .before .before .before .before .before .before .before in
+returns c =
+    let at-times = c .before .before .before .before in
+    let s = at-times .before .before .before in
     let a = s .args in
-    omega (arith, course-place (a .frame) (a .a) (a .b) (a .s) (a .k) (a .side) (a .c) (s .pre .0) (s .pre .1) (s .pre .2), c .before .before .before .before .times .ensures .0, c .before .before .before .times2 .ensures .0, c .before .before .times3 .ensures .0, c .before .times4 .ensures .0)
+    omega (arith, course-place (a .frame) (a .a) (a .b) (a .s) (a .k) (a .side) (a .c) (s .pre .0) (s .pre .1) (s .pre .2), at-times .times .ensures .0, c .before .before .before .times2 .ensures .0, c .before .before .times3 .ensures .0, c .before .times4 .ensures .0)
 
 pub spot-at-spec : {M : Type 1} → statement M
 spot-at-spec =

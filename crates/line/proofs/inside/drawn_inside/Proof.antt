@@ -20,9 +20,13 @@ lies-plain-requires : tie.Need-lies-plain-requires
 lies-plain-requires c κs = search needs
 
 trace-rows-requires : tie.Need-trace-rows-requires
-trace-rows-requires c κs = let s = c .before .before .before .before .before .before .before .before .before .before in
+trace-rows-requires c κs =
+    let at-begin = c .before .before .before .before in
+    let at-is-joined = at-begin .before in
+    let at-route-of = at-is-joined .before in
+    let s = at-route-of .before .before .before .before in
     let frame = s .args .pen .frame in
-    (c .before .before .before .before .before .before .route-of .ensures, (c .before .before .before .before .begin .ensures .0, c .before .before .before .before .begin .ensures .1 ∙ ap firstOf (c .before .before .before .before .before .is-joined .ensures)), s .pre .0, s .pre .1, lies-rows frame (sym (c .before .before .before .lies-plain .ensures) ∙ c .before .before .if1 .taken))
+    (at-route-of .route-of .ensures, (at-begin .begin .ensures .0, at-begin .begin .ensures .1 ∙ ap firstOf (at-is-joined .is-joined .ensures)), s .pre .0, s .pre .1, lies-rows frame (sym (c .before .before .before .lies-plain .ensures) ∙ c .before .before .if1 .taken))
 
 same-length : tie.Need-same-length
 same-length c = search needs
@@ -34,9 +38,15 @@ returns : tie.Need-returns
 returns c = search needs
 
 trace-tiles-requires : tie.Need-trace-tiles-requires
-trace-tiles-requires c κs = let s = c .before .before .before .before .before .before .before .before .before .before .before .before in
+trace-tiles-requires c κs =
+    let at-if1 = c .before .before .before .before in
+    let at-lies-plain = at-if1 .before in
+    let at-begin = at-lies-plain .before in
+    let at-is-joined = at-begin .before in
+    let at-route-of = at-is-joined .before in
+    let s = at-route-of .before .before .before .before in
     let frame = s .args .pen .frame in
-    (c .before .before .before .before .before .before .before .before .route-of .ensures, (c .before .before .before .before .before .before .begin .ensures .0, c .before .before .before .before .before .before .begin .ensures .1 ∙ ap firstOf (c .before .before .before .before .before .before .before .is-joined .ensures)), s .pre .0, s .pre .1, lies-tiles frame (sym (c .before .before .before .before .before .lies-plain .ensures) ∙ c .before .before .before .before .if1 .left) (eq-eqb _ _ (c .before .before .if2 .taken)))
+    (at-route-of .route-of .ensures, (at-begin .begin .ensures .0, at-begin .begin .ensures .1 ∙ ap firstOf (at-is-joined .is-joined .ensures)), s .pre .0, s .pre .1, lies-tiles frame (sym (at-lies-plain .lies-plain .ensures) ∙ at-if1 .if1 .left) (eq-eqb _ _ (c .before .before .if2 .taken)))
 
 same-length-3 : tie.Need-same-length-3
 same-length-3 c = search needs
@@ -48,9 +58,15 @@ returns-2 : tie.Need-returns-2
 returns-2 c = search needs
 
 trace-shares-requires : tie.Need-trace-shares-requires
-trace-shares-requires c κs = let s = c .before .before .before .before .before .before .before .before .before .before .before .before in
+trace-shares-requires c κs =
+    let at-if1 = c .before .before .before .before in
+    let at-lies-plain = at-if1 .before in
+    let at-begin = at-lies-plain .before in
+    let at-is-joined = at-begin .before in
+    let at-route-of = at-is-joined .before in
+    let s = at-route-of .before .before .before .before in
     let frame = s .args .pen .frame in
-    (c .before .before .before .before .before .before .before .before .route-of .ensures, (c .before .before .before .before .before .before .begin .ensures .0, c .before .before .before .before .before .before .begin .ensures .1 ∙ ap firstOf (c .before .before .before .before .before .before .before .is-joined .ensures)), s .pre .0, s .pre .1, lies-shares frame (sym (c .before .before .before .before .before .lies-plain .ensures) ∙ c .before .before .before .before .if1 .left) (ne-eqb _ _ (c .before .before .if2 .left)))
+    (at-route-of .route-of .ensures, (at-begin .begin .ensures .0, at-begin .begin .ensures .1 ∙ ap firstOf (at-is-joined .is-joined .ensures)), s .pre .0, s .pre .1, lies-shares frame (sym (at-lies-plain .lies-plain .ensures) ∙ at-if1 .if1 .left) (ne-eqb _ _ (c .before .before .if2 .left)))
 
 same-length-5 : tie.Need-same-length-5
 same-length-5 c = search needs

@@ -50,9 +50,11 @@ same-length-2 : tie.Need-same-length-2
 same-length-2 c = search needs
 
 returns : tie.Need-returns
-returns c = let s = c .before .before .before .before .before .before .before .before in
+returns c =
+    let at-if1 = c .before .before .before .before .before in
+    let s = at-if1 .before .before .before in
     let a = s .args in
-    let d = sym (s .pre .0) ∙ c .before .before .before .before .before .if1 .taken in
+    let d = sym (s .pre .0) ∙ at-if1 .if1 .taken in
     bare-chosen (a .pen) (kindOf (a .mode)) (s .pre .1) (a .at) (a .i) (a .z) (a .im .now) (a .zm .now) 0 (omega (arith, s .good)) d (deep-edge (a .mode) d) refl (c .before .pick2 .ensures) (c .before .before .pick .ensures) (c .pick3 .ensures)
 
 mul-im-2 : tie.Need-mul-im-2

@@ -26,7 +26,9 @@ returns c = let s = c .before .before .before .before .before in
     no-step (a .pen) (a .im .now) (a .zm .now) (left-out (a .pen) (length (a .im .now)) (length (a .zm .now)) (a .style) (a .deep) (a .ground) (a .lies) (a .r) (a .a) (a .b) (s .pre .0) (a .p .k) (c .before .is-own .ensures) (s .pre .1 .on) (c .if1 .taken))
 
 ink-at-requires : tie.Need-ink-at-requires
-ink-at-requires c κs = (c .before .before .before .before .before .pre .0 .depths, c .before .before .before .before .before .pre .0 .grounds)
+ink-at-requires c κs =
+    let start = c .before .before .before .before .before in
+    (start .pre .0 .depths, start .pre .0 .grounds)
 
 place-at-requires : tie.Need-place-at-requires
 place-at-requires c κs = let s = c .before .before .before .before .before .before .before in
@@ -34,9 +36,12 @@ place-at-requires c κs = let s = c .before .before .before .before .before .bef
     (s .pre .0 .route, s .pre .1, s .pre .0 .layout, inside-whole (a .pen) (length (a .im .now)) (length (a .zm .now)) (kindOf (a .style .mode)) (a .a) (a .b) (s .pre .0 .inside))
 
 put-bare-requires : tie.Need-put-bare-requires
-put-bare-requires c κs = let s = c .before .before .before .before .before .before .before .before .before .before in
+put-bare-requires c κs =
+    let at-if1 = c .before .before .before .before .before in
+    let at-is-own = at-if1 .before in
+    let s = at-is-own .before .before .before .before in
     let a = s .args in
-    let below = place-below (a .pen .frame) (length (a .im .now)) (length (a .zm .now)) (xAt (a .a) (a .b) (a .p .k)) (yAt (a .a) (a .b) (a .p .k)) (offered-inside (a .pen) (rowsOf (a .pen .frame) (length (a .im .now)) (length (a .zm .now))) (kindOf (a .style .mode)) (xAt (a .a) (a .b) (a .p .k)) (yAt (a .a) (a .b) (a .p .k)) (step-offered (a .pen) (rowsOf (a .pen .frame) (length (a .im .now)) (length (a .zm .now))) (kindOf (a .style .mode)) (a .a) (a .b) (a .r .slope) (a .p .k) (s .pre .1 .on) (s .pre .0 .inside) ∙ kept-in (a .pen) (length (a .im .now)) (length (a .zm .now)) (a .style) (a .deep) (a .ground) (a .lies) (a .r) (a .a) (a .b) (s .pre .0) (a .p .k) (c .before .before .before .before .before .before .is-own .ensures) (c .before .before .before .before .before .if1 .left))) in
+    let below = place-below (a .pen .frame) (length (a .im .now)) (length (a .zm .now)) (xAt (a .a) (a .b) (a .p .k)) (yAt (a .a) (a .b) (a .p .k)) (offered-inside (a .pen) (rowsOf (a .pen .frame) (length (a .im .now)) (length (a .zm .now))) (kindOf (a .style .mode)) (xAt (a .a) (a .b) (a .p .k)) (yAt (a .a) (a .b) (a .p .k)) (step-offered (a .pen) (rowsOf (a .pen .frame) (length (a .im .now)) (length (a .zm .now))) (kindOf (a .style .mode)) (a .a) (a .b) (a .r .slope) (a .p .k) (s .pre .1 .on) (s .pre .0 .inside) ∙ kept-in (a .pen) (length (a .im .now)) (length (a .zm .now)) (a .style) (a .deep) (a .ground) (a .lies) (a .r) (a .a) (a .b) (s .pre .0) (a .p .k) (at-is-own .is-own .ensures) (at-if1 .if1 .left))) in
     (s .pre .0 .depths, s .pre .0 .bare, omega (arith, c .before .before .place-at .ensures, below .0), omega (arith, c .before .before .place-at .ensures, below .1))
 
 same-length : tie.Need-same-length
@@ -46,13 +51,20 @@ same-length-2 : tie.Need-same-length-2
 same-length-2 c = search needs
 
 returns-2 : tie.Need-returns-2
-returns-2 c = let s = c .before .before .before .before .before .before .before .before .before .before .before .before .before .before .before in
+returns-2 c =
+    let at-put-bare = c .before .before .before .before in
+    let at-place-at = at-put-bare .before .before .before in
+    let at-if2 = at-place-at .before in
+    let at-ink-at = at-if2 .before in
+    let at-if1 = at-ink-at .before in
+    let at-is-own = at-if1 .before in
+    let s = at-is-own .before .before .before .before in
     let a = s .args in
-    let ink = c .before .before .before .before .before .before .before .before .before .ink-at .result in
+    let ink = at-ink-at .ink-at .result in
     put-step (a .pen) (rowsOf (a .pen .frame) (length (a .im .now)) (length (a .zm .now))) _ (a .im .now) (a .zm .now)
-    (inked-step (a .pen) _ (a .style) (a .a) (a .b) (a .r .slope) (a .p) (stepPixel (a .a) (a .b) (a .p .k)) (kindOf (a .style .mode)) ink (s .pre .1) refl refl (s .pre .2) (c .before .before .before .before .before .before .before .before .before .ink-at .ensures) (c .before .before .before .before .before .before .before .before .if2 .taken))
-    (keep-drawn (a .pen) (rowsOf (a .pen .frame) (length (a .im .now)) (length (a .zm .now))) (kindOf (a .style .mode)) (xAt (a .a) (a .b) (a .p .k)) (yAt (a .a) (a .b) (a .p .k)) (ink .i) (ink .z) _ _ (step-offered (a .pen) (rowsOf (a .pen .frame) (length (a .im .now)) (length (a .zm .now))) (kindOf (a .style .mode)) (a .a) (a .b) (a .r .slope) (a .p .k) (s .pre .1 .on) (s .pre .0 .inside) ∙ kept-in (a .pen) (length (a .im .now)) (length (a .zm .now)) (a .style) (a .deep) (a .ground) (a .lies) (a .r) (a .a) (a .b) (s .pre .0) (a .p .k) (c .before .before .before .before .before .before .before .before .before .before .before .is-own .ensures) (c .before .before .before .before .before .before .before .before .before .before .if1 .left))
-    (c .before .before .before .before .put-bare .ensures ∙ ap (λ (at : ℕ). stepAt (a .pen) (kindOf (a .style .mode)) at (ink .i) (ink .z) (picture (a .im .now) (a .zm .now) 0)) (c .before .before .before .before .before .before .before .place-at .ensures)))
+    (inked-step (a .pen) _ (a .style) (a .a) (a .b) (a .r .slope) (a .p) (stepPixel (a .a) (a .b) (a .p .k)) (kindOf (a .style .mode)) ink (s .pre .1) refl refl (s .pre .2) (at-ink-at .ink-at .ensures) (at-if2 .if2 .taken))
+    (keep-drawn (a .pen) (rowsOf (a .pen .frame) (length (a .im .now)) (length (a .zm .now))) (kindOf (a .style .mode)) (xAt (a .a) (a .b) (a .p .k)) (yAt (a .a) (a .b) (a .p .k)) (ink .i) (ink .z) _ _ (step-offered (a .pen) (rowsOf (a .pen .frame) (length (a .im .now)) (length (a .zm .now))) (kindOf (a .style .mode)) (a .a) (a .b) (a .r .slope) (a .p .k) (s .pre .1 .on) (s .pre .0 .inside) ∙ kept-in (a .pen) (length (a .im .now)) (length (a .zm .now)) (a .style) (a .deep) (a .ground) (a .lies) (a .r) (a .a) (a .b) (s .pre .0) (a .p .k) (at-is-own .is-own .ensures) (at-if1 .if1 .left))
+    (at-put-bare .put-bare .ensures ∙ ap (λ (at : ℕ). stepAt (a .pen) (kindOf (a .style .mode)) at (ink .i) (ink .z) (picture (a .im .now) (a .zm .now) 0)) (at-place-at .place-at .ensures)))
 
 returns-3 : tie.Need-returns-3
 returns-3 c = let s = c .before .before .before .before .before .before .before in

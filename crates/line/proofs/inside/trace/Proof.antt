@@ -34,25 +34,37 @@ put-inside-requires c κs = let h = c .before .before .before .before .loop .inv
     (rw (walked-rows h) (s .pre .0), walked-on h (omega (arith, c .before .before .if1 .taken)), h .begun)
 
 add-passed : tie.Need-add-passed Inv-loop μ-loop
-add-passed c = let h = c .before .before .before .before .before .before .before .before .before .loop .inv in omega (arith, h .count, h .small, c .before .before .before .before .before .before .before .if1 .taken, c .before .before .before .before .put-inside .ensures .1)
+add-passed c =
+    let at-put-inside = c .before .before .before .before in
+    let at-if1 = at-put-inside .before .before .before in
+    let h = at-if1 .before .before .loop .inv in
+    omega (arith, h .count, h .small, at-if1 .if1 .taken, at-put-inside .put-inside .ensures .1)
 
 onward-requires : tie.Need-onward-requires Inv-loop μ-loop
-onward-requires c κs = (c .before .before .before .before .before .before .before .before .before .before .before .before .before .pre .0 .route, walked-on (c .before .before .before .before .before .before .before .before .before .loop .inv) (omega (arith, c .before .before .before .before .before .before .before .if1 .taken)))
+onward-requires c κs =
+    let at-if1 = c .before .before .before .before .before .before .before in
+    let at-loop = at-if1 .before .before in
+    let start = at-loop .before .before .before .before in
+    (start .pre .0 .route, walked-on (at-loop .loop .inv) (omega (arith, at-if1 .if1 .taken)))
 
 loop-less : tie.Need-loop-less Inv-loop μ-loop
-loop-less c = let s = c .before .before .before .before .before .before .before .before .before .before .before .before .before .before in
+loop-less c =
+    let at-if1 = c .before .before .before .before .before .before .before .before in
+    let s = at-if1 .before .before .before .before .before .before in
     let a = s .args in
-    let h = c .before .before .before .before .before .before .before .before .before .before .loop .inv in
-    let g = goes-on (a .pen) (length (a .im .now)) (length (a .zm .now)) (a .style) (a .deep) (a .ground) (a .lies) (a .r) (a .a) (a .b) (s .pre .0) (h .stands) (walked-on h (omega (arith, c .before .before .before .before .before .before .before .before .if1 .taken)) .on) (c .onward .ensures) in
-    omega (arith, g .further, c .before .before .before .before .before .before .before .before .if1 .taken)
+    let h = at-if1 .before .before .loop .inv in
+    let g = goes-on (a .pen) (length (a .im .now)) (length (a .zm .now)) (a .style) (a .deep) (a .ground) (a .lies) (a .r) (a .a) (a .b) (s .pre .0) (h .stands) (walked-on h (omega (arith, at-if1 .if1 .taken)) .on) (c .onward .ensures) in
+    omega (arith, g .further, at-if1 .if1 .taken)
 
 loop-again : tie.Need-loop-again Inv-loop μ-loop
-loop-again c = let s = c .before .before .before .before .before .before .before .before .before .before .before .before .before .before in
+loop-again c =
+    let at-if1 = c .before .before .before .before .before .before .before .before in
+    let s = at-if1 .before .before .before .before .before .before in
     let a = s .args in
-    let h = c .before .before .before .before .before .before .before .before .before .before .loop .inv in
+    let h = at-if1 .before .before .loop .inv in
     let d = c .before .before .before .before .before .put-inside .ensures in
-    let g = goes-on (a .pen) (length (a .im .now)) (length (a .zm .now)) (a .style) (a .deep) (a .ground) (a .lies) (a .r) (a .a) (a .b) (s .pre .0) (h .stands) (walked-on h (omega (arith, c .before .before .before .before .before .before .before .before .if1 .taken)) .on) (c .onward .ensures) in
-    walked-next h (omega (arith, c .before .before .before .before .before .before .before .before .if1 .taken)) (d .0) (d .1) (g .stands) (g .further) (λ k x y l. g .between k x y l)
+    let g = goes-on (a .pen) (length (a .im .now)) (length (a .zm .now)) (a .style) (a .deep) (a .ground) (a .lies) (a .r) (a .a) (a .b) (s .pre .0) (h .stands) (walked-on h (omega (arith, at-if1 .if1 .taken)) .on) (c .onward .ensures) in
+    walked-next h (omega (arith, at-if1 .if1 .taken)) (d .0) (d .1) (g .stands) (g .further) (λ k x y l. g .between k x y l)
 
 same-length : tie.Need-same-length Inv-loop μ-loop
 same-length c = reached-i (c .before .before .loop .inv .so-far)

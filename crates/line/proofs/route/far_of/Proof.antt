@@ -17,11 +17,15 @@ unfolding farOf
 returns c = rw (c .before .before .before .if1 .taken, eq-eqb _ _ (c .if2 .taken), c .before .before .twice .ensures)
 
 twice-requires-2 : tie.Need-twice-requires-2
-twice-requires-2 c κs = omega (arith, ap (λ (w : Walk). w .stride) (c .before .before .twice .ensures), c .before .before .before .before .pre)
+twice-requires-2 c κs =
+    let start = c .before .before .before .before in
+    omega (arith, ap (λ (w : Walk). w .stride) (c .before .before .twice .ensures), start .pre)
 
 returns-2 : tie.Need-returns-2
 unfolding farOf
-returns-2 c = rw (c .before .before .before .before .if1 .taken, ne-eqb _ _ (c .before .if2 .left)) (c .twice2 .ensures ∙ ap twiceOf (c .before .before .before .twice .ensures))
+returns-2 c =
+    let at-if1 = c .before .before .before .before in
+    rw (at-if1 .if1 .taken, ne-eqb _ _ (c .before .if2 .left)) (c .twice2 .ensures ∙ ap twiceOf (c .before .before .before .twice .ensures))
 
 returns-3 : tie.Need-returns-3
 unfolding farOf

@@ -23,7 +23,9 @@ place-requires : tie.Need-place-requires
 place-requires c κs = search needs
 
 returns : tie.Need-returns
-returns c = c .place .ensures .0 ∙ ap (λ (q : Pixel). placeOf (c .before .before .before .before .args .frame) (q .x) (q .y)) (c .before .pixel-of .ensures)
+returns c =
+    let start = c .before .before .before .before in
+    c .place .ensures .0 ∙ ap (λ (q : Pixel). placeOf (start .args .frame) (q .x) (q .y)) (c .before .pixel-of .ensures)
 
 spot-at-requires : tie.Need-spot-at-requires
 spot-at-requires c κs = search needs

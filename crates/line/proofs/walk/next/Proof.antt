@@ -17,7 +17,9 @@ add-t6 : tie.Need-add-t6
 add-t6 c = search needs
 
 returns : tie.Need-returns
-returns c = rw (c .before .before .before .before .wrapping-add-u64 .ensures, c .before .before .before .wrapping-add-u642 .ensures, c .before .before .wrapping-add-u643 .ensures)
+returns c =
+    let at-wrapping-add-u64 = c .before .before .before .before in
+    rw (at-wrapping-add-u64 .wrapping-add-u64 .ensures, c .before .before .before .wrapping-add-u642 .ensures, c .before .before .wrapping-add-u643 .ensures)
 
 pub next-spec : {M : Type 1} → statement M
 next-spec =

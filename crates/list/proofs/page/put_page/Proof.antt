@@ -31,7 +31,9 @@ cast-list : tie.Need-cast-list
 cast-list c = search needs
 
 slice-aggregate-list : tie.Need-slice-aggregate-list
-slice-aggregate-list c = part-length (c .before .before .before .before .args .words .now) (c .before .before .before .before .args .from) (c .before .least .ensures)
+slice-aggregate-list c =
+    let start = c .before .before .before .before in
+    part-length (start .args .words .now) (start .args .from) (c .before .least .ensures)
 
 list-requires : tie.Need-list-requires
 list-requires c κs = search needs
@@ -44,16 +46,18 @@ enum-told c = search needs
 
 returns : tie.Need-returns
 returns c =
-    let a = c .before .before .before .before .before .before .before .before .before .args in
+    let at-least = c .before .before .before .before .before .before in
+    let a = at-least .before .before .before .args in
     let page = pageOf (a .words .now) (a .from) in
-    let told = c .before .before .before .list .ensures ∙ ap (λ (text : List ℕ). writingText text (a .page .now)) (page-of (a .words .now) (a .from) (c .before .before .before .before .before .before .least .ensures)) in
+    let told = c .before .before .before .list .ensures ∙ ap (λ (text : List ℕ). writingText text (a .page .now)) (page-of (a .words .now) (a .from) (at-least .least .ensures)) in
     answer-stands page (a .page .now) _ (omega (arith, page-fits (a .words .now) (a .from))) told (c .before .answer .given .1)
 
 returns-2 : tie.Need-returns-2
 returns-2 c =
-    let a = c .before .before .before .before .before .before .before .before .args in
+    let at-least = c .before .before .before .before .before in
+    let a = at-least .before .before .before .args in
     let page = pageOf (a .words .now) (a .from) in
-    let told = c .before .before .list .ensures ∙ ap (λ (text : List ℕ). writingText text (a .page .now)) (page-of (a .words .now) (a .from) (c .before .before .before .before .before .least .ensures)) in
+    let told = c .before .before .list .ensures ∙ ap (λ (text : List ℕ). writingText text (a .page .now)) (page-of (a .words .now) (a .from) (at-least .least .ensures)) in
     absurd (answer-fits page (a .page .now) _ (omega (arith, page-fits (a .words .now) (a .from))) told (c .enum-told .given .1))
 
 pub put-page-spec : {M : Type 1} → statement M

@@ -17,7 +17,10 @@ same-length c = search needs
 
 returns-2 : tie.Need-returns-2
 unfolding closed
-returns-2 c = rw (ne-eqb _ _ (c .before .before .before .before .before .before .if1 .left), eq-eqb _ _ (c .before .before .before .before .if2 .taken)) (c .before .before .store .ensures)
+returns-2 c =
+    let at-if2 = c .before .before .before .before in
+    let at-if1 = at-if2 .before .before in
+    rw (ne-eqb _ _ (at-if1 .if1 .left), eq-eqb _ _ (at-if2 .if2 .taken)) (c .before .before .store .ensures)
 
 in-mood-requires : tie.Need-in-mood-requires
 in-mood-requires c κs = search needs

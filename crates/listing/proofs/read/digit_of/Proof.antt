@@ -30,18 +30,28 @@ returns-4 c = rw (le-ltb _ _ (c .before .before .before .if1 .left), le-ltb _ _ 
 
 returns-5 : tie.Need-returns-5
 unfolding digitOf
-returns-5 c = rw (le-ltb _ _ (c .before .before .before .before .if1 .left), le-ltb _ _ (c .before .before .before .if2 .left), le-ltb _ _ (c .before .before .if3 .left), le-ltb _ _ (c .before .if4 .left), lt-ltb _ _ (c .if5 .taken))
+returns-5 c =
+    let at-if1 = c .before .before .before .before in
+    rw (le-ltb _ _ (at-if1 .if1 .left), le-ltb _ _ (c .before .before .before .if2 .left), le-ltb _ _ (c .before .before .if3 .left), le-ltb _ _ (c .before .if4 .left), lt-ltb _ _ (c .if5 .taken))
 
 sub-result-3 : tie.Need-sub-result-3
 sub-result-3 c = search needs
 
 returns-6 : tie.Need-returns-6
 unfolding digitOf
-returns-6 c = rw (le-ltb _ _ (c .before .before .before .before .before .if1 .left), le-ltb _ _ (c .before .before .before .before .if2 .left), le-ltb _ _ (c .before .before .before .if3 .left), le-ltb _ _ (c .before .before .if4 .left), le-ltb _ _ (c .before .if5 .left), lt-ltb (c .before .before .before .before .before .before .args .b) 103 (omega (arith, c .if6 .taken)))
+returns-6 c =
+    let at-if2 = c .before .before .before .before in
+    let at-if1 = at-if2 .before in
+    let start = at-if1 .before in
+    rw (le-ltb _ _ (at-if1 .if1 .left), le-ltb _ _ (at-if2 .if2 .left), le-ltb _ _ (c .before .before .before .if3 .left), le-ltb _ _ (c .before .before .if4 .left), le-ltb _ _ (c .before .if5 .left), lt-ltb (start .args .b) 103 (omega (arith, c .if6 .taken)))
 
 returns-7 : tie.Need-returns-7
 unfolding digitOf
-returns-7 c = rw (le-ltb _ _ (c .before .before .before .before .before .if1 .left), le-ltb _ _ (c .before .before .before .before .if2 .left), le-ltb _ _ (c .before .before .before .if3 .left), le-ltb _ _ (c .before .before .if4 .left), le-ltb _ _ (c .before .if5 .left), le-ltb (c .before .before .before .before .before .before .args .b) 103 (omega (arith, c .if6 .left)))
+returns-7 c =
+    let at-if2 = c .before .before .before .before in
+    let at-if1 = at-if2 .before in
+    let start = at-if1 .before in
+    rw (le-ltb _ _ (at-if1 .if1 .left), le-ltb _ _ (at-if2 .if2 .left), le-ltb _ _ (c .before .before .before .if3 .left), le-ltb _ _ (c .before .before .if4 .left), le-ltb _ _ (c .before .if5 .left), le-ltb (start .args .b) 103 (omega (arith, c .if6 .left)))
 
 pub digit-of-spec : {M : Type 1} → statement M
 digit-of-spec =

@@ -17,7 +17,9 @@ add-t8 c = search needs
 
 returns : tie.Need-returns
 unfolding grown
-returns c = rw (lt-ltb (c .before .before .before .before .args .r .digits) 5 (omega (arith, c .before .before .if1 .taken)))
+returns c =
+    let start = c .before .before .before .before in
+    rw (lt-ltb (start .args .r .digits) 5 (omega (arith, c .before .before .if1 .taken)))
 
 in-mood-requires : tie.Need-in-mood-requires
 in-mood-requires c κs = search needs

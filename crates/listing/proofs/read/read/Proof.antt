@@ -32,13 +32,19 @@ loop-less : tie.Need-loop-less Inv-loop μ-loop
 loop-less c = search needs
 
 loop-again : tie.Need-loop-again Inv-loop μ-loop
-loop-again c = (omega (arith, c .before .before .before .before .before .loop-test .taken), c .before .before .take .kept .1 .1 .0 ∙ c .before .before .before .before .before .before .loop .inv .1, ap (λ (s : Reading). readOn s (drop (c .before .before .before .before .before .before .loop .k + 1) (c .before .before .before .before .before .before .before .before .before .args .text .now))) (c .before .before .take .ensures) ∙ sym (turn (c .before .before .before .before .before .before .before .before .before .args .text .now) (c .before .before .before .before .before .before .loop .k) (c .before .before .before .before .before .loop-test .taken) (reading (c .before .before .before .before .before .before .loop .reader) (c .before .before .before .before .before .before .loop .words))) ∙ c .before .before .before .before .before .before .loop .inv .2)
+loop-again c =
+    let in-loop = c .before .before .before .before .before in
+    let at-loop = in-loop .before in
+    let start = at-loop .before .before .before in
+    (omega (arith, in-loop .loop-test .taken), c .before .before .take .kept .1 .1 .0 ∙ at-loop .loop .inv .1, ap (λ (s : Reading). readOn s (drop (at-loop .loop .k + 1) (start .args .text .now))) (c .before .before .take .ensures) ∙ sym (turn (start .args .text .now) (at-loop .loop .k) (in-loop .loop-test .taken) (reading (at-loop .loop .reader) (at-loop .loop .words))) ∙ at-loop .loop .inv .2)
 
 same-length : tie.Need-same-length Inv-loop μ-loop
 same-length c = c .before .loop .inv .1
 
 returns : tie.Need-returns Inv-loop μ-loop
-returns c = sym (over (c .before .before .before .before .args .text .now) (c .before .loop .k) (c .loop-test .left) (reading (c .before .loop .reader) (c .before .loop .words))) ∙ c .before .loop .inv .2
+returns c =
+    let start = c .before .before .before .before in
+    sym (over (start .args .text .now) (c .before .loop .k) (c .loop-test .left) (reading (c .before .loop .reader) (c .before .loop .words))) ∙ c .before .loop .inv .2
 
 pub read-spec : {M : Type 1} → statement M
 read-spec =

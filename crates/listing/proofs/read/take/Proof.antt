@@ -36,10 +36,15 @@ same-length : tie.Need-same-length
 same-length c = search needs
 
 returns : tie.Need-returns
-returns c = c .before .before .take-in-words .ensures ∙ by _ (c .before .before .before .before .before .before .before .args .r) (c .before .before .before .before .before .before .before .args .words .now) (c .before .before .before .before .before .before .before .args .b) (c .before .before .before .before .enum-told .given .1)
+returns c =
+    let at-enum-told = c .before .before .before .before in
+    let start = at-enum-told .before .before .before in
+    c .before .before .take-in-words .ensures ∙ by _ (start .args .r) (start .args .words .now) (start .args .b) (at-enum-told .enum-told .given .1)
 
 returns-2 : tie.Need-returns-2
-returns-2 c = rw (c .take-in-remark .ensures) (by _ (c .before .before .before .before .args .r) (c .before .before .before .before .args .words .now) (c .before .before .before .before .args .b) (c .before .enum-told2 .given .1))
+returns-2 c =
+    let start = c .before .before .before .before in
+    rw (c .take-in-remark .ensures) (by _ (start .args .r) (start .args .words .now) (start .args .b) (c .before .enum-told2 .given .1))
 
 returns-3 : tie.Need-returns-3
 returns-3 c = by _ (c .before .before .before .args .r) (c .before .before .before .args .words .now) (c .before .before .before .args .b) (c .enum-told3 .given .1)

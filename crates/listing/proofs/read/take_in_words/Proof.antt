@@ -30,14 +30,22 @@ same-length c = search needs
 
 returns-2 : tie.Need-returns-2
 unfolding inWords ended
-returns-2 c = rw (le-ltb _ _ (rw (c .before .before .before .before .before .before .before .before .digit-of .ensures) at (c .before .before .before .before .before .before .before .if1 .left)), sym (c .before .before .before .before .before .before .is-end .ensures) ∙ c .before .before .before .before .before .if2 .taken, c .go-on .ensures) (ap (λ (s : Reading). ended s (c .before .before .before .before .before .before .before .before .before .before .args .b)) (c .before .before .before .close .ensures))
+returns-2 c =
+    let at-if2 = c .before .before .before .before .before in
+    let at-is-end = at-if2 .before in
+    let at-if1 = at-is-end .before in
+    let at-digit-of = at-if1 .before in
+    let start = at-digit-of .before .before in
+    rw (le-ltb _ _ (rw (at-digit-of .digit-of .ensures) at (at-if1 .if1 .left)), sym (at-is-end .is-end .ensures) ∙ at-if2 .if2 .taken, c .go-on .ensures) (ap (λ (s : Reading). ended s (start .args .b)) (c .before .before .before .close .ensures))
 
 in-mood-requires : tie.Need-in-mood-requires
 in-mood-requires c κs = search needs
 
 returns-3 : tie.Need-returns-3
 unfolding inWords
-returns-3 c = rw (le-ltb _ _ (rw (c .before .before .before .before .digit-of .ensures) at (c .before .before .before .if1 .left)), sym (c .before .before .is-end .ensures) ∙ c .before .if2 .left, c .in-mood .ensures)
+returns-3 c =
+    let at-digit-of = c .before .before .before .before in
+    rw (le-ltb _ _ (rw (at-digit-of .digit-of .ensures) at (c .before .before .before .if1 .left)), sym (c .before .before .is-end .ensures) ∙ c .before .if2 .left, c .in-mood .ensures)
 
 pub take-in-words-spec : {M : Type 1} → statement M
 take-in-words-spec =

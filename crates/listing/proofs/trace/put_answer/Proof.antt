@@ -11,14 +11,18 @@ put-number-requires : tie.Need-put-number-requires
 put-number-requires c κs = search needs
 
 put-number-requires-2 : tie.Need-put-number-requires-2
-put-number-requires-2 c κs = omega (arith, length-number 2 (c .before .before .before .before .before .before .args .refusal))
+put-number-requires-2 c κs =
+    let start = c .before .before .before .before .before .before in
+    omega (arith, length-number 2 (start .args .refusal))
 
 same-length : tie.Need-same-length
 same-length c = search needs
 
 returns : tie.Need-returns
 unfolding answerText
-returns c = put-append (c .before .before .before .before .before .before .put-number .ensures) (c .before .before .put-number2 .ensures)
+returns c =
+    let at-put-number = c .before .before .before .before .before .before in
+    put-append (at-put-number .put-number .ensures) (c .before .before .put-number2 .ensures)
 
 pub put-answer-spec : {M : Type 1} → statement M
 put-answer-spec =

@@ -19,7 +19,9 @@ same-length c = search needs
 
 returns : tie.Need-returns
 unfolding numberText
-returns c = put-append (c .before .before .before .before .before .before .put-part .ensures) (c .before .before .put-digits .ensures)
+returns c =
+    let at-put-part = c .before .before .before .before .before .before in
+    put-append (at-put-part .put-part .ensures) (c .before .before .put-digits .ensures)
 
 pub put-number-spec : {M : Type 1} → statement M
 put-number-spec =

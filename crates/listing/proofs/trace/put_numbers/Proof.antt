@@ -17,14 +17,18 @@ cast-put-number-2 : tie.Need-cast-put-number-2
 cast-put-number-2 c = search needs
 
 put-number-requires-2 : tie.Need-put-number-requires-2
-put-number-requires-2 c κs = omega (arith, length-number 5 (c .before .before .before .before .before .before .before .before .args .n .i))
+put-number-requires-2 c κs =
+    let start = c .before .before .before .before .before .before .before .before in
+    omega (arith, length-number 5 (start .args .n .i))
 
 same-length : tie.Need-same-length
 same-length c = search needs
 
 returns : tie.Need-returns
 unfolding numbersText
-returns c = put-append (c .before .before .before .before .before .before .before .put-number .ensures) (c .before .before .put-number2 .ensures)
+returns c =
+    let at-put-number = c .before .before .before .before .before .before .before in
+    put-append (at-put-number .put-number .ensures) (c .before .before .put-number2 .ensures)
 
 pub put-numbers-spec : {M : Type 1} → statement M
 put-numbers-spec =

@@ -19,7 +19,9 @@ same-length c = search needs
 
 returns : tie.Need-returns
 unfolding share
-returns c = rw (c .before .before .before .before .before .if1 .taken) (c .before .before .put-part .ensures)
+returns c =
+    let at-if1 = c .before .before .before .before .before in
+    rw (at-if1 .if1 .taken) (c .before .before .put-part .ensures)
 
 put-digits-requires : tie.Need-put-digits-requires
 put-digits-requires c κs = search needs
@@ -28,17 +30,26 @@ slice-aggregate-put-part-2 : tie.Need-slice-aggregate-put-part-2
 slice-aggregate-put-part-2 c = search needs
 
 put-part-requires-2 : tie.Need-put-part-requires-2
-put-part-requires-2 c κs = (omega arith, omega (arith, length-digits 10 1 (c .before .before .before .before .before .before .before .before .args .came)))
+put-part-requires-2 c κs =
+    let start = c .before .before .before .before .before .before .before .before in
+    (omega arith, omega (arith, length-digits 10 1 (start .args .came)))
 
 put-digits-requires-2 : tie.Need-put-digits-requires-2
-put-digits-requires-2 c κs = (omega arith, (omega arith, omega (arith, length-digits 10 1 (c .before .before .before .before .before .before .before .before .before .before .before .before .args .came))))
+put-digits-requires-2 c κs =
+    let start = c .before .before .before .before .before .before .before .before .before .before .before .before in
+    (omega arith, (omega arith, omega (arith, length-digits 10 1 (start .args .came))))
 
 same-length-2 : tie.Need-same-length-2
 same-length-2 c = search needs
 
 returns-2 : tie.Need-returns-2
 unfolding share
-returns-2 c = rw (ne-eqb (c .before .before .before .before .before .before .before .before .before .before .before .before .before .before .before .args .wanted) 0 (c .before .before .before .before .before .before .before .before .before .before .before .before .before .if1 .left)) (put-append (put-append (c .before .before .before .before .before .before .before .before .before .before .before .put-digits .ensures) (c .before .before .before .before .before .before .put-part2 .ensures)) (c .before .before .put-digits2 .ensures))
+returns-2 c =
+    let at-put-part2 = c .before .before .before .before .before .before in
+    let at-put-digits = at-put-part2 .before .before .before .before .before in
+    let at-if1 = at-put-digits .before .before in
+    let start = at-if1 .before .before in
+    rw (ne-eqb (start .args .wanted) 0 (at-if1 .if1 .left)) (put-append (put-append (at-put-digits .put-digits .ensures) (at-put-part2 .put-part2 .ensures)) (c .before .before .put-digits2 .ensures))
 
 pub put-share-spec : {M : Type 1} → statement M
 put-share-spec =

@@ -15,7 +15,9 @@ cast-put-name : tie.Need-cast-put-name
 cast-put-name c = search needs
 
 put-name-requires : tie.Need-put-name-requires
-put-name-requires c κs = (omega arith, omega (arith, length-placed (c .before .before .before .before .before .before .before .before .args .t .index) (c .before .before .before .before .before .before .before .before .args .t .word)))
+put-name-requires c κs =
+    let start = c .before .before .before .before .before .before .before .before in
+    (omega arith, omega (arith, length-placed (start .args .t .index) (start .args .t .word)))
 
 cast-put-digits : tie.Need-cast-put-digits
 cast-put-digits c = search needs
@@ -34,7 +36,12 @@ same-length c = search needs
 
 returns : tie.Need-returns
 unfolding tracedText
-returns c = put-append (put-append (put-append (put-append (c .before .before .before .before .before .before .before .before .before .before .before .before .before .before .before .before .before .before .before .before .put-word .ensures) (c .before .before .before .before .before .before .before .before .before .before .before .before .before .before .before .put-name .ensures)) (c .before .before .before .before .before .before .before .before .before .before .put-digits .ensures)) (c .before .before .before .before .before .before .put-meaning .ensures)) (c .before .before .put-answer .ensures)
+returns c =
+    let at-put-meaning = c .before .before .before .before .before .before in
+    let at-put-digits = at-put-meaning .before .before .before .before in
+    let at-put-name = at-put-digits .before .before .before .before .before in
+    let at-put-word = at-put-name .before .before .before .before .before in
+    put-append (put-append (put-append (put-append (at-put-word .put-word .ensures) (at-put-name .put-name .ensures)) (at-put-digits .put-digits .ensures)) (at-put-meaning .put-meaning .ensures)) (c .before .before .put-answer .ensures)
 
 pub put-traced-spec : {M : Type 1} → statement M
 put-traced-spec =

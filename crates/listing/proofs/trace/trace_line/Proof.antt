@@ -16,20 +16,31 @@ returns : tie.Need-returns
 returns c = laid-none _ _ _ (length-trace (c .before .before .before .args .t)) (c .before .has-room .ensures) (c .if1 .taken)
 
 put-traced-requires : tie.Need-put-traced-requires
-put-traced-requires c κs = omega (arith, roomy (length (c .before .before .before .before .args .out .now)) 52 (c .before .before .before .before .args .at) (c .before .before .has-room .ensures) (c .before .if1 .left))
+put-traced-requires c κs =
+    let start = c .before .before .before .before in
+    omega (arith, roomy (length (start .args .out .now)) 52 (start .args .at) (c .before .before .has-room .ensures) (c .before .if1 .left))
 
 slice-aggregate-put-part : tie.Need-slice-aggregate-put-part
 slice-aggregate-put-part c = search needs
 
 put-part-requires : tie.Need-put-part-requires
-put-part-requires c κs = (omega arith, omega (arith, roomy (length (c .before .before .before .before .before .before .before .before .before .args .out .now)) 52 (c .before .before .before .before .before .before .before .before .before .args .at) (c .before .before .before .before .before .before .before .has-room .ensures) (c .before .before .before .before .before .before .if1 .left), length-traced (c .before .before .before .before .before .before .before .before .before .args .t)))
+put-part-requires c κs =
+    let at-if1 = c .before .before .before .before .before .before in
+    let at-has-room = at-if1 .before in
+    let start = at-has-room .before .before in
+    (omega arith, omega (arith, roomy (length (start .args .out .now)) 52 (start .args .at) (at-has-room .has-room .ensures) (at-if1 .if1 .left), length-traced (start .args .t)))
 
 same-length : tie.Need-same-length
 same-length c = search needs
 
 returns-2 : tie.Need-returns-2
 unfolding traceLine
-returns-2 c = laid-put _ _ _ (length-trace (c .before .before .before .before .before .before .before .before .before .before .before .before .args .t)) (c .before .before .before .before .before .before .before .before .before .before .has-room .ensures) (c .before .before .before .before .before .before .before .before .before .if1 .left) (put-append (c .before .before .before .before .before .before .before .put-traced .ensures) (c .before .before .put-part .ensures))
+returns-2 c =
+    let at-put-traced = c .before .before .before .before .before .before .before in
+    let at-if1 = at-put-traced .before .before in
+    let at-has-room = at-if1 .before in
+    let start = at-has-room .before .before in
+    laid-put _ _ _ (length-trace (start .args .t)) (at-has-room .has-room .ensures) (at-if1 .if1 .left) (put-append (at-put-traced .put-traced .ensures) (c .before .before .put-part .ensures))
 
 pub trace-line-spec : {M : Type 1} → statement M
 trace-line-spec =

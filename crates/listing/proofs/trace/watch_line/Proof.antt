@@ -16,26 +16,47 @@ returns : tie.Need-returns
 returns c = laid-none _ _ _ (length-watch (c .before .before .before .args .t) (c .before .before .before .args .before) (c .before .before .before .args .after)) (c .before .has-room .ensures) (c .if1 .taken)
 
 put-traced-requires : tie.Need-put-traced-requires
-put-traced-requires c κs = omega (arith, roomy (length (c .before .before .before .before .args .out .now)) 76 (c .before .before .before .before .args .at) (c .before .before .has-room .ensures) (c .before .if1 .left))
+put-traced-requires c κs =
+    let start = c .before .before .before .before in
+    omega (arith, roomy (length (start .args .out .now)) 76 (start .args .at) (c .before .before .has-room .ensures) (c .before .if1 .left))
 
 put-numbers-requires : tie.Need-put-numbers-requires
-put-numbers-requires c κs = omega (arith, roomy (length (c .before .before .before .before .before .before .before .before .args .out .now)) 76 (c .before .before .before .before .before .before .before .before .args .at) (c .before .before .before .before .before .before .has-room .ensures) (c .before .before .before .before .before .if1 .left), length-traced (c .before .before .before .before .before .before .before .before .args .t))
+put-numbers-requires c κs =
+    let at-if1 = c .before .before .before .before .before in
+    let at-has-room = at-if1 .before in
+    let start = at-has-room .before .before in
+    omega (arith, roomy (length (start .args .out .now)) 76 (start .args .at) (at-has-room .has-room .ensures) (at-if1 .if1 .left), length-traced (start .args .t))
 
 put-numbers-requires-2 : tie.Need-put-numbers-requires-2
-put-numbers-requires-2 c κs = omega (arith, roomy (length (c .before .before .before .before .before .before .before .before .before .before .before .before .args .out .now)) 76 (c .before .before .before .before .before .before .before .before .before .before .before .before .args .at) (c .before .before .before .before .before .before .before .before .before .before .has-room .ensures) (c .before .before .before .before .before .before .before .before .before .if1 .left), length-traced (c .before .before .before .before .before .before .before .before .before .before .before .before .args .t), length-numbers (c .before .before .before .before .before .before .before .before .before .before .before .before .args .before))
+put-numbers-requires-2 c κs =
+    let at-if1 = c .before .before .before .before .before .before .before .before .before in
+    let at-has-room = at-if1 .before in
+    let start = at-has-room .before .before in
+    omega (arith, roomy (length (start .args .out .now)) 76 (start .args .at) (at-has-room .has-room .ensures) (at-if1 .if1 .left), length-traced (start .args .t), length-numbers (start .args .before))
 
 slice-aggregate-put-part : tie.Need-slice-aggregate-put-part
 slice-aggregate-put-part c = search needs
 
 put-part-requires : tie.Need-put-part-requires
-put-part-requires c κs = (omega arith, omega (arith, roomy (length (c .before .before .before .before .before .before .before .before .before .before .before .before .before .before .before .before .before .args .out .now)) 76 (c .before .before .before .before .before .before .before .before .before .before .before .before .before .before .before .before .before .args .at) (c .before .before .before .before .before .before .before .before .before .before .before .before .before .before .before .has-room .ensures) (c .before .before .before .before .before .before .before .before .before .before .before .before .before .before .if1 .left), length-traced (c .before .before .before .before .before .before .before .before .before .before .before .before .before .before .before .before .before .args .t), length-numbers (c .before .before .before .before .before .before .before .before .before .before .before .before .before .before .before .before .before .args .before), length-numbers (c .before .before .before .before .before .before .before .before .before .before .before .before .before .before .before .before .before .args .after)))
+put-part-requires c κs =
+    let at-if1 = c .before .before .before .before .before .before .before .before .before .before .before .before .before .before in
+    let at-has-room = at-if1 .before in
+    let start = at-has-room .before .before in
+    (omega arith, omega (arith, roomy (length (start .args .out .now)) 76 (start .args .at) (at-has-room .has-room .ensures) (at-if1 .if1 .left), length-traced (start .args .t), length-numbers (start .args .before), length-numbers (start .args .after)))
 
 same-length : tie.Need-same-length
 same-length c = search needs
 
 returns-2 : tie.Need-returns-2
 unfolding watchLine
-returns-2 c = let a = c .before .before .before .before .before .before .before .before .before .before .before .before .before .before .before .before .before .before .before .before .args in laid-put _ _ _ (length-watch (a .t) (a .before) (a .after)) (c .before .before .before .before .before .before .before .before .before .before .before .before .before .before .before .before .before .before .has-room .ensures) (c .before .before .before .before .before .before .before .before .before .before .before .before .before .before .before .before .before .if1 .left) (put-append (put-append (put-append (c .before .before .before .before .before .before .before .before .before .before .before .before .before .before .before .put-traced .ensures) (c .before .before .before .before .before .before .before .before .before .before .before .put-numbers .ensures)) (c .before .before .before .before .before .before .before .put-numbers2 .ensures)) (c .before .before .put-part .ensures))
+returns-2 c =
+    let at-put-numbers2 = c .before .before .before .before .before .before .before in
+    let at-put-numbers = at-put-numbers2 .before .before .before .before in
+    let at-put-traced = at-put-numbers .before .before .before .before in
+    let at-if1 = at-put-traced .before .before in
+    let at-has-room = at-if1 .before in
+    let a = at-has-room .before .before .args in
+    laid-put _ _ _ (length-watch (a .t) (a .before) (a .after)) (at-has-room .has-room .ensures) (at-if1 .if1 .left) (put-append (put-append (put-append (at-put-traced .put-traced .ensures) (at-put-numbers .put-numbers .ensures)) (at-put-numbers2 .put-numbers2 .ensures)) (c .before .before .put-part .ensures))
 
 pub watch-line-spec : {M : Type 1} → statement M
 watch-line-spec =

@@ -22,8 +22,9 @@ same-length c = search needs
 returns-2 : tie.Need-returns-2
 unfolding listing
 returns-2 c =
-    let a = c .before .before .before .before .before .before .before .args in
-    done (listing (a .from) (a .words .now)) (a .out .now) (omega (arith, c .before .before .before .before .if1 .left, length-listing (a .from) (a .words .now))) (c .before .before .put-lines .ensures)
+    let at-if1 = c .before .before .before .before in
+    let a = at-if1 .before .before .before .args in
+    done (listing (a .from) (a .words .now)) (a .out .now) (omega (arith, at-if1 .if1 .left, length-listing (a .from) (a .words .now))) (c .before .before .put-lines .ensures)
 
 pub list-spec : {M : Type 1} → statement M
 list-spec = tie.close (tie.spec returns put-lines-requires same-length returns-2)

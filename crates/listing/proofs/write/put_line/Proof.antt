@@ -14,23 +14,33 @@ cast-put-name : tie.Need-cast-put-name
 cast-put-name c = search needs
 
 put-name-requires : tie.Need-put-name-requires
-put-name-requires c κs = (omega arith, omega (arith, length-placed (c .before .before .before .before .before .before .args .index) (c .before .before .before .before .before .before .args .word)))
+put-name-requires c κs =
+    let start = c .before .before .before .before .before .before in
+    (omega arith, omega (arith, length-placed (start .args .index) (start .args .word)))
 
 put-digits-requires : tie.Need-put-digits-requires
-put-digits-requires c κs = (omega arith, (omega arith, omega (arith, length-placed (c .before .before .before .before .before .before .before .before .before .before .args .index) (c .before .before .before .before .before .before .before .before .before .before .args .word), length-name (c .before .before .before .before .before .before .before .before .before .before .args .word))))
+put-digits-requires c κs =
+    let start = c .before .before .before .before .before .before .before .before .before .before in
+    (omega arith, (omega arith, omega (arith, length-placed (start .args .index) (start .args .word), length-name (start .args .word))))
 
 slice-aggregate-put-part : tie.Need-slice-aggregate-put-part
 slice-aggregate-put-part c = search needs
 
 put-part-requires : tie.Need-put-part-requires
-put-part-requires c κs = (omega arith, omega (arith, length-placed (c .before .before .before .before .before .before .before .before .before .before .before .before .before .before .before .args .index) (c .before .before .before .before .before .before .before .before .before .before .before .before .before .before .before .args .word), length-name (c .before .before .before .before .before .before .before .before .before .before .before .before .before .before .before .args .word), length-digits 16 4 (c .before .before .before .before .before .before .before .before .before .before .before .before .before .before .before .args .word)))
+put-part-requires c κs =
+    let start = c .before .before .before .before .before .before .before .before .before .before .before .before .before .before .before in
+    (omega arith, omega (arith, length-placed (start .args .index) (start .args .word), length-name (start .args .word), length-digits 16 4 (start .args .word)))
 
 same-length : tie.Need-same-length
 same-length c = search needs
 
 returns : tie.Need-returns
 unfolding line
-returns c = put-append (put-append (put-append (c .before .before .before .before .before .before .before .before .before .before .before .before .before .before .before .put-word .ensures) (c .before .before .before .before .before .before .before .before .before .before .before .put-name .ensures)) (c .before .before .before .before .before .before .before .put-digits .ensures)) (c .before .before .put-part .ensures)
+returns c =
+    let at-put-digits = c .before .before .before .before .before .before .before in
+    let at-put-name = at-put-digits .before .before .before .before in
+    let at-put-word = at-put-name .before .before .before .before in
+    put-append (put-append (put-append (at-put-word .put-word .ensures) (at-put-name .put-name .ensures)) (at-put-digits .put-digits .ensures)) (c .before .before .put-part .ensures)
 
 pub put-line-spec : {M : Type 1} → statement M
 put-line-spec =

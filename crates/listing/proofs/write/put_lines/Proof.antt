@@ -31,7 +31,9 @@ shared-slice-read-put-line : tie.Need-shared-slice-read-put-line Inv-loop μ-loo
 shared-slice-read-put-line c = search needs
 
 put-line-requires : tie.Need-put-line-requires Inv-loop μ-loop
-put-line-requires c κs = omega (arith, c .before .before .loop-test .taken, c .before .before .before .loop .inv .1, c .before .before .before .loop .inv .2 .ends, length-lines (c .before .before .before .before .before .before .args .from) (c .before .before .before .before .before .before .args .words .now) (c .before .before .before .loop .k), c .before .before .before .before .before .before .pre)
+put-line-requires c κs =
+    let start = c .before .before .before .before .before .before in
+    omega (arith, c .before .before .loop-test .taken, c .before .before .before .loop .inv .1, c .before .before .before .loop .inv .2 .ends, length-lines (start .args .from) (start .args .words .now) (c .before .before .before .loop .k), start .pre)
 
 add-k : tie.Need-add-k Inv-loop μ-loop
 add-k c = search needs
@@ -41,9 +43,10 @@ loop-less c = search needs
 
 loop-again : tie.Need-loop-again Inv-loop μ-loop
 loop-again c =
-    let l = c .before .before .before .before .before .before in
-    let a = c .before .before .before .before .before .before .before .before .before .args in (
-      omega (arith, c .before .before .before .before .before .loop-test .taken),
+    let in-loop = c .before .before .before .before .before in
+    let l = in-loop .before in
+    let a = in-loop .before .before .before .before .args in (
+      omega (arith, in-loop .loop-test .taken),
       c .before .before .put-line .kept .1 .1 .0 ∙ l .loop .inv .1,
       rw (lines-more (a .from) (a .words .now) (l .loop .k)) (put-append (l .loop .inv .2) (c .before .before .put-line .ensures)),
     )

@@ -14,17 +14,24 @@ slice-aggregate-put-part : tie.Need-slice-aggregate-put-part
 slice-aggregate-put-part c = search needs
 
 put-part-requires : tie.Need-put-part-requires
-put-part-requires c κs = (omega arith, omega (arith, length-digits 16 5 (c .before .before .before .before .before .before .before .args .word)))
+put-part-requires c κs =
+    let start = c .before .before .before .before .before .before .before in
+    (omega arith, omega (arith, length-digits 16 5 (start .args .word)))
 
 put-digits-requires-2 : tie.Need-put-digits-requires-2
-put-digits-requires-2 c κs = (omega arith, (omega arith, omega (arith, length-digits 16 5 (c .before .before .before .before .before .before .before .before .before .before .before .args .word))))
+put-digits-requires-2 c κs =
+    let start = c .before .before .before .before .before .before .before .before .before .before .before in
+    (omega arith, (omega arith, omega (arith, length-digits 16 5 (start .args .word))))
 
 same-length : tie.Need-same-length
 same-length c = search needs
 
 returns : tie.Need-returns
 unfolding placed
-returns c = put-append (put-append (c .before .before .before .before .before .before .before .before .before .before .before .put-digits .ensures) (c .before .before .before .before .before .before .put-part .ensures)) (c .before .before .put-digits2 .ensures)
+returns c =
+    let at-put-part = c .before .before .before .before .before .before in
+    let at-put-digits = at-put-part .before .before .before .before .before in
+    put-append (put-append (at-put-digits .put-digits .ensures) (at-put-part .put-part .ensures)) (c .before .before .put-digits2 .ensures)
 
 pub put-word-spec : {M : Type 1} → statement M
 put-word-spec =

@@ -22,13 +22,17 @@ shared-slice-read-index : tie.Need-shared-slice-read-index Inv-loop μ-loop
 shared-slice-read-index c = search needs
 
 shared-slice-read-say-dropped : tie.Need-shared-slice-read-say-dropped Inv-loop μ-loop
-shared-slice-read-say-dropped c = omega (arith, c .before .before .before .before .before .before .before .pre .0, c .before .before .loop-test .taken)
+shared-slice-read-say-dropped c =
+    let start = c .before .before .before .before .before .before .before in
+    omega (arith, start .pre .0, c .before .before .loop-test .taken)
 
 word-requires : tie.Need-word-requires Inv-loop μ-loop
 word-requires c κs = search needs
 
 say-dropped-requires : tie.Need-say-dropped-requires Inv-loop μ-loop
-say-dropped-requires c κs = c .before .before .before .before .before .before .before .before .pre .1 _ (c .before .before .before .loop-test .taken)
+say-dropped-requires c κs =
+    let start = c .before .before .before .before .before .before .before .before in
+    start .pre .1 _ (c .before .before .before .loop-test .taken)
 
 add-k : tie.Need-add-k Inv-loop μ-loop
 add-k c = search needs

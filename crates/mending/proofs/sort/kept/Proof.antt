@@ -31,7 +31,9 @@ word-requires : tie.Need-word-requires Inv-loop μ-loop
 word-requires c κs = search needs
 
 tried-requires : tie.Need-tried-requires Inv-loop μ-loop
-tried-requires c κs = omega (arith, c .word .ensures, word-fits (now (c .before .before .before .before .before .before .args .bytes)) (c .before .before .loop .k))
+tried-requires c κs =
+    let start = c .before .before .before .before .before .before in
+    omega (arith, c .word .ensures, word-fits (now (start .args .bytes)) (c .before .before .loop .k))
 
 add-k : tie.Need-add-k Inv-loop μ-loop
 add-k c = search needs

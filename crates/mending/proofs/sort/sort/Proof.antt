@@ -40,7 +40,9 @@ word-requires : tie.Need-word-requires Inv-loop μ-loop
 word-requires c κs = search needs
 
 tried-requires : tie.Need-tried-requires Inv-loop μ-loop
-tried-requires c κs = omega (arith, c .word .ensures, word-fits (now (c .before .before .before .before .before .before .before .before .before .args .bytes)) (c .before .before .loop .j + c .before .before .loop .d))
+tried-requires c κs =
+    let start = c .before .before .before .before .before .before .before .before .before in
+    omega (arith, c .word .ensures, word-fits (now (start .args .bytes)) (c .before .before .loop .j + c .before .before .loop .d))
 
 slice-aggregate-put-waiting : tie.Need-slice-aggregate-put-waiting Inv-loop μ-loop
 slice-aggregate-put-waiting c = refl
@@ -63,10 +65,11 @@ loop-less c = search needs
 
 loop-again : tie.Need-loop-again Inv-loop μ-loop
 loop-again c =
-    let t = c .before .before .before .before .before .before .before .before in
+    let at-if1 = c .before .before .before .before .before in
+    let t = at-if1 .before .before .before in
     let s = t .before .before .before in
     let i = s .loop .inv in
-    (omega (arith, t .before .before .loop-test .taken), i .1, search needs, search needs, search needs, sorted-kept _ _ _ _ (s .before .before .before .before .before .before .before .pre) (i .5) (rw (i .1) at (t .before .before .loop-test .taken)) (t .before .word .ensures) (t .tried .ensures) (c .before .before .before .before .before .if1 .taken) (c .before .before .put-waiting .ensures))
+    (omega (arith, t .before .before .loop-test .taken), i .1, search needs, search needs, search needs, sorted-kept _ _ _ _ (s .before .before .before .before .before .before .before .pre) (i .5) (rw (i .1) at (t .before .before .loop-test .taken)) (t .before .word .ensures) (t .tried .ensures) (at-if1 .if1 .taken) (c .before .before .put-waiting .ensures))
 
 put-dropped-requires : tie.Need-put-dropped-requires Inv-loop μ-loop
 put-dropped-requires c κs =
@@ -84,10 +87,12 @@ loop-less-2 c = search needs
 
 loop-again-2 : tie.Need-loop-again-2 Inv-loop μ-loop
 loop-again-2 c =
-    let t = c .before .before .before .before .before .before .before .before .before .before in
+    let at-put-dropped = c .before .before .before .before in
+    let at-if1 = at-put-dropped .before .before .before in
+    let t = at-if1 .before .before .before in
     let s = t .before .before .before in
     let i = s .loop .inv in
-    (omega (arith, t .before .before .loop-test .taken), i .1, search needs, search needs, search needs, sorted-dropped _ _ _ _ (s .before .before .before .before .before .before .before .pre) (i .5) (rw (i .1) at (t .before .before .loop-test .taken)) (t .before .word .ensures) (t .tried .ensures) (c .before .before .before .before .before .before .before .if1 .left) (c .before .before .before .before .put-dropped .ensures .0) (c .before .before .before .before .put-dropped .ensures .1))
+    (omega (arith, t .before .before .loop-test .taken), i .1, search needs, search needs, search needs, sorted-dropped _ _ _ _ (s .before .before .before .before .before .before .before .pre) (i .5) (rw (i .1) at (t .before .before .loop-test .taken)) (t .before .word .ensures) (t .tried .ensures) (at-if1 .if1 .left) (at-put-dropped .put-dropped .ensures .0) (at-put-dropped .put-dropped .ensures .1))
 
 slice-aggregate-put-waiting-2 : tie.Need-slice-aggregate-put-waiting-2 Inv-loop μ-loop
 slice-aggregate-put-waiting-2 c = refl
@@ -109,9 +114,10 @@ same-length-3 c = search needs
 
 returns : tie.Need-returns Inv-loop μ-loop
 returns c =
-    let s = c .before .before .before .before .before .before in
+    let in-loop = c .before .before .before .before .before in
+    let s = in-loop .before in
     let i = s .loop .inv in
-    sorted-end _ _ _ _ (s .before .before .before .before .before .before .before .pre) (i .5) (rw (i .1) at (c .before .before .before .before .before .loop-test .left)) (c .before .before .put-waiting2 .ensures)
+    sorted-end _ _ _ _ (s .before .before .before .before .before .before .before .pre) (i .5) (rw (i .1) at (in-loop .loop-test .left)) (c .before .before .put-waiting2 .ensures)
 
 pub sort-spec : {M : Type 1} → statement M
 sort-spec =

@@ -23,7 +23,9 @@ unopened-requires : tie.Need-unopened-requires
 unopened-requires c κs = search needs
 
 returns : tie.Need-returns
-returns c = within-none (length (c .before .before .before .before .before .before .args .bytes .now)) (c .unopened .result) (c .unopened .ensures)
+returns c =
+    let start = c .before .before .before .before .before .before in
+    within-none (length (start .args .bytes .now)) (c .unopened .result) (c .unopened .ensures)
 
 take-from-requires : tie.Need-take-from-requires
 take-from-requires c κs = search needs
@@ -39,7 +41,8 @@ same-length c = search needs
 
 returns-2 : tie.Need-returns-2
 returns-2 c =
-    let room = length (c .before .before .before .before .before .before .before .before .before .before .before .args .bytes .now) in
+    let start = c .before .before .before .before .before .before .before .before .before .before .before in
+    let room = length (start .args .bytes .now) in
     let take = c .before .before .before .before .take-from in
     subst (Within room) (sym (c .before .opened .ensures)) (found-within room (take .result) (take .ensures))
 

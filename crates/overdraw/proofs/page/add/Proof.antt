@@ -16,18 +16,25 @@ enter-requires : tie.Need-enter-requires
 enter-requires c κs = search needs
 
 put-entry-requires : tie.Need-put-entry-requires
-put-entry-requires c κs = (subst (λ (e : Entry). EachWithin 3276 (e .tally)) (sym (c .before .enter .ensures)) (stream-each _), c .before .before .before .before .pre .fits)
+put-entry-requires c κs =
+    let start = c .before .before .before .before in
+    (subst (λ (e : Entry). EachWithin 3276 (e .tally)) (sym (c .before .enter .ensures)) (stream-each _), start .pre .fits)
 
 with-requires : tie.Need-with-requires
 with-requires c κs = search needs
 
 add-t12 : tie.Need-add-t12
-add-t12 c = omega (arith, c .before .before .before .before .before .before .before .before .before .pre .few)
+add-t12 c =
+    let start = c .before .before .before .before .before .before .before .before .before in
+    omega (arith, start .pre .few)
 
 returns : tie.Need-returns
 returns c =
-    let s = c .before .before .before .before .before .before .before .before .before in
-    one-more (s .args .r) _ (s .pre) (c .before .before .before .before .before .before .before .name-of .ensures) (c .before .before .before .before .before .before .enter .ensures) (c .before .before .before .before .put-entry .ensures) (c .before .with .ensures)
+    let at-put-entry = c .before .before .before .before in
+    let at-enter = at-put-entry .before .before in
+    let at-name-of = at-enter .before in
+    let s = at-name-of .before .before in
+    one-more (s .args .r) _ (s .pre) (at-name-of .name-of .ensures) (at-enter .enter .ensures) (at-put-entry .put-entry .ensures) (c .before .with .ensures)
 
 pub add-spec : {M : Type 1} → statement M
 add-spec =

@@ -26,7 +26,9 @@ slice-aggregate-put-text-3 : tie.Need-slice-aggregate-put-text-3
 slice-aggregate-put-text-3 c = search needs
 
 put-text-requires-3 : tie.Need-put-text-requires-3
-put-text-requires-3 c κs = omega (arith, length-numbers (c .before .before .before .before .before .before .before .before .before .before .before .before .before .before .before .before .before .args .c))
+put-text-requires-3 c κs =
+    let start = c .before .before .before .before .before .before .before .before .before .before .before .before .before .before .before .before .before in
+    omega (arith, length-numbers (start .args .c))
 
 same-length : tie.Need-same-length
 same-length c = search needs
@@ -34,8 +36,11 @@ same-length c = search needs
 returns : tie.Need-returns
 unfolding countLine
 returns c =
+    let at-put-numbers = c .before .before .before .before .before .before .before in
+    let at-put-text2 = at-put-numbers .before .before .before .before in
+    let at-put-text = at-put-text2 .before .before .before .before .before in
     put-append
-    (put-append (put-append (c .before .before .before .before .before .before .before .before .before .before .before .before .before .before .before .before .put-text .ensures) (c .before .before .before .before .before .before .before .before .before .before .before .put-text2 .ensures)) (c .before .before .before .before .before .before .before .put-numbers .ensures))
+    (put-append (put-append (at-put-text .put-text .ensures) (at-put-text2 .put-text2 .ensures)) (at-put-numbers .put-numbers .ensures))
     (c .before .before .put-text3 .ensures)
 
 pub put-count-spec : {M : Type 1} → statement M

@@ -16,10 +16,14 @@ same-length c = search needs
 
 returns : tie.Need-returns
 unfolding entryLines
-returns c = rw (c .before .before .before .before .if1 .taken) (c .before .before .put-too-long .ensures)
+returns c =
+    let at-if1 = c .before .before .before .before in
+    rw (at-if1 .if1 .taken) (c .before .before .put-too-long .ensures)
 
 put-tally-requires : tie.Need-put-tally-requires
-put-tally-requires c κs = (each-more 3276 3276000 _ (omega arith) (c .before .before .before .before .pre .0), omega arith)
+put-tally-requires c κs =
+    let start = c .before .before .before .before in
+    (each-more 3276 3276000 _ (omega arith) (start .pre .0), omega arith)
 
 put-refusal-requires : tie.Need-put-refusal-requires
 put-refusal-requires c κs = let a = c .before .before .before .before .before .before .before .before .args in omega (arith, length-tally (a .name) (a .e .tally))
@@ -29,7 +33,10 @@ same-length-2 c = search needs
 
 returns-2 : tie.Need-returns-2
 unfolding entryLines
-returns-2 c = rw (c .before .before .before .before .before .before .before .before .before .if1 .left) (put-append (c .before .before .before .before .before .before .put-tally .ensures) (c .before .before .put-refusal .ensures))
+returns-2 c =
+    let at-put-tally = c .before .before .before .before .before .before in
+    let at-if1 = at-put-tally .before .before .before in
+    rw (at-if1 .if1 .left) (put-append (at-put-tally .put-tally .ensures) (c .before .before .put-refusal .ensures))
 
 pub put-entry-spec : {M : Type 1} → statement M
 put-entry-spec =

@@ -31,9 +31,14 @@ same-length c = search needs
 returns : tie.Need-returns
 unfolding numbers
 returns c =
+    let at-percent = c .before .before .before .before in
+    let at-put-columns4 = at-percent .before .before .before in
+    let at-put-columns3 = at-put-columns4 .before .before .before .before in
+    let at-put-columns2 = at-put-columns3 .before .before .before .before in
+    let at-put-columns = at-put-columns2 .before .before .before .before in
     put-append
-    (put-append (put-append (put-append (c .before .before .before .before .before .before .before .before .before .before .before .before .before .before .before .before .before .before .before .put-columns .ensures) (c .before .before .before .before .before .before .before .before .before .before .before .before .before .before .before .put-columns2 .ensures)) (c .before .before .before .before .before .before .before .before .before .before .before .put-columns3 .ensures)) (c .before .before .before .before .before .before .before .put-columns4 .ensures))
-    (rw (c .before .before .before .before .percent .ensures) at (c .before .before .put-columns5 .ensures))
+    (put-append (put-append (put-append (at-put-columns .put-columns .ensures) (at-put-columns2 .put-columns2 .ensures)) (at-put-columns3 .put-columns3 .ensures)) (at-put-columns4 .put-columns4 .ensures))
+    (rw (at-percent .percent .ensures) at (c .before .before .put-columns5 .ensures))
 
 pub put-numbers-spec : {M : Type 1} → statement M
 put-numbers-spec =

@@ -31,7 +31,9 @@ slice-aggregate-put-text-3 : tie.Need-slice-aggregate-put-text-3
 slice-aggregate-put-text-3 c = search needs
 
 put-text-requires-3 : tie.Need-put-text-requires-3
-put-text-requires-3 c κs = omega (arith, length-columns 8 (c .before .before .before .before .before .before .before .before .before .before .before .before .before .before .before .before .before .before .args .refusal))
+put-text-requires-3 c κs =
+    let start = c .before .before .before .before .before .before .before .before .before .before .before .before .before .before .before .before .before .before in
+    omega (arith, length-columns 8 (start .args .refusal))
 
 same-length : tie.Need-same-length
 same-length c = search needs
@@ -39,9 +41,13 @@ same-length c = search needs
 returns-2 : tie.Need-returns-2
 unfolding refusalLine
 returns-2 c =
-    rw (ne-eqb _ 0 (c .before .before .before .before .before .before .before .before .before .before .before .before .before .before .before .before .before .before .before .if1 .left))
+    let at-put-columns = c .before .before .before .before .before .before .before in
+    let at-put-text2 = at-put-columns .before .before .before .before in
+    let at-put-text = at-put-text2 .before .before .before .before .before in
+    let at-if1 = at-put-text .before .before .before in
+    rw (ne-eqb _ 0 (at-if1 .if1 .left))
     (put-append
-    (put-append (put-append (c .before .before .before .before .before .before .before .before .before .before .before .before .before .before .before .before .put-text .ensures) (c .before .before .before .before .before .before .before .before .before .before .before .put-text2 .ensures)) (c .before .before .before .before .before .before .before .put-columns .ensures))
+    (put-append (put-append (at-put-text .put-text .ensures) (at-put-text2 .put-text2 .ensures)) (at-put-columns .put-columns .ensures))
     (c .before .before .put-text3 .ensures))
 
 pub put-refusal-spec : {M : Type 1} → statement M

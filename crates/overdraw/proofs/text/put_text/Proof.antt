@@ -11,7 +11,9 @@ same-length : tie.Need-same-length
 same-length c = search needs
 
 returns : tie.Need-returns
-returns c = put-laid (c .before .before .before .before .before .before .pre) (c .before .before .lay .ensures)
+returns c =
+    let start = c .before .before .before .before .before .before in
+    put-laid (start .pre) (c .before .before .lay .ensures)
 
 pub put-text-spec : {M : Type 1} → statement M
 put-text-spec = tie.close (tie.spec lay-requires same-length returns)

@@ -28,7 +28,10 @@ same-length c = search needs
 
 returns : tie.Need-returns
 unfolding tooLongLine
-returns c = put-append (put-append (c .before .before .before .before .before .before .before .before .before .before .before .before .put-text .ensures) (c .before .before .before .before .before .before .before .put-text2 .ensures)) (c .before .before .put-text3 .ensures)
+returns c =
+    let at-put-text2 = c .before .before .before .before .before .before .before in
+    let at-put-text = at-put-text2 .before .before .before .before .before in
+    put-append (put-append (at-put-text .put-text .ensures) (at-put-text2 .put-text2 .ensures)) (c .before .before .put-text3 .ensures)
 
 pub put-too-long-spec : {M : Type 1} → statement M
 put-too-long-spec =

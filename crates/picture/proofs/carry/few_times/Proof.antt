@@ -18,8 +18,9 @@ wrapping-add-u64-requires c κs = search needs
 
 returns : tie.Need-returns
 returns c =
-    let a = c .before .before .before .before .args in
-    few-sum (a .n) (a .k) (c .before .before .before .before .pre) (c .before .before .before .either .ensures) (c .before .either2 .ensures) (c .before .before .twice .ensures) (c .wrapping-add-u64 .ensures)
+    let start = c .before .before .before .before in
+    let a = start .args in
+    few-sum (a .n) (a .k) (start .pre) (c .before .before .before .either .ensures) (c .before .either2 .ensures) (c .before .before .twice .ensures) (c .wrapping-add-u64 .ensures)
 
 pub few-times-spec : {M : Type 1} → statement M
 few-times-spec =

@@ -21,8 +21,9 @@ either-requires c κs = search needs
 
 returns : tie.Need-returns
 returns c =
-    let s = c .before .before .before .before .before in
-    rw (c .before .before .before .wrapping-add-u64 .ensures, c .before .before .before .before .few-times .ensures, wide-sum (s .args .c .add) (s .args .ways) (s .pre .0) (c .before .before .twice .ensures) (c .before .four-times .ensures) (c .either .ensures))
+    let at-few-times = c .before .before .before .before in
+    let s = at-few-times .before in
+    rw (c .before .before .before .wrapping-add-u64 .ensures, at-few-times .few-times .ensures, wide-sum (s .args .c .add) (s .args .ways) (s .pre .0) (c .before .before .twice .ensures) (c .before .four-times .ensures) (c .either .ensures))
 
 pub strided-spec : {M : Type 1} → statement M
 strided-spec =

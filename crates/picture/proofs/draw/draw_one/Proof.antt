@@ -25,12 +25,16 @@ same-length-2 c = search needs
 
 returns : tie.Need-returns
 returns c =
-    let s = c .before .before .before .before .before .before .before .before .before .before .before .before in
+    let at-put-at = c .before .before .before .before in
+    let at-if1 = at-put-at .before .before .before in
+    let at-is-shown = at-if1 .before in
+    let at-is-masked = at-is-shown .before in
+    let s = at-is-masked .before .before .before in
     let a = s .args in
     let p = picture (a .im .now) (a .zm .now) (a .n) in (
-      shown-drawn (a .pen) (a .kind) (a .x) (a .y) (a .i) (a .z) p _ (rw (c .before .before .before .before .before .before .before .before .before .is-masked .ensures, c .before .before .before .before .before .before .before .before .is-shown .ensures) at (c .before .before .before .before .before .before .before .if1 .taken))
-          (c .before .before .before .before .put-at .ensures .0 ∙ ap (λ (at : ℕ). stepAt (a .pen) (a .kind) at (a .i) (a .z) p) (s .pre .0)),
-      c .before .before .before .before .put-at .ensures .1,
+      shown-drawn (a .pen) (a .kind) (a .x) (a .y) (a .i) (a .z) p _ (rw (at-is-masked .is-masked .ensures, at-is-shown .is-shown .ensures) at (at-if1 .if1 .taken))
+          (at-put-at .put-at .ensures .0 ∙ ap (λ (at : ℕ). stepAt (a .pen) (a .kind) at (a .i) (a .z) p) (s .pre .0)),
+      at-put-at .put-at .ensures .1,
     )
 
 returns-2 : tie.Need-returns-2

@@ -68,13 +68,14 @@ whole-requires-2 c κs = search needs
 
 draw-one-requires : tie.Need-draw-one-requires Inv-loop μ-loop
 draw-one-requires c κs =
-    let l = c .before .before .before .before .before in
+    let in-loop = c .before .before .before .before in
+    let l = in-loop .before in
     let s = l .before .before .before .before .before in
     let a = s .args in
     let k = l .loop in
     let frame = a .pen .frame in
     let rows = rowsOf frame (length (a .im .now)) (length (a .zm .now)) in
-    let low = stride-low (a .x) (a .ways) (a .count) (k .j) (frame .line) (c .before .before .before .before .loop-test .taken) (s .pre .2) in
+    let low = stride-low (a .x) (a .ways) (a .count) (k .j) (frame .line) (in-loop .loop-test .taken) (s .pre .2) in
     let e = ap (λ (m : ℕ). m + k .j) (k .inv .1) ∙ stride-place frame (a .ways) (s .pre .0) (a .x) (a .y) (k .j) in
     let below = place-below frame (length (a .im .now)) (length (a .zm .now)) (a .x + a .ways * k .j) (a .y)
     (inside-of frame rows (a .x + a .ways * k .j) (a .y) low (s .pre .3) (stride-mine frame (a .ways) (s .pre .0) (a .x) (k .j) ∙ s .pre .1)) in
@@ -94,18 +95,21 @@ loop-less c = search needs
 
 loop-again : tie.Need-loop-again Inv-loop μ-loop
 loop-again c =
+    let at-whole2 = c .before .before .before .before .before .before .before .before .before in
+    let at-whole = at-whole2 .before in
+    let in-loop = at-whole .before in
     let d = c .before .before .before .before .before .before in
-    let l = c .before .before .before .before .before .before .before .before .before .before .before .before in
+    let l = in-loop .before in
     let a = l .before .before .before .before .before .args in
     let k = l .loop in (
-      omega (arith, c .before .before .before .before .before .before .before .before .before .before .before .loop-test .taken),
+      omega (arith, in-loop .loop-test .taken),
       k .inv .1,
       omega (arith, k .inv .2, d .draw-one .ensures .1),
       carried-next (a .i .first) (a .i .add) (k .j) _ (k .ki) (k .inv .3) (c .before .wrapping-add-u64 .ensures),
       carried-next (a .z .first) (a .z .add) (k .j) _ (k .kz) (k .inv .4) (c .wrapping-add-u642 .ensures),
       reached-more (k .inv .5)
           (own-turn (a .pen) (a .kind) (a .x + a .ways * k .j) (a .y) (a .i) (a .z) (k .j) (picture (k .im) (k .zm) (k .passed))
-          (c .before .before .before .before .before .before .before .before .before .before .whole .ensures ∙ carried-at (a .i) (k .j) (k .ki) (k .inv .3)) (c .before .before .before .before .before .before .before .before .before .whole2 .ensures ∙ carried-at (a .z) (k .j) (k .kz) (k .inv .4)) (d .draw-one .ensures .0)),
+          (at-whole .whole .ensures ∙ carried-at (a .i) (k .j) (k .ki) (k .inv .3)) (at-whole2 .whole2 .ensures ∙ carried-at (a .z) (k .j) (k .kz) (k .inv .4)) (d .draw-one .ensures .0)),
     )
 
 same-length : tie.Need-same-length Inv-loop μ-loop
@@ -117,8 +121,9 @@ same-length-2 c = reached-z (c .before .loop .inv .5)
 returns : tie.Need-returns Inv-loop μ-loop
 unfolding ownOffers
 returns c =
+    let start = c .before .before .before .before .before .before in
     let k = c .before .loop in
-    let e : k .j ≡ c .before .before .before .before .before .before .args .count = omega (arith, k .inv .0, c .loop-test .left) in
+    let e : k .j ≡ start .args .count = omega (arith, k .inv .0, c .loop-test .left) in
     rw e at (k .inv .5 .so)
 
 pub fill-own-spec : {M : Type 1} → statement M

@@ -40,8 +40,10 @@ returns-2 c = search needs
 
 fill-shared-requires : tie.Need-fill-shared-requires
 fill-shared-requires c κs =
-    let p = c .before .before .before .before .before .before .before .before .before .pre in
-    (p .0, p .1, p .2, sym (c .before .before .before .before .before .lies-plain .ensures) ∙ c .before .before .before .before .if1 .left, sym (c .before .before .before .lies-tiled .ensures) ∙ c .before .before .if2 .left)
+    let at-if1 = c .before .before .before .before in
+    let at-lies-plain = at-if1 .before in
+    let p = at-lies-plain .before .before .before .before .pre in
+    (p .0, p .1, p .2, sym (at-lies-plain .lies-plain .ensures) ∙ at-if1 .if1 .left, sym (c .before .before .before .lies-tiled .ensures) ∙ c .before .before .if2 .left)
 
 same-length-5 : tie.Need-same-length-5
 same-length-5 c = search needs

@@ -62,15 +62,16 @@ add-fill-own c = search needs
 
 fill-own-requires : tie.Need-fill-own-requires
 fill-own-requires c κs =
-    let s = c .before .before .before .before .before .before .before .before .before .before in
+    let at-if1 = c .before .before .before .before in
+    let s = at-if1 .before .before .before .before .before .before in
     let a = s .args in
-    let w = c .before .before .before .before .before .before .ways-of in
-    let u = c .before .before .before .before .before .until-own in
+    let w = at-if1 .before .before .ways-of in
+    let u = at-if1 .before .until-own in
     let shares = subst (λ (n : ℕ). Shares (a .pen .frame) n) (sym (w .ensures .0)) (shares-of (a .pen .frame) (s .pre .3) (s .pre .4)) in
     let first = u .result in
     let all = a .hi - a .lo in
     let room =
-    subst (λ (n : ℕ). first + w .result * n < all + w .result) (sym (own-some first all (w .result) (shares .few) (u .ensures .1) (c .before .before .before .before .if1 .taken)))
+    subst (λ (n : ℕ). first + w .result * n < all + w .result) (sym (own-some first all (w .result) (shares .few) (u .ensures .1) (at-if1 .if1 .taken)))
     (own-room first all (w .result) (shares .few) (u .ensures .1)) in (
       shares,
       ap (λ (n : ℕ). mine (layoutOf (a .pen .frame)) (a .lo + n)) (u .ensures .0) ∙ first-mine (a .pen .frame) (w .result) (a .lo) shares,
@@ -86,16 +87,20 @@ same-length-2 c = search needs
 
 returns : tie.Need-returns
 returns c =
-    let s = c .before .before .before .before .before .before .before .before .before .before .before .before .before .before .before in
+    let at-fill-own = c .before .before .before .before in
+    let at-strided2 = at-fill-own .before .before .before in
+    let at-strided = at-strided2 .before in
+    let at-if1 = at-strided .before in
+    let s = at-if1 .before .before .before .before .before .before in
     let a = s .args in
-    let w = c .before .before .before .before .before .before .before .before .before .before .before .ways-of in
-    let u = c .before .before .before .before .before .before .before .before .before .before .until-own in
+    let w = at-if1 .before .before .ways-of in
+    let u = at-if1 .before .until-own in
     let shares = subst (λ (n : ℕ). Shares (a .pen .frame) n) (sym (w .ensures .0)) (shares-of (a .pen .frame) (s .pre .3) (s .pre .4)) in
     let rows = rowsOf (a .pen .frame) (length (a .im .now)) (length (a .zm .now)) in
-    c .before .before .before .before .fill-own .ensures
+    at-fill-own .fill-own .ensures
     ∙ ap (λ (os : List Offer). drawn (a .pen) os (picture (a .im .now) (a .zm .now) 0))
     (share-found (a .pen) (w .result) rows (a .kind) (a .lo) (a .hi) (a .y) (a .i) (a .z) shares (s .pre .1) (s .pre .2) (u .ensures .0)
-    (own-some (u .result) (a .hi - a .lo) (w .result) (shares .few) (u .ensures .1) (c .before .before .before .before .before .before .before .before .before .if1 .taken)) (c .before .before .before .before .before .before .before .before .strided .ensures) (c .before .before .before .before .before .before .before .strided2 .ensures))
+    (own-some (u .result) (a .hi - a .lo) (w .result) (shares .few) (u .ensures .1) (at-if1 .if1 .taken)) (at-strided .strided .ensures) (at-strided2 .strided2 .ensures))
 
 returns-2 : tie.Need-returns-2
 returns-2 c =

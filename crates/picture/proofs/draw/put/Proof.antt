@@ -19,12 +19,13 @@ place-requires c κs = search needs
 
 put-at-requires : tie.Need-put-at-requires
 put-at-requires c κs =
-    let s = c .before .before .before .before .before .before .before .before in
+    let at-if1 = c .before .before .before .before in
+    let s = at-if1 .before .before .before .before in
     let a = s .args in
-    let o = c .before .before .before .before .before in
+    let o = at-if1 .before in
     let rows = rowsOf (a .pen .frame) (length (a .im .now)) (length (a .zm .now)) in
     let below = place-below (a .pen .frame) (length (a .im .now)) (length (a .zm .now)) (a .x) (a .y)
-    (offered-inside (a .pen) rows (a .kind) (a .x) (a .y) (sym (o .is-offered .ensures) ∙ c .before .before .before .before .if1 .taken)) in
+    (offered-inside (a .pen) rows (a .kind) (a .x) (a .y) (sym (o .is-offered .ensures) ∙ at-if1 .if1 .taken)) in
     (omega (arith, c .before .before .place .ensures .0, below .0), omega (arith, c .before .before .place .ensures .0, below .1), omega arith)
 
 same-length : tie.Need-same-length
@@ -35,12 +36,14 @@ same-length-2 c = search needs
 
 returns : tie.Need-returns
 returns c =
+    let at-place = c .before .before .before .before .before .before .before in
+    let at-if1 = at-place .before .before in
     let p = c .before .before .before .before in
-    let o = c .before .before .before .before .before .before .before .before .before .before in
+    let o = at-if1 .before in
     let a = o .before .before .before .args in
     keep-drawn (a .pen) (rowsOf (a .pen .frame) (length (a .im .now)) (length (a .zm .now))) (a .kind) (a .x) (a .y) (a .i) (a .z) (picture (a .im .now) (a .zm .now) 0) _
-    (sym (o .is-offered .ensures) ∙ c .before .before .before .before .before .before .before .before .before .if1 .taken)
-    (p .put-at .ensures .0 ∙ ap (λ (at : ℕ). stepAt (a .pen) (a .kind) at (a .i) (a .z) (picture (a .im .now) (a .zm .now) 0)) (c .before .before .before .before .before .before .before .place .ensures .0))
+    (sym (o .is-offered .ensures) ∙ at-if1 .if1 .taken)
+    (p .put-at .ensures .0 ∙ ap (λ (at : ℕ). stepAt (a .pen) (a .kind) at (a .i) (a .z) (picture (a .im .now) (a .zm .now) 0)) (at-place .place .ensures .0))
 
 returns-2 : tie.Need-returns-2
 returns-2 c =

@@ -25,8 +25,10 @@ same-length-2 c = search needs
 
 returns : tie.Need-returns
 returns c =
-    let a = c .before .before .before .before .before .before .before .before .before .before .args in
-    c .before .before .before .before .put-at .ensures .0 ∙ sym (placed-in (a .pen) (a .kind) (a .at) (a .i) (a .z) (picture (a .im .now) (a .zm .now) 0) (c .before .before .before .before .before .before .before .if1 .taken))
+    let at-put-at = c .before .before .before .before in
+    let at-if1 = at-put-at .before .before .before in
+    let a = at-if1 .before .before .before .args in
+    at-put-at .put-at .ensures .0 ∙ sym (placed-in (a .pen) (a .kind) (a .at) (a .i) (a .z) (picture (a .im .now) (a .zm .now) 0) (at-if1 .if1 .taken))
 
 returns-2 : tie.Need-returns-2
 returns-2 c = let a = c .before .before .before .args in sym (placed-out (a .pen) (a .kind) (a .at) (a .i) (a .z) (picture (a .im .now) (a .zm .now) 0) (c .if1 .left))

@@ -23,8 +23,9 @@ shorter-requires c κs = search needs
 
 fill-row-requires : tie.Need-fill-row-requires
 fill-row-requires c κs =
-    let h = c .before .before .before .before .before in
-    (c .before .before .if2 .taken, omega (arith, c .before .before .before .shorter .ensures), ltb-true _ _ (sym (h .has-row .ensures) ∙ c .before .before .before .before .if1 .taken))
+    let at-if1 = c .before .before .before .before in
+    let h = at-if1 .before in
+    (c .before .before .if2 .taken, omega (arith, c .before .before .before .shorter .ensures), ltb-true _ _ (sym (h .has-row .ensures) ∙ at-if1 .if1 .taken))
 
 same-length : tie.Need-same-length
 same-length c = search needs
@@ -34,11 +35,13 @@ same-length-2 c = search needs
 
 returns : tie.Need-returns
 returns c =
-    let a = c .before .before .before .before .before .before .before .before .before .before .before .before .before .before .args in
+    let at-fill-row = c .before .before .before .before in
+    let at-shorter = at-fill-row .before .before .before .before in
+    let a = at-shorter .before .before .before .before .before .before .args in
     let rows = rowsOf (a .pen .frame) (length (a .im .now)) (length (a .zm .now)) in
     let p = picture (a .im .now) (a .zm .now) 0 in
-    c .before .before .before .before .fill-row .ensures
-    ∙ ap (λ (h : ℕ). drawn (a .pen) (spanOffers (a .pen) rows (a .kind) (a .lo) h (a .y) (a .i) (a .z)) p) (c .before .before .before .before .before .before .before .before .shorter .ensures)
+    at-fill-row .fill-row .ensures
+    ∙ ap (λ (h : ℕ). drawn (a .pen) (spanOffers (a .pen) rows (a .kind) (a .lo) h (a .y) (a .i) (a .z)) p) (at-shorter .shorter .ensures)
     ∙ ap (λ (os : List Offer). drawn (a .pen) os p) (sym (span-right (a .pen) rows (a .kind) (a .lo) (a .y) (a .i) (a .z) (a .hi)))
 
 returns-2 : tie.Need-returns-2

@@ -20,9 +20,11 @@ same-length-2 c = search needs
 
 returns : tie.Need-returns
 returns c =
-    let a = c .before .before .before .before .before .before .before .before .before .before .before .before .args in
-    let same = steady-same (a .run .i) (a .run .z) (c .before .before .before .before .before .before .before .if1 .taken) in
-    c .before .before .before .before .draw-run .ensures ∙ ap₂ (λ (i z : Carried). runOver (λ j. a .run .base + j) i z (a .run .count) (picture (a .im .now) (a .zm .now) 0)) (same .0) (same .1)
+    let at-draw-run = c .before .before .before .before in
+    let at-if1 = at-draw-run .before .before .before in
+    let a = at-if1 .before .before .before .before .before .args in
+    let same = steady-same (a .run .i) (a .run .z) (at-if1 .if1 .taken) in
+    at-draw-run .draw-run .ensures ∙ ap₂ (λ (i z : Carried). runOver (λ j. a .run .base + j) i z (a .run .count) (picture (a .im .now) (a .zm .now) 0)) (same .0) (same .1)
 
 draw-run-requires-2 : tie.Need-draw-run-requires-2
 draw-run-requires-2 c κs = search needs

@@ -55,14 +55,17 @@ loop-less c = search needs
 
 loop-again : tie.Need-loop-again Inv-loop μ-loop
 loop-again c =
-    let k = c .before .before .before .before .before .before .before .before .before .before .before .before .loop in
-    let a = c .before .before .before .before .before .before .before .before .before .before .before .before .before .before .before .args in
+    let at-whole2 = c .before .before .before .before .before .before .before .before .before in
+    let at-whole = at-whole2 .before in
+    let in-loop = at-whole .before in
+    let k = in-loop .before .loop in
+    let a = in-loop .before .before .before .before .args in
     let d = c .before .before .before .before .before .before .put-nearer .ensures in (
-      omega (arith, c .before .before .before .before .before .before .before .before .before .before .before .loop-test .taken),
+      omega (arith, in-loop .loop-test .taken),
       omega (arith, k .inv .1, d .1),
       carried-next (a .i .first) (a .i .add) (k .j) _ (k .ki) (k .inv .2) (c .before .wrapping-add-u64 .ensures),
       carried-next (a .z .first) (a .z .add) (k .j) _ (k .kz) (k .inv .3) (c .wrapping-add-u642 .ensures),
-      ran-turn (k .inv .4) refl (c .before .before .before .before .before .before .before .before .before .before .whole .ensures ∙ carried-at (a .i) (k .j) (k .ki) (k .inv .2)) (c .before .before .before .before .before .before .before .before .before .whole2 .ensures ∙ carried-at (a .z) (k .j) (k .kz) (k .inv .3)) (d .0),
+      ran-turn (k .inv .4) refl (at-whole .whole .ensures ∙ carried-at (a .i) (k .j) (k .ki) (k .inv .2)) (at-whole2 .whole2 .ensures ∙ carried-at (a .z) (k .j) (k .kz) (k .inv .3)) (d .0),
     )
 
 same-length : tie.Need-same-length Inv-loop μ-loop

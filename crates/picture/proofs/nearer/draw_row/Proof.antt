@@ -17,9 +17,10 @@ place-requires c κs = search needs
 
 draw-tiled-requires : tie.Need-draw-tiled-requires
 draw-tiled-requires c κs =
-    let s = c .before .before .before .before .before .before .before in
+    let at-lies-tiled = c .before .before .before .before in
+    let s = at-lies-tiled .before .before .before in
     let a = s .args in
-    let lies = sym (c .before .before .before .before .lies-tiled .ensures) ∙ c .before .before .before .if1 .taken in
+    let lies = sym (at-lies-tiled .lies-tiled .ensures) ∙ c .before .before .before .if1 .taken in
     let base = c .before .before .place .ensures in
     let t = tiled-fits (a .frame) (a .lo) (a .hi) (a .y) (a .i) (a .z) (s .pre .0) (s .pre .1) lies (base .0) (length (a .im .now)) (length (a .zm .now)) (s .pre .2) (omega arith) in
     (s .pre .0, t .0, base .1, t .1, t .2)
@@ -32,11 +33,15 @@ same-length-2 c = search needs
 
 returns : tie.Need-returns
 returns c =
-    let s = c .before .before .before .before .before .before .before .before .before .before .before .before in
+    let at-draw-tiled = c .before .before .before .before in
+    let at-place = at-draw-tiled .before .before .before in
+    let at-if1 = at-place .before in
+    let at-lies-tiled = at-if1 .before in
+    let s = at-lies-tiled .before .before .before in
     let a = s .args in
-    let lies = sym (c .before .before .before .before .before .before .before .before .before .lies-tiled .ensures) ∙ c .before .before .before .before .before .before .before .before .if1 .taken in
-    c .before .before .before .before .draw-tiled .ensures
-    ∙ tiled-run (a .frame) (a .lo) (a .hi) (a .y) (a .i) (a .z) (s .pre .0) (s .pre .1) lies (c .before .before .before .before .before .before .before .place .ensures .0)
+    let lies = sym (at-lies-tiled .lies-tiled .ensures) ∙ at-if1 .if1 .taken in
+    at-draw-tiled .draw-tiled .ensures
+    ∙ tiled-run (a .frame) (a .lo) (a .hi) (a .y) (a .i) (a .z) (s .pre .0) (s .pre .1) lies (at-place .place .ensures .0)
     (rowsOf (a .frame) (length (a .im .now)) (length (a .zm .now))) (s .pre .2) (picture (a .im .now) (a .zm .now) 0)
 
 run-of-requires : tie.Need-run-of-requires
@@ -57,10 +62,12 @@ same-length-4 c = search needs
 
 returns-2 : tie.Need-returns-2
 returns-2 c =
-    let s = c .before .before .before .before .before .before .before .before .before .before .before .before in
+    let at-draw-beside = c .before .before .before .before in
+    let at-run-of = at-draw-beside .before .before .before in
+    let s = at-run-of .before .before .before .before .before in
     let a = s .args in
-    c .before .before .before .before .draw-beside .ensures
-    ∙ c .before .before .before .before .before .before .before .run-of .ensures .same (rowsOf (a .frame) (length (a .im .now)) (length (a .zm .now))) (s .pre .2) (picture (a .im .now) (a .zm .now) 0)
+    at-draw-beside .draw-beside .ensures
+    ∙ at-run-of .run-of .ensures .same (rowsOf (a .frame) (length (a .im .now)) (length (a .zm .now))) (s .pre .2) (picture (a .im .now) (a .zm .now) 0)
 
 pub draw-row-spec : {M : Type 1} → statement M
 draw-row-spec =

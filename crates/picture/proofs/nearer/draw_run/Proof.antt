@@ -26,7 +26,9 @@ cast-put-chosen : tie.Need-cast-put-chosen Inv-loop μ-loop
 cast-put-chosen c = search needs
 
 add-put-chosen : tie.Need-add-put-chosen Inv-loop μ-loop
-add-put-chosen c = omega (arith, c .before .before .before .before .before .before .pre .low, c .before .if1 .taken)
+add-put-chosen c =
+    let start = c .before .before .before .before .before .before in
+    omega (arith, start .pre .low, c .before .if1 .taken)
 
 put-chosen-requires : tie.Need-put-chosen-requires Inv-loop μ-loop
 put-chosen-requires c κs =
@@ -49,10 +51,11 @@ loop-less c = search needs
 
 loop-again : tie.Need-loop-again Inv-loop μ-loop
 loop-again c =
-    let k = c .before .before .before .before .before .before .before .before .before .before .before .before .loop in
-    let run = c .before .before .before .before .before .before .before .before .before .before .before .before .before .before .before .args .run in
+    let at-if1 = c .before .before .before .before .before .before .before .before .before .before in
+    let k = at-if1 .before .before .loop in
+    let run = at-if1 .before .before .before .before .before .args .run in
     let d = c .before .before .before .before .before .before .put-chosen .ensures in (
-      omega (arith, c .before .before .before .before .before .before .before .before .before .before .if1 .taken),
+      omega (arith, at-if1 .if1 .taken),
       omega (arith, k .inv .1, d .1),
       carried-next (run .i .first) (run .i .add) (k .j) _ (k .ki) (k .inv .2) (c .before .wrapping-add-u64 .ensures),
       carried-next (run .z .first) (run .z .add) (k .j) _ (k .kz) (k .inv .3) (c .wrapping-add-u642 .ensures),
@@ -70,8 +73,9 @@ same-length-2 c = ran-z (c .before .before .loop .inv .4)
 
 returns : tie.Need-returns Inv-loop μ-loop
 returns c =
+    let start = c .before .before .before .before .before in
     let k = c .before .before .loop in
-    let e : k .j ≡ c .before .before .before .before .before .args .run .count = omega (arith, k .inv .0, c .if1 .left) in
+    let e : k .j ≡ start .args .run .count = omega (arith, k .inv .0, c .if1 .left) in
     rw e at (k .inv .4 .so)
 
 pub draw-run-spec : {M : Type 1} → statement M

@@ -30,10 +30,11 @@ four-times-requires-2 c κs = search needs
 
 loop-holds : tie.Need-loop-holds Inv-loop μ-loop
 loop-holds c =
-    let a = c .before .before .before .before .args in
+    let start = c .before .before .before .before in
+    let a = start .args in
     let none : a .lo - a .lo ≡ 0 = omega arith in (
       omega arith,
-      omega (arith, c .before .before .before .before .pre .0),
+      omega (arith, start .pre .0),
       omega arith,
       c .before .four-times .ensures,
       c .four-times2 .ensures,
@@ -80,9 +81,10 @@ loop-less c = search needs
 
 loop-again : tie.Need-loop-again Inv-loop μ-loop
 loop-again c =
-    let a = c .before .before .before .before .before .before .before .before .before .before .before .before .before .before .before .before .before .args in
-    let k = c .before .before .before .before .before .before .before .before .before .before .before .before .loop in
-    let test = both (eqb (k .x % 4) 0) (leb (k .x + 4) (a .hi)) (c .before .before .before .before .before .before .before .before .before .before .if1 .taken) in
+    let at-if1 = c .before .before .before .before .before .before .before .before .before .before in
+    let a = at-if1 .before .before .before .before .before .before .before .args in
+    let k = at-if1 .before .before .loop in
+    let test = both (eqb (k .x % 4) 0) (leb (k .x + 4) (a .hi)) (at-if1 .if1 .taken) in
     let even = eqb-true (k .x % 4) 0 (test .0) in
     let room = leb-true (k .x + 4) (a .hi) (test .1) in
     let along = c .before .before .before .before .before .before .before .before .before .along-tiles in
@@ -138,21 +140,24 @@ loop-less-2 c = search needs
 
 loop-again-2 : tie.Need-loop-again-2 Inv-loop μ-loop
 loop-again-2 c =
-    let a = c .before .before .before .before .before .before .before .before .before .before .before .before .before .before .before .before .before .before .before .args in
-    let k = c .before .before .before .before .before .before .before .before .before .before .before .before .before .before .loop in
-    let along = c .before .before .before .before .before .before .before .before .before .before .before .along-tiles2 in
+    let at-whole2 = c .before .before .before .before .before .before .before .before .before in
+    let at-whole = at-whole2 .before in
+    let in-loop = at-whole .before .before .before in
+    let a = in-loop .before .before .before .before .before .before .args in
+    let k = in-loop .before .loop in
+    let along = at-whole .before .along-tiles2 in
     let d = c .before .before .before .before .before .before .put-nearer .ensures in
     let on : k .x + 1 - a .lo ≡ k .x - a .lo + 1 = omega (arith, k .inv .0) in (
       omega (arith, k .inv .0),
-      omega (arith, c .before .before .before .before .before .before .before .before .before .before .before .before .before .loop-test .taken),
+      omega (arith, in-loop .loop-test .taken),
       omega (arith, k .inv .0, k .inv .2, d .1),
       k .inv .3,
       k .inv .4,
       rw on (carried-next (a .i .first) (a .i .add) (k .x - a .lo) _ (k .ki) (k .inv .5) (c .before .wrapping-add-u643 .ensures)),
       rw on (carried-next (a .z .first) (a .z .add) (k .x - a .lo) _ (k .kz) (k .inv .6) (c .wrapping-add-u644 .ensures)),
       rw on
-          (ran-turn (k .inv .7) {at = a .base + along .result} (omega (arith, along .ensures .0, k .inv .0)) (c .before .before .before .before .before .before .before .before .before .before .whole .ensures ∙ carried-at (a .i) (k .x - a .lo) (k .ki) (k .inv .5))
-          (c .before .before .before .before .before .before .before .before .before .whole2 .ensures ∙ carried-at (a .z) (k .x - a .lo) (k .kz) (k .inv .6)) (d .0)),
+          (ran-turn (k .inv .7) {at = a .base + along .result} (omega (arith, along .ensures .0, k .inv .0)) (at-whole .whole .ensures ∙ carried-at (a .i) (k .x - a .lo) (k .ki) (k .inv .5))
+          (at-whole2 .whole2 .ensures ∙ carried-at (a .z) (k .x - a .lo) (k .kz) (k .inv .6)) (d .0)),
     )
 
 same-length : tie.Need-same-length Inv-loop μ-loop
@@ -163,8 +168,9 @@ same-length-2 c = ran-z (c .before .loop .inv .7)
 
 returns : tie.Need-returns Inv-loop μ-loop
 returns c =
+    let start = c .before .before .before .before .before .before in
     let k = c .before .loop in
-    let e : k .x ≡ c .before .before .before .before .before .before .args .hi = omega (arith, k .inv .1, c .loop-test .left) in
+    let e : k .x ≡ start .args .hi = omega (arith, k .inv .1, c .loop-test .left) in
     rw e at (k .inv .7 .so)
 
 pub draw-tiled-spec : {M : Type 1} → statement M

@@ -13,7 +13,11 @@ is-edge-requires : tie.Need-is-edge-requires
 is-edge-requires c κs = search needs
 
 returns : tie.Need-returns
-returns c = rw (c .before .before .before .before .before .before .before .is-masked .ensures, c .before .before .before .before .before .is-deep .ensures, c .before .before .before .before .is-edge .ensures)
+returns c =
+    let at-is-edge = c .before .before .before .before in
+    let at-is-deep = at-is-edge .before in
+    let at-is-masked = at-is-deep .before .before in
+    rw (at-is-masked .is-masked .ensures, at-is-deep .is-deep .ensures, at-is-edge .is-edge .ensures)
 
 pub is-plain-spec : {M : Type 1} → statement M
 is-plain-spec = tie.close (tie.spec is-masked-requires is-deep-requires is-edge-requires returns)

@@ -24,7 +24,9 @@ shorter-requires c κs = search needs
 
 draw-row-requires : tie.Need-draw-row-requires
 draw-row-requires c κs =
-    (c .before .before .if2 .taken, omega (arith, c .before .before .before .shorter .ensures), ltb-true _ _ (sym (c .before .before .before .before .before .has-row .ensures) ∙ c .before .before .before .before .if1 .taken))
+    let at-if1 = c .before .before .before .before in
+    let at-has-row = at-if1 .before in
+    (c .before .before .if2 .taken, omega (arith, c .before .before .before .shorter .ensures), ltb-true _ _ (sym (at-has-row .has-row .ensures) ∙ at-if1 .if1 .taken))
 
 same-length : tie.Need-same-length
 same-length c = search needs
@@ -34,12 +36,14 @@ same-length-2 c = search needs
 
 returns : tie.Need-returns
 returns c =
-    let a = c .before .before .before .before .before .before .before .before .before .before .before .before .before .args in
+    let at-draw-row = c .before .before .before .before in
+    let at-shorter = at-draw-row .before .before .before .before in
+    let a = at-shorter .before .before .before .before .before .args in
     let pen = nearerPen (a .frame) in
     let rows = rowsOf (a .frame) (length (a .im .now)) (length (a .zm .now)) in
     let p = picture (a .im .now) (a .zm .now) 0 in
-    c .before .before .before .before .draw-row .ensures
-    ∙ ap (λ (h : ℕ). drawn pen (spanOffers pen rows Gouraud (a .lo) h (a .y) (a .i) (a .z)) p) (c .before .before .before .before .before .before .before .before .shorter .ensures)
+    at-draw-row .draw-row .ensures
+    ∙ ap (λ (h : ℕ). drawn pen (spanOffers pen rows Gouraud (a .lo) h (a .y) (a .i) (a .z)) p) (at-shorter .shorter .ensures)
     ∙ ap (λ (os : List Offer). drawn pen os p) (sym (span-right pen rows Gouraud (a .lo) (a .y) (a .i) (a .z) (a .hi)))
 
 returns-2 : tie.Need-returns-2

@@ -25,10 +25,11 @@ is-won-requires c κs = search needs
 
 returns : tie.Need-returns
 returns c =
-    let a = c .before .before .before .before .before .before .before .args in
+    let at-is-deep = c .before .before .before .before .before in
+    let a = at-is-deep .before .before .args in
     c .is-won .ensures
     ∙ ap (wins (a .kind)) (c .before .compare .ensures)
-    ∙ sym (passes-tested (a .pen) (a .kind) (a .z) (getD (a .zm .now) (a .at) 0) (ap (λ (d : Bool). a .pen .depth && d) (sym (c .before .before .before .before .before .is-deep .ensures)) ∙ c .before .before .before .if1 .taken))
+    ∙ sym (passes-tested (a .pen) (a .kind) (a .z) (getD (a .zm .now) (a .at) 0) (ap (λ (d : Bool). a .pen .depth && d) (sym (at-is-deep .is-deep .ensures)) ∙ c .before .before .before .if1 .taken))
 
 returns-2 : tie.Need-returns-2
 returns-2 c = let a = c .before .before .before .before .args in sym (passes-free (a .pen) (a .kind) (a .z) (getD (a .zm .now) (a .at) 0) (ap (λ (d : Bool). a .pen .depth && d) (sym (c .before .before .is-deep .ensures)) ∙ c .if1 .left))

@@ -30,11 +30,14 @@ same-length-2 c = search needs
 
 returns : tie.Need-returns
 returns c =
-    let s = c .before .before .before .before .before .before .before .before .before .before .before .before .before in
+    let at-store-i = c .before .before .before .before .before .before in
+    let at-if1 = at-store-i .before .before in
+    let at-is-passed = at-if1 .before in
+    let s = at-is-passed .before .before .before .before in
     let a = s .args in
     let p = picture (a .im .now) (a .zm .now) (a .n) in (
-      ap₂ (λ (i z : List ℕ). picture i z (a .n + 1)) (c .before .before .before .before .before .before .store-i .ensures) (c .before .before .store-z .ensures)
-          ∙ sym (step-pass (a .pen) (a .kind) (a .at) (a .i) (a .z) p (sym (c .before .before .before .before .before .before .before .before .before .is-passed .ensures) ∙ c .before .before .before .before .before .before .before .before .if1 .taken)),
+      ap₂ (λ (i z : List ℕ). picture i z (a .n + 1)) (at-store-i .store-i .ensures) (c .before .before .store-z .ensures)
+          ∙ sym (step-pass (a .pen) (a .kind) (a .at) (a .i) (a .z) p (sym (at-is-passed .is-passed .ensures) ∙ at-if1 .if1 .taken)),
       le-refl _,
     )
 

@@ -21,7 +21,9 @@ lies-tiled-requires c κs = search needs
 
 returns-2 : tie.Need-returns-2
 unfolding mine
-returns-2 c = rw (lies-tiled (c .before .before .before .before .args .frame) (sym (c .before .lies-tiled .ensures) ∙ c .if2 .taken))
+returns-2 c =
+    let start = c .before .before .before .before in
+    rw (lies-tiled (start .args .frame) (sym (c .before .lies-tiled .ensures) ∙ c .if2 .taken))
 
 ways-of-requires : tie.Need-ways-of-requires
 ways-of-requires c κs = search needs
@@ -30,10 +32,17 @@ rem-result : tie.Need-rem-result
 rem-result c = omega (arith, c .ways-of .ensures .1)
 
 add-result : tie.Need-add-result
-add-result c = let m : c .before .before .before .before .before .args .x % c .ways-of .result < c .ways-of .result = mod-lt (c .before .before .before .before .before .args .x) (omega (arith, c .ways-of .ensures .1)) in omega (arith, m, c .ways-of .ensures .2)
+add-result c =
+    let start = c .before .before .before .before .before in
+    let m : start .args .x % c .ways-of .result < c .ways-of .result = mod-lt (start .args .x) (omega (arith, c .ways-of .ensures .1)) in
+    omega (arith, m, c .ways-of .ensures .2)
 
 returns-3 : tie.Need-returns-3
-returns-3 c = mine-shared (c .before .before .before .before .before .before .args .frame) (c .before .before .before .before .before .before .args .x) _ (sym (c .before .before .before .before .before .lies-plain .ensures) ∙ c .before .before .before .before .if1 .left) (sym (c .before .before .before .lies-tiled .ensures) ∙ c .before .before .if2 .left) (c .before .ways-of .ensures .0)
+returns-3 c =
+    let at-if1 = c .before .before .before .before in
+    let at-lies-plain = at-if1 .before in
+    let start = at-lies-plain .before in
+    mine-shared (start .args .frame) (start .args .x) _ (sym (at-lies-plain .lies-plain .ensures) ∙ at-if1 .if1 .left) (sym (c .before .before .before .lies-tiled .ensures) ∙ c .before .before .if2 .left) (c .before .ways-of .ensures .0)
 
 pub is-mine-spec : {M : Type 1} → statement M
 is-mine-spec =

@@ -20,7 +20,9 @@ lies-tiled-requires c κs = search needs
 
 returns-2 : tie.Need-returns-2
 unfolding isWhole
-returns-2 c = rw (lies-tiled (c .before .before .before .before .before .before .args .frame) (sym (c .before .before .before .lies-tiled .ensures) ∙ c .before .before .if2 .taken))
+returns-2 c =
+    let start = c .before .before .before .before .before .before in
+    rw (lies-tiled (start .args .frame) (sym (c .before .before .before .lies-tiled .ensures) ∙ c .before .before .if2 .taken))
 
 ways-of-requires : tie.Need-ways-of-requires
 ways-of-requires c κs = search needs
@@ -31,7 +33,11 @@ rem-result c = omega (arith, c .before .before .ways-of .ensures .1)
 returns-3 : tie.Need-returns-3
 unfolding isWhole
 returns-3 c =
-    rw (lies-shared (c .before .before .before .before .before .before .before .args .frame) (sym (c .before .before .before .before .before .before .lies-plain .ensures) ∙ c .before .before .before .before .before .if1 .left) (sym (c .before .before .before .before .lies-tiled .ensures) ∙ c .before .before .before .if2 .left), ← c .before .before .ways-of .ensures .0)
+    let at-lies-tiled = c .before .before .before .before in
+    let at-if1 = at-lies-tiled .before in
+    let at-lies-plain = at-if1 .before in
+    let start = at-lies-plain .before in
+    rw (lies-shared (start .args .frame) (sym (at-lies-plain .lies-plain .ensures) ∙ at-if1 .if1 .left) (sym (at-lies-tiled .lies-tiled .ensures) ∙ c .before .before .before .if2 .left), ← c .before .before .ways-of .ensures .0)
 
 pub is-whole-spec : {M : Type 1} → statement M
 is-whole-spec =

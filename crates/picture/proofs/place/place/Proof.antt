@@ -81,11 +81,13 @@ add-result-2 c =
 
 returns-3 : tie.Need-returns-3
 returns-3 c =
-    let a = c .before .before .before .before .before .before .args in
+    let at-if1 = c .before .before .before .before in
+    let at-lies-plain = at-if1 .before in
+    let a = at-lies-plain .before .args in
     let w = c .before .ways-of .ensures in
     let d = div-le-self (a .frame .line) (c .before .ways-of .result) in
     let e = div-le-self (a .x) (c .before .ways-of .result) in (
-      ap (λ (v : ℕ). a .y * (a .frame .line / v) + a .x / v) (w .0) ∙ sym (place-shared (a .frame) (a .x) (a .y) (sym (c .before .before .before .before .before .lies-plain .ensures) ∙ c .before .before .before .before .if1 .left) (sym (c .before .before .before .lies-tiled .ensures) ∙ c .before .before .if2 .left)),
+      ap (λ (v : ℕ). a .y * (a .frame .line / v) + a .x / v) (w .0) ∙ sym (place-shared (a .frame) (a .x) (a .y) (sym (at-lies-plain .lies-plain .ensures) ∙ at-if1 .if1 .left) (sym (c .before .before .before .lies-tiled .ensures) ∙ c .before .before .if2 .left)),
       omega (arith, e, part-fits (a .y) (a .frame .line) (c .before .ways-of .result) (omega arith) (omega (arith, d))),
     )
 

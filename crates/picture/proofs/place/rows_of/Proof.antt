@@ -23,10 +23,11 @@ least-requires-2 c κs = search needs
 
 returns : tie.Need-returns
 returns c =
-    let a = c .before .before .before .before .before .args in
+    let at-is-whole = c .before .before .before .before in
+    let a = at-is-whole .before .args in
     c .least2 .ensures
     ∙ ap (λ (m : ℕ). min m mostRows) (c .before .rows-in .ensures ∙ ap (rowsIn (layoutOf (a .frame)) (a .frame .line)) (c .before .before .least .ensures))
-    ∙ sym (rows-some (a .frame) (a .ni) (a .nz) (sym (c .before .before .before .before .is-whole .ensures) ∙ c .before .before .before .if1 .taken))
+    ∙ sym (rows-some (a .frame) (a .ni) (a .nz) (sym (at-is-whole .is-whole .ensures) ∙ c .before .before .before .if1 .taken))
 
 returns-2 : tie.Need-returns-2
 returns-2 c = let a = c .before .before .args in sym (rows-none (a .frame) (a .ni) (a .nz) (sym (c .before .is-whole .ensures) ∙ c .if1 .left))

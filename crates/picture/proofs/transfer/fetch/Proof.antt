@@ -20,8 +20,9 @@ mul-result c = search needs
 
 shared-slice-read-result : tie.Need-shared-slice-read-result
 shared-slice-read-result c =
-    let s = c .before .before .before .before .before .before .before .args in
-    let below = place-below (s .frame) (length (s .im .now)) (length (s .zm .now)) (s .x) (s .y) (sym (c .before .before .before .before .is-inside .ensures) ∙ c .before .before .before .if1 .taken) in
+    let at-is-inside = c .before .before .before .before in
+    let s = at-is-inside .before .before .before .args in
+    let below = place-below (s .frame) (length (s .im .now)) (length (s .zm .now)) (s .x) (s .y) (sym (at-is-inside .is-inside .ensures) ∙ c .before .before .before .if1 .taken) in
     omega (arith, c .before .before .place .ensures .0, below .1)
 
 mul-result-2 : tie.Need-mul-result-2
@@ -29,15 +30,22 @@ mul-result-2 c = search needs
 
 shared-slice-read-result-2 : tie.Need-shared-slice-read-result-2
 shared-slice-read-result-2 c =
-    let s = c .before .before .before .before .before .before .before .args in
-    let below = place-below (s .frame) (length (s .im .now)) (length (s .zm .now)) (s .x) (s .y) (sym (c .before .before .before .before .is-inside .ensures) ∙ c .before .before .before .if1 .taken) in
+    let at-is-inside = c .before .before .before .before in
+    let s = at-is-inside .before .before .before .args in
+    let below = place-below (s .frame) (length (s .im .now)) (length (s .zm .now)) (s .x) (s .y) (sym (at-is-inside .is-inside .ensures) ∙ c .before .before .before .if1 .taken) in
     omega (arith, c .before .before .place .ensures .0, below .0)
 
 returns : tie.Need-returns
-returns c = let s = c .before .before .before .before .before .before .before .args in read-deep (s .frame) (now (s .im)) (now (s .zm)) (s .x) (s .y) (c .before .before .place .ensures .0) (sym (c .before .before .before .before .is-inside .ensures) ∙ c .before .before .before .if1 .taken) (c .before .if2 .taken)
+returns c =
+    let at-is-inside = c .before .before .before .before in
+    let s = at-is-inside .before .before .before .args in
+    read-deep (s .frame) (now (s .im)) (now (s .zm)) (s .x) (s .y) (c .before .before .place .ensures .0) (sym (at-is-inside .is-inside .ensures) ∙ c .before .before .before .if1 .taken) (c .before .if2 .taken)
 
 returns-2 : tie.Need-returns-2
-returns-2 c = let s = c .before .before .before .before .before .before .before .args in read-intensity (s .frame) (now (s .im)) (now (s .zm)) (s .x) (s .y) (c .before .before .place .ensures .0) (sym (c .before .before .before .before .is-inside .ensures) ∙ c .before .before .before .if1 .taken) (c .before .if2 .left)
+returns-2 c =
+    let at-is-inside = c .before .before .before .before in
+    let s = at-is-inside .before .before .before .args in
+    read-intensity (s .frame) (now (s .im)) (now (s .zm)) (s .x) (s .y) (c .before .before .place .ensures .0) (sym (at-is-inside .is-inside .ensures) ∙ c .before .before .before .if1 .taken) (c .before .if2 .left)
 
 returns-3 : tie.Need-returns-3
 returns-3 c = let s = c .before .before .before .before .args in read-outside (s .frame) (now (s .im)) (now (s .zm)) (s .x) (s .y) (s .deep) (sym (c .before .is-inside .ensures) ∙ c .if1 .left)

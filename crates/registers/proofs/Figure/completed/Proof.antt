@@ -22,31 +22,45 @@ enum-told-4 c = search needs
 
 returns : tie.Need-returns
 unfolding completes
-returns c = rw (← c .before .before .before .before .shape-of .ensures, c .enum-told .given .1)
+returns c =
+    let at-shape-of = c .before .before .before .before in
+    rw (← at-shape-of .shape-of .ensures, c .enum-told .given .1)
 
 returns-2 : tie.Need-returns-2
 unfolding completes
-returns-2 c = rw (← c .before .before .before .before .before .before .shape-of .ensures, c .before .before .enum-told2 .given .1, eq-eqb _ _ (c .if1 .taken))
+returns-2 c =
+    let at-shape-of = c .before .before .before .before .before .before in
+    rw (← at-shape-of .shape-of .ensures, c .before .before .enum-told2 .given .1, eq-eqb _ _ (c .if1 .taken))
 
 returns-3 : tie.Need-returns-3
 unfolding completes
-returns-3 c = rw (← c .before .before .before .before .before .before .shape-of .ensures, c .before .before .enum-told2 .given .1, ne-eqb _ _ (c .if1 .left))
+returns-3 c =
+    let at-shape-of = c .before .before .before .before .before .before in
+    rw (← at-shape-of .shape-of .ensures, c .before .before .enum-told2 .given .1, ne-eqb _ _ (c .if1 .left))
 
 returns-4 : tie.Need-returns-4
 unfolding completes
-returns-4 c = rw (← c .before .before .before .before .before .before .shape-of .ensures, c .before .before .enum-told3 .given .1, eq-eqb _ _ (c .if2 .taken))
+returns-4 c =
+    let at-shape-of = c .before .before .before .before .before .before in
+    rw (← at-shape-of .shape-of .ensures, c .before .before .enum-told3 .given .1, eq-eqb _ _ (c .if2 .taken))
 
 returns-5 : tie.Need-returns-5
 unfolding completes
-returns-5 c = rw (← c .before .before .before .before .before .before .shape-of .ensures, c .before .before .enum-told3 .given .1, ne-eqb _ _ (c .if2 .left))
+returns-5 c =
+    let at-shape-of = c .before .before .before .before .before .before in
+    rw (← at-shape-of .shape-of .ensures, c .before .before .enum-told3 .given .1, ne-eqb _ _ (c .if2 .left))
 
 returns-6 : tie.Need-returns-6
 unfolding completes
-returns-6 c = rw (← c .before .before .before .before .before .shape-of .ensures, c .before .enum-told4 .given .1, c .if3 .taken)
+returns-6 c =
+    let at-shape-of = c .before .before .before .before .before in
+    rw (← at-shape-of .shape-of .ensures, c .before .enum-told4 .given .1, c .if3 .taken)
 
 returns-7 : tie.Need-returns-7
 unfolding completes
-returns-7 c = rw (← c .before .before .before .before .before .shape-of .ensures, c .before .enum-told4 .given .1, c .if3 .left)
+returns-7 c =
+    let at-shape-of = c .before .before .before .before .before in
+    rw (← at-shape-of .shape-of .ensures, c .before .enum-told4 .given .1, c .if3 .left)
 
 pub completed-spec : {M : Type 1} → statement M
 completed-spec =

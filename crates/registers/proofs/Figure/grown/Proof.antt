@@ -37,27 +37,39 @@ advanced-requires c κs = search needs
 
 returns : tie.Need-returns
 unfolding grownOf
-returns c = rw (← c .before .before .before .before .shape-of .ensures, c .enum-told .given .1)
+returns c =
+    let at-shape-of = c .before .before .before .before in
+    rw (← at-shape-of .shape-of .ensures, c .enum-told .given .1)
 
 returns-2 : tie.Need-returns-2
 unfolding grownOf
-returns-2 c = rw (← c .before .before .before .before .before .before .before .shape-of .ensures, c .before .before .before .enum-told2 .given .1, eq-eqb _ _ (c .before .if1 .taken)) (c .pair .ensures)
+returns-2 c =
+    let at-shape-of = c .before .before .before .before .before .before .before in
+    rw (← at-shape-of .shape-of .ensures, c .before .before .before .enum-told2 .given .1, eq-eqb _ _ (c .before .if1 .taken)) (c .pair .ensures)
 
 returns-3 : tie.Need-returns-3
 unfolding grownOf
-returns-3 c = rw (← c .before .before .before .before .before .before .before .shape-of .ensures, c .before .before .before .enum-told2 .given .1, ne-eqb _ _ (c .before .if1 .left)) (c .pair2 .ensures)
+returns-3 c =
+    let at-shape-of = c .before .before .before .before .before .before .before in
+    rw (← at-shape-of .shape-of .ensures, c .before .before .before .enum-told2 .given .1, ne-eqb _ _ (c .before .if1 .left)) (c .pair2 .ensures)
 
 returns-4 : tie.Need-returns-4
 unfolding grownOf
-returns-4 c = rw (← c .before .before .before .before .before .shape-of .ensures, c .before .enum-told3 .given .1) (c .pair3 .ensures)
+returns-4 c =
+    let at-shape-of = c .before .before .before .before .before in
+    rw (← at-shape-of .shape-of .ensures, c .before .enum-told3 .given .1) (c .pair3 .ensures)
 
 returns-5 : tie.Need-returns-5
 unfolding grownOf
-returns-5 c = rw (← c .before .before .before .before .before .before .shape-of .ensures, c .before .before .enum-told4 .given .1, c .before .if2 .taken) (c .none .ensures)
+returns-5 c =
+    let at-shape-of = c .before .before .before .before .before .before in
+    rw (← at-shape-of .shape-of .ensures, c .before .before .enum-told4 .given .1, c .before .if2 .taken) (c .none .ensures)
 
 returns-6 : tie.Need-returns-6
 unfolding grownOf
-returns-6 c = rw (← c .before .before .before .before .before .before .shape-of .ensures, c .before .before .enum-told4 .given .1, c .before .if2 .left) (c .advanced .ensures)
+returns-6 c =
+    let at-shape-of = c .before .before .before .before .before .before in
+    rw (← at-shape-of .shape-of .ensures, c .before .before .enum-told4 .given .1, c .before .if2 .left) (c .advanced .ensures)
 
 pub grown-spec : {M : Type 1} → statement M
 grown-spec =

@@ -10,7 +10,9 @@ grown-requires : tie.Need-grown-requires
 grown-requires c κs = search needs
 
 returns : tie.Need-returns
-returns c = rw (c .grown .ensures, c .before .before .before .before .before .vertex .ensures)
+returns c =
+    let at-vertex = c .before .before .before .before .before in
+    rw (c .grown .ensures, at-vertex .vertex .ensures)
 
 pub growing-spec : {M : Type 1} → statement M
 growing-spec = tie.close (tie.spec vertex-requires grown-requires returns)

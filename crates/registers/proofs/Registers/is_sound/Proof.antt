@@ -24,7 +24,11 @@ region-fits-requires c κs = search needs
 
 returns : tie.Need-returns
 unfolding inBounds
-returns c = rw (c .region-fits .ensures, c .before .parked-fits .ensures, c .before .before .figure-fits .ensures, c .before .before .before .before .window-fits .ensures, c .before .before .before .before .before .modes-fit .ensures, c .before .before .before .before .before .before .frame-fits .ensures)
+returns c =
+    let at-window-fits = c .before .before .before .before in
+    let at-modes-fit = at-window-fits .before in
+    let at-frame-fits = at-modes-fit .before in
+    rw (c .region-fits .ensures, c .before .parked-fits .ensures, c .before .before .figure-fits .ensures, at-window-fits .window-fits .ensures, at-modes-fit .modes-fit .ensures, at-frame-fits .frame-fits .ensures)
 
 pub is-sound-spec : {M : Type 1} → statement M
 is-sound-spec =

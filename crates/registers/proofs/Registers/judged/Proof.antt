@@ -73,19 +73,32 @@ returns : tie.Need-returns
 returns c = rw (c .before .before .before .word .given .1, ← c .before .is-init-allowed .ensures) (c .init-number .ensures)
 
 returns-2 : tie.Need-returns-2
-returns-2 c = rw (c .before .before .word2 .given .1, ← c .before .before .before .before .before .is-awaiting .ensures) (c .aux-number .ensures)
+returns-2 c =
+    let at-is-awaiting = c .before .before .before .before .before in
+    rw (c .before .before .word2 .given .1, ← at-is-awaiting .is-awaiting .ensures) (c .aux-number .ensures)
 
 returns-3 : tie.Need-returns-3
-returns-3 c = rw (c .before .before .before .before .word3 .given .1, ← c .before .before .before .before .before .before .before .is-awaiting .ensures, ← c .before .before .subcommand-of .ensures, ← c .before .is-parameter-allowed .ensures) (c .parm-number .ensures)
+returns-3 c =
+    let at-word3 = c .before .before .before .before in
+    let at-is-awaiting = at-word3 .before .before .before in
+    rw (at-word3 .word3 .given .1, ← at-is-awaiting .is-awaiting .ensures, ← c .before .before .subcommand-of .ensures, ← c .before .is-parameter-allowed .ensures) (c .parm-number .ensures)
 
 returns-4 : tie.Need-returns-4
-returns-4 c = rw (c .before .before .before .before .word4 .given .1, ← c .before .before .before .before .before .before .before .is-awaiting .ensures, ← c .before .before .before .before .before .before .shape-of .ensures, ← c .before .before .is-coordinate-allowed .ensures, ← c .before .coordinate-fits .ensures) (c .coordinate-number .ensures)
+returns-4 c =
+    let at-word4 = c .before .before .before .before in
+    let at-shape-of = at-word4 .before .before in
+    let at-is-awaiting = at-shape-of .before in
+    rw (at-word4 .word4 .given .1, ← at-is-awaiting .is-awaiting .ensures, ← at-shape-of .shape-of .ensures, ← c .before .before .is-coordinate-allowed .ensures, ← c .before .coordinate-fits .ensures) (c .coordinate-number .ensures)
 
 returns-5 : tie.Need-returns-5
-returns-5 c = rw (c .before .before .word5 .given .1, ← c .before .before .before .before .before .is-awaiting .ensures) (c .coordinate-number2 .ensures)
+returns-5 c =
+    let at-is-awaiting = c .before .before .before .before .before in
+    rw (c .before .before .word5 .given .1, ← at-is-awaiting .is-awaiting .ensures) (c .coordinate-number2 .ensures)
 
 returns-6 : tie.Need-returns-6
-returns-6 c = rw (c .before .enum-told .given .1, ← c .before .before .before .before .is-awaiting .ensures) (c .transfer-number .ensures)
+returns-6 c =
+    let at-is-awaiting = c .before .before .before .before in
+    rw (c .before .enum-told .given .1, ← at-is-awaiting .is-awaiting .ensures) (c .transfer-number .ensures)
 
 returns-7 : tie.Need-returns-7
 returns-7 c = rw (c .before .enum-told2 .given .1, c .if1 .taken)

@@ -35,7 +35,11 @@ returns : tie.Need-returns
 returns c = parm-more _ _ _ (c .before .before .before .joined .ensures) (rw (c .before .wanted .ensures, c .before .before .subcommand-of .ensures) at (c .if1 .taken))
 
 returns-2 : tie.Need-returns-2
-returns-2 c = parm-last _ _ _ _ _ (c .before .before .before .before .before .before .joined .ensures) (rw (c .before .before .before .before .wanted .ensures, c .before .before .before .before .before .subcommand-of .ensures) at (c .before .before .before .if1 .left)) (rw (c .before .before .before .before .before .subcommand-of .ensures) at (c .before .effect .ensures)) (c .awaited .ensures)
+returns-2 c =
+    let at-wanted = c .before .before .before .before in
+    let at-subcommand-of = at-wanted .before in
+    let at-joined = at-subcommand-of .before in
+    parm-last _ _ _ _ _ (at-joined .joined .ensures) (rw (at-wanted .wanted .ensures, at-subcommand-of .subcommand-of .ensures) at (c .before .before .before .if1 .left)) (rw (at-subcommand-of .subcommand-of .ensures) at (c .before .effect .ensures)) (c .awaited .ensures)
 
 pub parm-spec : {M : Type 1} → statement M
 parm-spec =

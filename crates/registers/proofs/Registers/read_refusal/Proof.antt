@@ -19,7 +19,9 @@ transfer-number-requires c κs = search needs
 
 returns-2 : tie.Need-returns-2
 unfolding readRefusalOf
-returns-2 c = rw (← c .before .before .before .before .is-sound .ensures, c .before .before .before .if1 .left, ← c .before .is-awaiting .ensures) (c .transfer-number .ensures)
+returns-2 c =
+    let at-is-sound = c .before .before .before .before in
+    rw (← at-is-sound .is-sound .ensures, c .before .before .before .if1 .left, ← c .before .is-awaiting .ensures) (c .transfer-number .ensures)
 
 pub read-refusal-spec : {M : Type 1} → statement M
 read-refusal-spec =

@@ -18,7 +18,9 @@ same-length c = search needs
 
 returns : tie.Need-returns
 unfolding named
-returns c = put-append (c .before .before .before .before .before .before .put-bytes .ensures) (c .before .before .put-field .ensures)
+returns c =
+    let at-put-bytes = c .before .before .before .before .before .before in
+    put-append (at-put-bytes .put-bytes .ensures) (c .before .before .put-field .ensures)
 
 pub put-named-spec : {M : Type 1} → statement M
 put-named-spec = tie.close (tie.spec put-bytes-requires put-field-requires same-length returns)

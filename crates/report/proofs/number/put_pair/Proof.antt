@@ -18,7 +18,9 @@ same-length c = search needs
 
 returns : tie.Need-returns
 unfolding pair
-returns c = put-append (c .before .before .before .before .before .before .put-field .ensures) (c .before .before .put-field2 .ensures)
+returns c =
+    let at-put-field = c .before .before .before .before .before .before in
+    put-append (at-put-field .put-field .ensures) (c .before .before .put-field2 .ensures)
 
 pub put-pair-spec : {M : Type 1} → statement M
 put-pair-spec = tie.close (tie.spec put-field-requires put-field-requires-2 same-length returns)

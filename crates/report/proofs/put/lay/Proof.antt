@@ -22,7 +22,9 @@ same-length c = search needs
 
 returns-2 : tie.Need-returns-2
 returns-2 c =
-    laid-put _ _ _ refl (c .before .before .before .before .before .has-room .ensures) (c .before .before .before .before .if1 .left)
+    let at-if1 = c .before .before .before .before in
+    let at-has-room = at-if1 .before in
+    laid-put _ _ _ refl (at-has-room .has-room .ensures) (at-if1 .if1 .left)
     (c .before .before .put-bytes .ensures)
 
 pub lay-spec : {M : Type 1} → statement M

@@ -51,13 +51,14 @@ loop-less c = search needs
 
 loop-again : tie.Need-loop-again Inv-loop μ-loop
 loop-again c =
+    let at-number-at = c .before .before .before .before in
     let p = c .before .before in
-    let l = c .before .before .before .before .before .before .before in
+    let l = at-number-at .before .before .before in
     let a = l .before .before .before .before .args in (
       omega arith,
       p .put-place .kept .1 .1 .1 .1 .0 ∙ l .loop .inv .1,
       rw (lines-more (a .line) (a .im .now) (a .zm .now) (l .loop .place))
-          (put-append (l .loop .inv .2) (rw (c .before .before .before .before .number-at .ensures) at (p .put-place .ensures))),
+          (put-append (l .loop .inv .2) (rw (at-number-at .number-at .ensures) at (p .put-place .ensures))),
     )
 
 same-length : tie.Need-same-length Inv-loop μ-loop

@@ -30,7 +30,9 @@ shared-slice-read-result-3 c = search needs
 
 returns-2 : tie.Need-returns-2
 unfolding isLevels
-returns-2 c = rw (c .before .before .before .before .before .before .if1 .left)
+returns-2 c =
+    let at-if1 = c .before .before .before .before .before .before in
+    rw (at-if1 .if1 .left)
 
 pub is-levels-spec : {M : Type 1} → statement M
 is-levels-spec =

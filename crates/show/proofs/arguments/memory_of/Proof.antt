@@ -22,13 +22,17 @@ shared-slice-read-if3 c = search needs
 
 returns-3 : tie.Need-returns-3
 unfolding memoryOf
-returns-3 c = rw (c .before .before .before .before .if1 .left, c .if3 .taken)
+returns-3 c =
+    let at-if1 = c .before .before .before .before in
+    rw (at-if1 .if1 .left, c .if3 .taken)
 
 returns-4 : tie.Need-returns-4
 unfolding memoryOf
 returns-4 c =
-    let first = getD (c .before .before .before .before .before .args .arg .now) 0 0 in
-    rw (c .before .before .before .before .if1 .left, ne-eqb first 105 (c .before .before .if2 .left), ne-eqb first 122 (c .if3 .left))
+    let at-if1 = c .before .before .before .before in
+    let start = at-if1 .before in
+    let first = getD (start .args .arg .now) 0 0 in
+    rw (at-if1 .if1 .left, ne-eqb first 105 (c .before .before .if2 .left), ne-eqb first 122 (c .if3 .left))
 
 pub memory-of-spec : {M : Type 1} → statement M
 memory-of-spec =

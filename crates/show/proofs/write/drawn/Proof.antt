@@ -20,9 +20,10 @@ same-length-2 c = search needs
 returns : tie.Need-returns
 unfolding freshRun
 returns c =
-    let s = c .before .before .before .before .before .before .before .before .before .before in
+    let at-run = c .before .before .before .before in
+    let s = at-run .before .before .before .before .before .before in
     let bytes = s .args .bytes .now in
-    c .before .before .before .before .run .ensures ∙ ap (λ (m : Memories). running resetOf bytes m) (s .pre)
+    at-run .run .ensures ∙ ap (λ (m : Memories). running resetOf bytes m) (s .pre)
 
 pub drawn-spec : {M : Type 1} → statement M
 drawn-spec = tie.close (tie.spec run-requires same-length same-length-2 returns)

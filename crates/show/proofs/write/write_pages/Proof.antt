@@ -30,7 +30,9 @@ loop-holds : tie.Need-loop-holds Inv-loop μ-loop
 loop-holds c = tt
 
 page-rows-requires : tie.Need-page-rows-requires Inv-loop μ-loop
-page-rows-requires c κs = c .before .before .before .before .before .before .before .before .pre
+page-rows-requires c κs =
+    let start = c .before .before .before .before .before .before .before .before in
+    start .pre
 
 put-page-requires : tie.Need-put-page-requires Inv-loop μ-loop
 put-page-requires c κs =
@@ -52,8 +54,9 @@ returns-2 c = search needs
 
 sub-below : tie.Need-sub-below Inv-loop μ-loop
 sub-below c =
+    let start = c .before .before .before .before .before .before .before .before .before .before .before .before .before .before in
     let p = c .before .before .before .before .before in
-    rw (p .page-rows .ensures) (page-low (c .before .before .before .before .before .before .before .before .before .before .before .before .before .before .args .line) (p .before .before .loop .below))
+    rw (p .page-rows .ensures) (page-low (start .args .line) (p .before .before .loop .below))
 
 loop-less : tie.Need-loop-less Inv-loop μ-loop
 loop-less c =

@@ -49,13 +49,19 @@ shared-slice-read-result-4 : tie.Need-shared-slice-read-result-4
 shared-slice-read-result-4 c = search needs
 
 cast-result-4 : tie.Need-cast-result-4
-cast-result-4 c = record { fits = omega (arith, c .before .before .before .shared-slice-known .given (c .before .before .before .before .args .i + 3) .fits) }
+cast-result-4 c =
+    let start = c .before .before .before .before in
+    record { fits = omega (arith, c .before .before .before .shared-slice-known .given (start .args .i + 3) .fits) }
 
 mul-result-3 : tie.Need-mul-result-3
-mul-result-3 c = record { fits = omega (arith, c .before .before .before .shared-slice-known .given (c .before .before .before .before .args .i + 3) .fits) }
+mul-result-3 c =
+    let start = c .before .before .before .before in
+    record { fits = omega (arith, c .before .before .before .shared-slice-known .given (start .args .i + 3) .fits) }
 
 add-result-6 : tie.Need-add-result-6
-add-result-6 c = record { fits = omega (arith, c .before .before .before .shared-slice-known .given (c .before .before .before .before .args .i) .fits, c .before .before .before .shared-slice-known .given (c .before .before .before .before .args .i + 1) .fits, c .before .before .before .shared-slice-known .given (c .before .before .before .before .args .i + 2) .fits, c .before .before .before .shared-slice-known .given (c .before .before .before .before .args .i + 3) .fits) }
+add-result-6 c =
+    let start = c .before .before .before .before in
+    record { fits = omega (arith, c .before .before .before .shared-slice-known .given (start .args .i) .fits, c .before .before .before .shared-slice-known .given (start .args .i + 1) .fits, c .before .before .before .shared-slice-known .given (start .args .i + 2) .fits, c .before .before .before .shared-slice-known .given (start .args .i + 3) .fits) }
 
 returns : tie.Need-returns
 returns c =

@@ -25,7 +25,10 @@ shared-slice-read-e : tie.Need-shared-slice-read-e
 shared-slice-read-e c = search needs
 
 cast-e : tie.Need-cast-e
-cast-e c = record { fits = omega (arith, c .before .before .before .before .shared-slice-known .given (c .before .before .before .before .before .args .i + 4) .fits) }
+cast-e c =
+    let at-shared-slice-known = c .before .before .before .before in
+    let start = at-shared-slice-known .before in
+    record { fits = omega (arith, at-shared-slice-known .shared-slice-known .given (start .args .i + 4) .fits) }
 
 mul-out : tie.Need-mul-out
 mul-out c = search needs
@@ -37,7 +40,10 @@ mul-out-2 : tie.Need-mul-out-2
 mul-out-2 c = search needs
 
 add-out : tie.Need-add-out
-add-out c = record { fits = omega (arith, c .before .before .before .before .shared-slice-known .given (c .before .before .before .before .before .args .i + 4) .fits) }
+add-out c =
+    let at-shared-slice-known = c .before .before .before .before in
+    let start = at-shared-slice-known .before in
+    record { fits = omega (arith, at-shared-slice-known .shared-slice-known .given (start .args .i + 4) .fits) }
 
 add-out-2 : tie.Need-add-out-2
 add-out-2 c = search needs
@@ -53,7 +59,8 @@ same-length c = search needs
 
 returns : tie.Need-returns
 returns c =
-    let s = c .before .before .before .before .before in
+    let at-shared-slice-known = c .before .before .before .before in
+    let s = at-shared-slice-known .before in
     let a = s .args in
     let l = a .bytes .now in
     let i = a .i in
@@ -63,7 +70,7 @@ returns c =
     ∙ ap₂ (λ (x y : ℕ). sets (a .out .now) (a .k) (x ∷ y ∷ []))
     (high-four (getD l i 0) (getD l (i + 1) 0) (getD l (i + 2) 0) (getD l (i + 3) 0) _ (q .first) (q .second) (q .third) (q .fourth) e
     ∙ sym (word-high l i (omega (arith, s .pre .0))))
-    (low-four (getD l i 0) (getD l (i + 1) 0) (getD l (i + 2) 0) (getD l (i + 3) 0) (getD l (i + 4) 0) _ (q .fourth) (c .before .before .before .before .shared-slice-known .given (i + 4) .fits) e
+    (low-four (getD l i 0) (getD l (i + 1) 0) (getD l (i + 2) 0) (getD l (i + 3) 0) (getD l (i + 4) 0) _ (q .fourth) (at-shared-slice-known .shared-slice-known .given (i + 4) .fits) e
     ∙ sym (word-low l i (s .pre .0)))
     ∙ ap (sets (a .out .now) (a .k)) (sym (two-words (drop i l) (omega (arith, s .pre .0, length-drop i l))))
 

@@ -39,16 +39,17 @@ same-length c = search needs
 
 returns : tie.Need-returns
 returns c =
-    let s = c .before .before .before .before .before .before .before in
+    let at-turned = c .before .before .before .before .before in
+    let s = at-turned .before .before in
     let a = s .args in
     let l = a .out .now in
     let k = a .k in
     let v = a .v in
     let w = a .w in
     let x = v % 1048576 * 4096 + w / 256 % 4096 in
-    let t = c .before .before .before .before .before .turned .result in
+    let t = at-turned .turned .result in
     let h = c .low-byte .result in
-    let q = turn-bytes x t (omega arith) (c .before .before .before .before .before .turned .ensures) in
+    let q = turn-bytes x t (omega arith) (at-turned .turned .ensures) in
     let p = pair-bytes v w x refl in
     let bytes : t % 256 ∷ t / 256 % 256 ∷ t / 65536 % 256 ∷ t / 16777216 % 256 ∷ h ∷ [] ≡ packOf (v ∷ w ∷ []) =
     rw (q .0 ∙ p .0, q .1 ∙ p .1, q .2 ∙ p .2, q .3 ∙ p .3, c .low-byte .ensures) (sym (pack-two v w [] ∙ rw pack-none)) in

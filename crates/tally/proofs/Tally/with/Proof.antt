@@ -20,8 +20,9 @@ with-requires-5 c κs = search needs
 
 returns : tie.Need-returns
 returns c =
+    let at-with = c .before .before .before .before in
     rw (
-      c .before .before .before .before .with .ensures,
+      at-with .with .ensures,
       c .before .before .before .with2 .ensures,
       c .before .before .with3 .ensures,
       c .before .with4 .ensures,

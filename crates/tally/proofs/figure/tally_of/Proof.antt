@@ -34,11 +34,15 @@ returns c = rw (c .before .enum-told .given .1) (c .none .ensures)
 
 returns-2 : tie.Need-returns-2
 unfolding figureTally
-returns-2 c = rw (c .before .before .figure .given .1, ← c .before .before .before .before .before .triangle-kind .ensures) (c .only .ensures)
+returns-2 c =
+    let at-triangle-kind = c .before .before .before .before .before in
+    rw (c .before .before .figure .given .1, ← at-triangle-kind .triangle-kind .ensures) (c .only .ensures)
 
 returns-3 : tie.Need-returns-3
 unfolding figureTally
-returns-3 c = rw (c .before .before .figure2 .given .1, ← c .before .before .before .before .line-kind .ensures) (c .only2 .ensures)
+returns-3 c =
+    let at-line-kind = c .before .before .before .before in
+    rw (c .before .before .figure2 .given .1, ← at-line-kind .line-kind .ensures) (c .only2 .ensures)
 
 pub tally-of-spec : {M : Type 1} → statement M
 tally-of-spec =

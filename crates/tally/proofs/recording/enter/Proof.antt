@@ -22,7 +22,9 @@ entered-requires-2 : tie.Need-entered-requires-2
 entered-requires-2 c κs = search needs
 
 returns-2 : tie.Need-returns-2
-returns-2 c = entered-none false _ (c .before .before .before .before .none .ensures) (c .entered2 .ensures) (entry-flawed _ (c .before .before .before .if1 .left) (c .before .before .flaw .ensures) (c .before .if2 .taken))
+returns-2 c =
+    let at-none = c .before .before .before .before in
+    entered-none false _ (at-none .none .ensures) (c .entered2 .ensures) (entry-flawed _ (c .before .before .before .if1 .left) (c .before .before .flaw .ensures) (c .before .if2 .taken))
 
 slice-aggregate-words-counted : tie.Need-slice-aggregate-words-counted
 slice-aggregate-words-counted c = search needs
@@ -35,8 +37,11 @@ words-counted-requires c κs = search needs
 
 returns-3 : tie.Need-returns-3
 returns-3 c =
+    let at-if2 = c .before .before .before .before .before in
+    let at-flaw = at-if2 .before in
+    let at-if1 = at-flaw .before in
     c .before .before .words-counted .ensures
-    ∙ sym (entry-run _ (c .before .before .before .before .before .before .before .if1 .left) (c .before .before .before .before .before .before .flaw .ensures) (c .before .before .before .before .before .if2 .left))
+    ∙ sym (entry-run _ (at-if1 .if1 .left) (at-flaw .flaw .ensures) (at-if2 .if2 .left))
 
 pub enter-spec : {M : Type 1} → statement M
 enter-spec =

@@ -18,10 +18,18 @@ step-requires : tie.Need-step-requires
 step-requires c κs = search needs
 
 word-tally-requires : tie.Need-word-tally-requires
-word-tally-requires c κs = taken-low _ _ _ _ (c .before .before .before .before .before .before .before .before .before .before .before .before .before .before .before .before .decoded .ensures) (c .before .before .before .before .before .before .before .before .before .before .before .before .before .before .before .completed .ensures) (c .before .before .before .before .before .before .before .before .before .before .before .before .offered-by .ensures) (c .before .before .before .before .before .step .ensures)
+word-tally-requires c κs =
+    let at-step = c .before .before .before .before .before in
+    let at-offered-by = at-step .before .before .before .before .before .before .before in
+    let at-completed = at-offered-by .before .before .before in
+    let at-decoded = at-completed .before in
+    taken-low _ _ _ _ (at-decoded .decoded .ensures) (at-completed .completed .ensures) (at-offered-by .offered-by .ensures) (at-step .step .ensures)
 
 same-length : tie.Need-same-length
-same-length c = c .before .before .before .before .before .im2 .given ∙ c .before .before .before .before .before .before .before .before .before .before .before .before .im .given
+same-length c =
+    let at-im2 = c .before .before .before .before .before in
+    let at-im = at-im2 .before .before .before .before .before .before .before in
+    at-im2 .im2 .given ∙ at-im .im .given
 
 same-length-2 : tie.Need-same-length-2
 same-length-2 c = search needs

@@ -11,7 +11,9 @@ word-requires : tie.Need-word-requires
 word-requires c κs = search needs
 
 cast-take : tie.Need-cast-take
-cast-take c = omega (arith, c .word .ensures, word-fits (now (c .before .before .before .before .args .bytes)) (c .before .before .before .before .args .k))
+cast-take c =
+    let start = c .before .before .before .before in
+    omega (arith, c .word .ensures, word-fits (now (start .args .bytes)) (start .args .k))
 
 cast-take-2 : tie.Need-cast-take-2
 cast-take-2 c = search needs
@@ -27,7 +29,10 @@ same-length-2 c = search needs
 
 returns : tie.Need-returns
 unfolding wordOf
-returns c = rw (c .before .before .before .before .before .before .before .word .ensures) at (c .before .before .before .before .take .ensures)
+returns c =
+    let at-take = c .before .before .before .before in
+    let at-word = at-take .before .before .before in
+    rw (at-word .word .ensures) at (at-take .take .ensures)
 
 pub take-at-spec : {M : Type 1} → statement M
 take-at-spec =

@@ -47,34 +47,48 @@ entered-requires : tie.Need-entered-requires Inv-loop μ-loop
 entered-requires c κs = search needs
 
 same-length : tie.Need-same-length Inv-loop μ-loop
-same-length c = c .before .before .before .before .before .before .im .given ∙ c .before .before .before .before .before .before .before .before .before .before .before .loop .inv .3
+same-length c =
+    let at-im = c .before .before .before .before .before .before in
+    let at-loop = at-im .before .before .before .before .before in
+    at-im .im .given ∙ at-loop .loop .inv .3
 
 same-length-2 : tie.Need-same-length-2 Inv-loop μ-loop
-same-length-2 c = c .before .before .before .before .zm .given ∙ c .before .before .before .before .before .before .before .before .before .before .before .loop .inv .4
+same-length-2 c =
+    let at-zm = c .before .before .before .before in
+    let at-loop = at-zm .before .before .before .before .before .before .before in
+    at-zm .zm .given ∙ at-loop .loop .inv .4
 
 returns : tie.Need-returns Inv-loop μ-loop
 returns c =
-    let l = c .before .before .before .before .before .before .before .before .before .before .before .loop in
-    ended-halt _ _ (l .inv .5) (rw (l .inv .1) at (c .before .before .before .before .before .before .before .before .before .before .loop-test .taken)) (c .before .before .before .before .before .before .before .take-at .ensures .0) (c .before .if1 .taken) (c .entered .ensures)
+    let at-take-at = c .before .before .before .before .before .before .before in
+    let in-loop = at-take-at .before .before .before in
+    let l = in-loop .before .loop in
+    ended-halt _ _ (l .inv .5) (rw (l .inv .1) at (in-loop .loop-test .taken)) (at-take-at .take-at .ensures .0) (c .before .if1 .taken) (c .entered .ensures)
 
 with-requires : tie.Need-with-requires Inv-loop μ-loop
 with-requires c κs = search needs
 
 add-k : tie.Need-add-k Inv-loop μ-loop
-add-k c = omega (arith, c .before .before .before .before .before .before .before .before .before .before .before .before .before .loop .inv .0, c .before .before .before .before .before .before .before .before .before .before .before .before .before .loop .inv .2)
+add-k c =
+    let at-loop = c .before .before .before .before .before .before .before .before .before .before .before .before .before in
+    omega (arith, at-loop .loop .inv .0, at-loop .loop .inv .2)
 
 loop-less : tie.Need-loop-less Inv-loop μ-loop
-loop-less c = omega (arith, c .before .before .before .before .before .before .before .before .before .before .before .before .loop-test .taken)
+loop-less c =
+    let in-loop = c .before .before .before .before .before .before .before .before .before .before .before .before in
+    omega (arith, in-loop .loop-test .taken)
 
 loop-again : tie.Need-loop-again Inv-loop μ-loop
 loop-again c =
-    let l = c .before .before .before .before .before .before .before .before .before .before .before .before .before .loop in (
-      omega (arith, c .before .before .before .before .before .before .before .before .before .before .before .before .loop-test .taken),
+    let at-take-at = c .before .before .before .before .before .before .before .before .before in
+    let in-loop = at-take-at .before .before .before in
+    let l = in-loop .before .loop in (
+      omega (arith, in-loop .loop-test .taken),
       l .inv .1,
       l .inv .2,
       search needs,
       search needs,
-      reached-more _ _ (l .inv .5) (rw (l .inv .1) at (c .before .before .before .before .before .before .before .before .before .before .before .before .loop-test .taken)) (c .before .before .before .before .before .before .before .before .before .take-at .ensures .0) (c .before .before .before .if1 .left) (omega (arith, l .inv .0, l .inv .2)) (c .before .before .before .before .before .before .before .before .before .take-at .ensures .1) (c .with .ensures),
+      reached-more _ _ (l .inv .5) (rw (l .inv .1) at (in-loop .loop-test .taken)) (at-take-at .take-at .ensures .0) (c .before .before .before .if1 .left) (omega (arith, l .inv .0, l .inv .2)) (at-take-at .take-at .ensures .1) (c .with .ensures),
     )
 
 entered-requires-2 : tie.Need-entered-requires-2 Inv-loop μ-loop

@@ -11,7 +11,9 @@ returns c = rw (lt-ltb (c .before .before .before .args .count) 2 (c .if1 .taken
 
 returns-2 : tie.Need-returns-2
 unfolding askedOf
-returns-2 c = rw (le-ltb (c .before .before .before .before .args .count) 2 (c .before .if1 .left), ne-eqb (c .before .before .before .before .args .count) 3 (c .if2 .taken))
+returns-2 c =
+    let start = c .before .before .before .before in
+    rw (le-ltb (start .args .count) 2 (c .before .if1 .left), ne-eqb (start .args .count) 3 (c .if2 .taken))
 
 coordinate-requires : tie.Need-coordinate-requires
 coordinate-requires c κs = search needs
@@ -21,11 +23,18 @@ coordinate-requires-2 c κs = search needs
 
 returns-3 : tie.Need-returns-3
 unfolding askedOf
-returns-3 c = rw (le-ltb (c .before .before .before .before .before .before .before .args .count) 2 (c .before .before .before .before .if1 .left), eq-eqb (c .before .before .before .before .before .before .before .args .count) 3 (c .before .before .before .if2 .left), ← c .before .before .coordinate .ensures, lt-ltb 16383 (c .before .before .coordinate .result) (c .if3 .taken))
+returns-3 c =
+    let at-if1 = c .before .before .before .before in
+    let start = at-if1 .before .before .before in
+    rw (le-ltb (start .args .count) 2 (at-if1 .if1 .left), eq-eqb (start .args .count) 3 (c .before .before .before .if2 .left), ← c .before .before .coordinate .ensures, lt-ltb 16383 (c .before .before .coordinate .result) (c .if3 .taken))
 
 returns-4 : tie.Need-returns-4
 unfolding askedOf
-returns-4 c = rw (le-ltb (c .before .before .before .before .before .before .before .before .args .count) 2 (c .before .before .before .before .before .if1 .left), eq-eqb (c .before .before .before .before .before .before .before .before .args .count) 3 (c .before .before .before .before .if2 .left), ← c .before .before .before .coordinate .ensures, ← c .before .before .coordinate2 .ensures, le-ltb 16383 (c .before .before .before .coordinate .result) (c .before .if3 .left), lt-ltb 16383 (c .before .before .coordinate2 .result) (c .if4 .taken))
+returns-4 c =
+    let at-if2 = c .before .before .before .before in
+    let at-if1 = at-if2 .before in
+    let start = at-if1 .before .before .before in
+    rw (le-ltb (start .args .count) 2 (at-if1 .if1 .left), eq-eqb (start .args .count) 3 (at-if2 .if2 .left), ← c .before .before .before .coordinate .ensures, ← c .before .before .coordinate2 .ensures, le-ltb 16383 (c .before .before .before .coordinate .result) (c .before .if3 .left), lt-ltb 16383 (c .before .before .coordinate2 .result) (c .if4 .taken))
 
 cast-t7 : tie.Need-cast-t7
 cast-t7 c = search needs
@@ -35,7 +44,11 @@ cast-t8 c = search needs
 
 returns-5 : tie.Need-returns-5
 unfolding askedOf
-returns-5 c = rw (le-ltb (c .before .before .before .before .before .before .before .before .args .count) 2 (c .before .before .before .before .before .if1 .left), eq-eqb (c .before .before .before .before .before .before .before .before .args .count) 3 (c .before .before .before .before .if2 .left), ← c .before .before .before .coordinate .ensures, ← c .before .before .coordinate2 .ensures, le-ltb 16383 (c .before .before .before .coordinate .result) (c .before .if3 .left), le-ltb 16383 (c .before .before .coordinate2 .result) (c .if4 .left))
+returns-5 c =
+    let at-if2 = c .before .before .before .before in
+    let at-if1 = at-if2 .before in
+    let start = at-if1 .before .before .before in
+    rw (le-ltb (start .args .count) 2 (at-if1 .if1 .left), eq-eqb (start .args .count) 3 (at-if2 .if2 .left), ← c .before .before .before .coordinate .ensures, ← c .before .before .coordinate2 .ensures, le-ltb 16383 (c .before .before .before .coordinate .result) (c .before .if3 .left), le-ltb 16383 (c .before .before .coordinate2 .result) (c .if4 .left))
 
 pub asked-spec : {M : Type 1} → statement M
 asked-spec =

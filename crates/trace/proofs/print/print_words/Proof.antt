@@ -27,40 +27,65 @@ loop-holds : tie.Need-loop-holds Inv-loop μ-loop
 loop-holds c = (omega arith, c .before .before .large-buffer .ensures, refl, refl)
 
 turn-requires : tie.Need-turn-requires Inv-loop μ-loop
-turn-requires c κs = c .before .before .before .before .loop .inv .0
+turn-requires c κs =
+    let at-loop = c .before .before .before .before in
+    at-loop .loop .inv .0
 
 add-k : tie.Need-add-k Inv-loop μ-loop
 add-k c = search needs
 
 array-share-prefix-page : tie.Need-array-share-prefix-page Inv-loop μ-loop
-array-share-prefix-page c = omega (arith, c .before .before .before .before .before .before .turn .ensures .0, c .before .before .before .before .before .before .turn .ensures .1)
+array-share-prefix-page c =
+    let at-turn = c .before .before .before .before .before .before in
+    omega (arith, at-turn .turn .ensures .0, at-turn .turn .ensures .1)
 
 slice-aggregate-print : tie.Need-slice-aggregate-print Inv-loop μ-loop
-slice-aggregate-print c = sym (length-take-le _ _ (omega (arith, c .before .before .before .before .before .before .before .turn .ensures .0, c .before .before .before .before .before .before .before .turn .ensures .1)))
+slice-aggregate-print c =
+    let at-turn = c .before .before .before .before .before .before .before in
+    sym (length-take-le _ _ (omega (arith, at-turn .turn .ensures .0, at-turn .turn .ensures .1)))
 
 print-requires : tie.Need-print-requires Inv-loop μ-loop
 print-requires c κs = tt
 
 same-length : tie.Need-same-length Inv-loop μ-loop
-same-length c = c .before .before .before .before .before .before .before .before .im .given ∙ c .before .before .before .before .before .before .before .before .before .before .before .before .before .before .loop .inv .2
+same-length c =
+    let at-im = c .before .before .before .before .before .before .before .before in
+    let at-loop = at-im .before .before .before .before .before .before in
+    at-im .im .given ∙ at-loop .loop .inv .2
 
 same-length-2 : tie.Need-same-length-2 Inv-loop μ-loop
-same-length-2 c = c .before .before .before .before .before .before .zm .given ∙ c .before .before .before .before .before .before .before .before .before .before .before .before .before .before .loop .inv .3
+same-length-2 c =
+    let at-zm = c .before .before .before .before .before .before in
+    let at-loop = at-zm .before .before .before .before .before .before .before .before in
+    at-zm .zm .given ∙ at-loop .loop .inv .3
 
 returns : tie.Need-returns Inv-loop μ-loop
 returns c = tt
 
 loop-less : tie.Need-loop-less Inv-loop μ-loop
-loop-less c = omega (arith, c .before .before .before .before .before .before .before .before .before .before .before .before .before .loop-test .taken)
+loop-less c =
+    let in-loop = c .before .before .before .before .before .before .before .before .before .before .before .before .before in
+    omega (arith, in-loop .loop-test .taken)
 
 loop-again : tie.Need-loop-again Inv-loop μ-loop
-loop-again c = (omega arith, c .before .before .before .before .before .before .before .before .before .turn .ensures .1, c .before .before .before .before .before .before .before .before .im .given ∙ c .before .before .before .before .before .before .before .before .before .before .before .before .before .before .loop .inv .2, c .before .before .before .before .before .before .zm .given ∙ c .before .before .before .before .before .before .before .before .before .before .before .before .before .before .loop .inv .3)
+loop-again c =
+    let at-zm = c .before .before .before .before .before .before in
+    let at-im = at-zm .before .before in
+    let at-turn = at-im .before in
+    let at-loop = at-turn .before .before .before .before .before in
+    (omega arith, at-turn .turn .ensures .1, at-im .im .given ∙ at-loop .loop .inv .2, at-zm .zm .given ∙ at-loop .loop .inv .3)
 
 loop-less-2 : tie.Need-loop-less-2 Inv-loop μ-loop
-loop-less-2 c = omega (arith, c .before .before .before .before .before .before .before .before .before .before .loop-test .taken)
+loop-less-2 c =
+    let in-loop = c .before .before .before .before .before .before .before .before .before .before in
+    omega (arith, in-loop .loop-test .taken)
 
 loop-again-2 : tie.Need-loop-again-2 Inv-loop μ-loop
-loop-again-2 c = (c .before .before .before .before .before .before .turn .ensures .0, c .before .before .before .before .before .before .turn .ensures .1, c .before .before .before .before .before .im .given ∙ c .before .before .before .before .before .before .before .before .before .before .before .loop .inv .2, c .before .before .before .zm .given ∙ c .before .before .before .before .before .before .before .before .before .before .before .loop .inv .3)
+loop-again-2 c =
+    let at-im = c .before .before .before .before .before in
+    let at-turn = at-im .before in
+    let at-loop = at-turn .before .before .before .before .before in
+    (at-turn .turn .ensures .0, at-turn .turn .ensures .1, at-im .im .given ∙ at-loop .loop .inv .2, c .before .before .before .zm .given ∙ at-loop .loop .inv .3)
 
 array-share-prefix-page-2 : tie.Need-array-share-prefix-page-2 Inv-loop μ-loop
 array-share-prefix-page-2 c = omega (arith, c .before .loop .inv .0, c .before .loop .inv .1)

@@ -15,7 +15,11 @@ same-length-2 : tie.Need-same-length-2
 same-length-2 c = search needs
 
 returns : tie.Need-returns
-returns c = let g = c .before .before .before .before .before .before .before .before .before .before .before .before .good .1 .1 .1 .1 .1 .1 .1 in (omega (arith, laid-within (c .before .before .before .before .watch .ensures .text) (omega (arith, g, c .before .before .before .before .before .before .before .before .before .before .before .before .pre)), g), omega (arith, laid-length (c .before .before .before .before .watch .ensures .text), g))
+returns c =
+    let at-watch = c .before .before .before .before in
+    let start = at-watch .before .before .before .before .before .before .before .before in
+    let g = start .good .1 .1 .1 .1 .1 .1 .1 in
+    (omega (arith, laid-within (at-watch .watch .ensures .text) (omega (arith, g, start .pre)), g), omega (arith, laid-length (at-watch .watch .ensures .text), g))
 
 trace-requires : tie.Need-trace-requires
 trace-requires c κs = search needs
@@ -27,7 +31,11 @@ same-length-4 : tie.Need-same-length-4
 same-length-4 c = search needs
 
 returns-2 : tie.Need-returns-2
-returns-2 c = let g = c .before .before .before .before .before .before .before .before .before .before .before .before .good .1 .1 .1 .1 .1 .1 .1 in (omega (arith, laid-within (c .before .before .before .before .trace .ensures .text) (omega (arith, g, c .before .before .before .before .before .before .before .before .before .before .before .before .pre)), g), omega (arith, laid-length (c .before .before .before .before .trace .ensures .text), g))
+returns-2 c =
+    let at-trace = c .before .before .before .before in
+    let start = at-trace .before .before .before .before .before .before .before .before in
+    let g = start .good .1 .1 .1 .1 .1 .1 .1 in
+    (omega (arith, laid-within (at-trace .trace .ensures .text) (omega (arith, g, start .pre)), g), omega (arith, laid-length (at-trace .trace .ensures .text), g))
 
 pub turn-spec : {M : Type 1} → statement M
 turn-spec =

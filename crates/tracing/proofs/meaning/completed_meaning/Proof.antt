@@ -34,7 +34,9 @@ returns c = rw (c .before .enum-told .given .1) (c .plain .ensures)
 
 returns-2 : tie.Need-returns-2
 unfolding completedMeaning
-returns-2 c = rw (c .before .enum-told2 .given .1, ← c .before .before .before .before .triangle-row .ensures) (c .plain2 .ensures)
+returns-2 c =
+    let at-triangle-row = c .before .before .before .before in
+    rw (c .before .enum-told2 .given .1, ← at-triangle-row .triangle-row .ensures) (c .plain2 .ensures)
 
 returns-3 : tie.Need-returns-3
 unfolding completedMeaning

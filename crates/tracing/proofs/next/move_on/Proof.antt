@@ -17,7 +17,9 @@ add-t6 c = search needs
 
 returns-2 : tie.Need-returns-2
 unfolding moved
-returns-2 c = rw (eq-eqb (c .before .before .before .before .before .args .o .refusal) 0 (c .before .before .if1 .left), c .before .wrapping-add-u64 .ensures)
+returns-2 c =
+    let start = c .before .before .before .before .before in
+    rw (eq-eqb (start .args .o .refusal) 0 (c .before .before .if1 .left), c .before .wrapping-add-u64 .ensures)
 
 pub move-on-spec : {M : Type 1} → statement M
 move-on-spec = tie.close (tie.spec returns wrapping-add-u64-requires add-t6 returns-2)

@@ -14,7 +14,9 @@ word-requires : tie.Need-word-requires
 word-requires c κs = search needs
 
 cast-decoded : tie.Need-cast-decoded
-cast-decoded c = omega (arith, c .before .word .ensures, word-fits (now (c .before .before .before .before .before .args .bytes)) (c .before .before .before .before .before .args .a .index))
+cast-decoded c =
+    let start = c .before .before .before .before .before in
+    omega (arith, c .before .word .ensures, word-fits (now (start .args .bytes)) (start .args .a .index))
 
 cast-decoded-2 : tie.Need-cast-decoded-2
 cast-decoded-2 c = search needs
@@ -26,7 +28,9 @@ meaning-requires : tie.Need-meaning-requires
 meaning-requires c κs = search needs
 
 cast-step : tie.Need-cast-step
-cast-step c = omega (arith, c .before .before .before .word .ensures, word-fits (now (c .before .before .before .before .before .before .before .args .bytes)) (c .before .before .before .before .before .before .before .args .a .index))
+cast-step c =
+    let start = c .before .before .before .before .before .before .before in
+    omega (arith, c .before .before .before .word .ensures, word-fits (now (start .args .bytes)) (start .args .a .index))
 
 cast-step-2 : tie.Need-cast-step-2
 cast-step-2 c = search needs
@@ -35,7 +39,10 @@ step-requires : tie.Need-step-requires
 step-requires c κs = search needs
 
 move-on-requires : tie.Need-move-on-requires
-move-on-requires c κs = let a = c .before .before .before .before .before .before .before .before .before .before .before .before .before .before .args in omega (arith, left-index (now (a .bytes)) (a .a .refusal) (a .a .index) (c .before .before .before .before .before .before .before .before .before .before .before .before .before .before .pre), length-unpack (now (a .bytes)), c .before .before .before .before .before .before .before .before .before .before .before .before .before .before .good .1)
+move-on-requires c κs =
+    let start = c .before .before .before .before .before .before .before .before .before .before .before .before .before .before in
+    let a = start .args in
+    omega (arith, left-index (now (a .bytes)) (a .a .refusal) (a .a .index) (start .pre), length-unpack (now (a .bytes)), start .good .1)
 
 same-length : tie.Need-same-length
 same-length c = search needs
@@ -44,7 +51,13 @@ same-length-2 : tie.Need-same-length-2
 same-length-2 c = search needs
 
 returns : tie.Need-returns
-returns c = let a = c .before .before .before .before .before .before .before .before .before .before .before .before .before .before .before .args in takes (now (a .bytes)) (a .a) (now (a .im)) (now (a .zm)) (c .before .before .before .before .before .before .before .before .before .before .before .word .ensures) (c .before .before .before .before .before .step .ensures) (c .before .before .before .before .before .before .before .before .meaning .ensures ∙ ap (meaningOf (a .a .registers)) (c .before .before .before .before .before .before .before .before .before .decoded .ensures)) (c .move-on .ensures)
+returns c =
+    let at-step = c .before .before .before .before .before in
+    let at-meaning = at-step .before .before .before in
+    let at-decoded = at-meaning .before in
+    let at-word = at-decoded .before .before in
+    let a = at-word .before .before .before .before .args in
+    takes (now (a .bytes)) (a .a) (now (a .im)) (now (a .zm)) (at-word .word .ensures) (at-step .step .ensures) (at-meaning .meaning .ensures ∙ ap (meaningOf (a .a .registers)) (at-decoded .decoded .ensures)) (c .move-on .ensures)
 
 pub take-spec : {M : Type 1} → statement M
 take-spec =

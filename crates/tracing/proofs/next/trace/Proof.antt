@@ -28,7 +28,13 @@ same-length-3 : tie.Need-same-length-3
 same-length-3 c = search needs
 
 returns-2 : tie.Need-returns-2
-returns-2 c = let a = c .before .before .before .before .before .before .before .before .before .before .before .before .before .before .before .before .before .before .before .args in let e = sym (c .before .before .before .before .before .before .before .before .before .before .before .before .before .before .is-over .ensures) ∙ c .before .before .before .before .before .before .before .before .before .before .before .before .before .if1 .left in let k = c .before .before .before .before .before .before .before .before .before .before .take .ensures in turns-next (now (a .bytes)) (a .a) (now (a .im)) (now (a .zm)) e k (line-next (now (a .bytes)) (a .a) (now (a .im)) (now (a .zm)) e k) (c .before .before .trace-line .ensures)
+returns-2 c =
+    let at-if1 = c .before .before .before .before .before .before .before .before .before .before .before .before .before in
+    let at-is-over = at-if1 .before in
+    let a = at-is-over .before .before .before .before .before .args in
+    let e = sym (at-is-over .is-over .ensures) ∙ at-if1 .if1 .left in
+    let k = c .before .before .before .before .before .before .before .before .before .before .take .ensures in
+    turns-next (now (a .bytes)) (a .a) (now (a .im)) (now (a .zm)) e k (line-next (now (a .bytes)) (a .a) (now (a .im)) (now (a .zm)) e k) (c .before .before .trace-line .ensures)
 
 pub trace-spec : {M : Type 1} → statement M
 trace-spec =

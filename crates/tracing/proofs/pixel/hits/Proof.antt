@@ -61,7 +61,11 @@ same-length-2 c = search needs
 
 returns-4 : tie.Need-returns-4
 unfolding hitsOf
-returns-4 c = (rw (c .before .before .before .before .before .before .before .before .before .word .given .1, ← c .before .before .before .before .before .before .before .completed-by .ensures) (c .before .before .before .before .passes-at .ensures .0), c .before .before .before .before .passes-at .ensures .1, c .before .before .before .before .passes-at .ensures .2)
+returns-4 c =
+    let at-passes-at = c .before .before .before .before in
+    let at-completed-by = at-passes-at .before .before .before in
+    let at-word = at-completed-by .before .before in
+    (rw (at-word .word .given .1, ← at-completed-by .completed-by .ensures) (at-passes-at .passes-at .ensures .0), at-passes-at .passes-at .ensures .1, at-passes-at .passes-at .ensures .2)
 
 returns-5 : tie.Need-returns-5
 unfolding hitsOf

@@ -12,7 +12,9 @@ same-length : tie.Need-same-length
 same-length c = search needs
 
 returns : tie.Need-returns
-returns c = rw (c .before .before .before .before .if1 .taken) (c .before .before .watch-line .ensures)
+returns c =
+    let at-if1 = c .before .before .before .before in
+    rw (at-if1 .if1 .taken) (c .before .before .watch-line .ensures)
 
 returns-2 : tie.Need-returns-2
 returns-2 c = rw (c .if1 .left) (laid-nothing (now (c .before .before .before .args .out)) (c .before .before .before .args .at))

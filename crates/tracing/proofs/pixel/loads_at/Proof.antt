@@ -9,11 +9,15 @@ rows-of-requires c κs = search needs
 
 returns : tie.Need-returns
 unfolding loadsAt
-returns c = rw (← c .before .before .before .before .rows-of .ensures, c .if1 .taken)
+returns c =
+    let at-rows-of = c .before .before .before .before in
+    rw (← at-rows-of .rows-of .ensures, c .if1 .taken)
 
 returns-2 : tie.Need-returns-2
 unfolding loadsAt
-returns-2 c = rw (← c .before .before .before .before .rows-of .ensures, c .if1 .left)
+returns-2 c =
+    let at-rows-of = c .before .before .before .before in
+    rw (← at-rows-of .rows-of .ensures, c .if1 .left)
 
 pub loads-at-spec : {M : Type 1} → statement M
 loads-at-spec = tie.close (tie.spec rows-of-requires returns returns-2)

@@ -21,7 +21,10 @@ numbers-at-requires : tie.Need-numbers-at-requires
 numbers-at-requires c κs = search needs
 
 cast-decoded : tie.Need-cast-decoded
-cast-decoded c = omega (arith, c .before .before .before .before .before .word .ensures, word-fits (now (c .before .before .before .before .before .before .before .before .before .before .before .before .args .bytes)) (c .before .before .before .before .before .before .before .before .before .before .before .before .args .a .index))
+cast-decoded c =
+    let at-word = c .before .before .before .before .before in
+    let start = at-word .before .before .before .before .before .before .before in
+    omega (arith, at-word .word .ensures, word-fits (now (start .args .bytes)) (start .args .a .index))
 
 cast-decoded-2 : tie.Need-cast-decoded-2
 cast-decoded-2 c = search needs
@@ -33,7 +36,10 @@ hits-requires : tie.Need-hits-requires
 hits-requires c κs = search needs
 
 take-requires : tie.Need-take-requires
-take-requires c κs = sym (c .before .before .before .before .before .before .before .before .before .before .before .before .before .before .before .before .before .is-over .ensures) ∙ c .before .before .before .before .before .before .before .before .before .before .before .before .before .before .before .before .if1 .left
+take-requires c κs =
+    let at-if1 = c .before .before .before .before .before .before .before .before .before .before .before .before .before .before .before .before in
+    let at-is-over = at-if1 .before in
+    sym (at-is-over .is-over .ensures) ∙ at-if1 .if1 .left
 
 numbers-at-requires-2 : tie.Need-numbers-at-requires-2
 numbers-at-requires-2 c κs = search needs
@@ -51,7 +57,20 @@ same-length-3 : tie.Need-same-length-3
 same-length-3 c = search needs
 
 returns-2 : tie.Need-returns-2
-returns-2 c = let a = c .before .before .before .before .before .before .before .before .before .before .before .before .before .before .before .before .before .before .before .before .before .before .before .before .before .before .before .before .before .before .before .before .before .before .before .before .args in let e = sym (c .before .before .before .before .before .before .before .before .before .before .before .before .before .before .before .before .before .before .before .before .before .before .before .before .before .before .before .before .before .before .before .is-over .ensures) ∙ c .before .before .before .before .before .before .before .before .before .before .before .before .before .before .before .before .before .before .before .before .before .before .before .before .before .before .before .before .before .before .if1 .left in let h = c .before .before .before .before .before .before .before .before .before .before .before .before .before .before .before .before .before .before .before .before .hits .ensures in let k = takes-from (h .1) (h .2) (c .before .before .before .before .before .before .before .before .before .before .before .before .before .take .ensures) in let count = hits-word (now (a .bytes)) (a .a .index) (a .x) (a .y) (a .a .registers) (now (a .im)) (now (a .zm)) (c .before .before .before .before .before .before .before .before .before .before .before .before .before .before .before .before .before .before .before .before .before .before .before .before .before .before .before .before .before .word .ensures) (c .before .before .before .before .before .before .before .before .before .before .before .before .before .before .before .before .before .before .before .before .before .before .before .decoded .ensures) (h .0) in turns-next (now (a .bytes)) (a .a) (now (a .im)) (now (a .zm)) e k (watch-next (now (a .bytes)) (a .a) (now (a .im)) (now (a .zm)) e k (a .x) (a .y) count (c .before .before .before .before .before .before .before .before .before .before .before .before .before .before .before .before .before .before .before .before .before .before .before .before .numbers-at .ensures) (c .before .before .before .before .before .before .numbers-at2 .ensures)) (c .before .before .lay .ensures)
+returns-2 c =
+    let at-numbers-at2 = c .before .before .before .before .before .before in
+    let at-take = at-numbers-at2 .before .before .before .before .before .before .before in
+    let at-decoded = at-take .before .before .before .before .before .before .before .before .before .before in
+    let at-numbers-at = at-decoded .before in
+    let at-word = at-numbers-at .before .before .before .before .before in
+    let at-if1 = at-word .before in
+    let at-is-over = at-if1 .before in
+    let a = at-is-over .before .before .before .before .before .args in
+    let e = sym (at-is-over .is-over .ensures) ∙ at-if1 .if1 .left in
+    let h = at-take .before .before .before .before .before .before .before .hits .ensures in
+    let k = takes-from (h .1) (h .2) (at-take .take .ensures) in
+    let count = hits-word (now (a .bytes)) (a .a .index) (a .x) (a .y) (a .a .registers) (now (a .im)) (now (a .zm)) (at-word .word .ensures) (at-decoded .decoded .ensures) (h .0) in
+    turns-next (now (a .bytes)) (a .a) (now (a .im)) (now (a .zm)) e k (watch-next (now (a .bytes)) (a .a) (now (a .im)) (now (a .zm)) e k (a .x) (a .y) count (at-numbers-at .numbers-at .ensures) (at-numbers-at2 .numbers-at2 .ensures)) (c .before .before .lay .ensures)
 
 pub watch-spec : {M : Type 1} → statement M
 watch-spec =

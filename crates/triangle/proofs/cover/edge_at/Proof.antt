@@ -49,11 +49,13 @@ add-t18 c = search needs
 
 returns : tie.Need-returns
 unfolding plusOf minusOf
-returns c = (
-  simp (c .before .before .before .before .before .times .ensures .0, c .before .before .before .before .times2 .ensures .0, c .before .before .before .times3 .ensures .0, c .before .before .times4 .ensures .0, c .before .times5 .ensures .0, c .times6 .ensures .0),
-  omega arith,
-  omega arith,
-)
+returns c =
+    let at-times2 = c .before .before .before .before in
+    let at-times = at-times2 .before in (
+      simp (at-times .times .ensures .0, at-times2 .times2 .ensures .0, c .before .before .before .times3 .ensures .0, c .before .before .times4 .ensures .0, c .before .times5 .ensures .0, c .times6 .ensures .0),
+      omega arith,
+      omega arith,
+    )
 
 pub edge-at-spec : {M : Type 1} → statement M
 edge-at-spec =

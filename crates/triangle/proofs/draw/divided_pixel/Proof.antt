@@ -31,14 +31,17 @@ same-length-2 c = search needs
 
 returns : tie.Need-returns
 returns c =
-    let s = c .before .before .before .before .before .before .before .before .before .before .before .before in
+    let at-put = c .before .before .before .before in
+    let at-number2 = at-put .before .before .before in
+    let at-number = at-number2 .before in
+    let s = at-number .before .before .before .before in
     let a = s .args in
     let t = a .t in
-    let e = c .before .before .before .before .before .before .before .before .before .edges-at .ensures in
+    let e = at-number .before .edges-at .ensures in
     pixel-drawn (a .pen) (rowsOf (a .pen .frame) (length (a .im .now)) (length (a .zm .now))) t (a .x) (a .y) _ _ (picture (a .im .now) (a .zm .now) 0) _ (s .pre .3)
-    (number-told t (t .a .i) (t .b .i) (t .c .i) (a .x) (a .y) (a .d) _ _ (s .pre .1) e (c .before .before .before .before .before .before .before .before .number .ensures))
-    (number-told t (t .a .z) (t .b .z) (t .c .z) (a .x) (a .y) (a .d) _ _ (s .pre .1) e (c .before .before .before .before .before .before .before .number2 .ensures))
-    (c .before .before .before .before .put .ensures)
+    (number-told t (t .a .i) (t .b .i) (t .c .i) (a .x) (a .y) (a .d) _ _ (s .pre .1) e (at-number .number .ensures))
+    (number-told t (t .a .z) (t .b .z) (t .c .z) (a .x) (a .y) (a .d) _ _ (s .pre .1) e (at-number2 .number2 .ensures))
+    (at-put .put .ensures)
 
 pub divided-pixel-spec : {M : Type 1} → statement M
 divided-pixel-spec =

@@ -42,15 +42,17 @@ divided-pixel-requires c κs =
 
 add-n : tie.Need-add-n Inv-loop μ-loop
 add-n c =
-    let l = c .before .before .before .before .before .before .before .before in
+    let at-divided-pixel = c .before .before .before .before in
+    let in-loop = at-divided-pixel .before .before .before in
+    let l = in-loop .before in
     let s = l .before .before .before in
     let a = s .args in
     let k = l .loop in
     let turn = ap₂ (λ (i z : ℕ). drawn (a .pen) (pixelOffers (a .pen) (rowsOf (a .pen .frame) i z) false (a .t) (k .x) (a .y)) (picture (k .im) (k .zm) 0)) (reached-i (k .inv .2)) (reached-z (k .inv .2)) in
     omega (
       arith,
-      reached-count 1 (reached-add (k .inv .2) (c .before .before .before .before .divided-pixel .ensures ∙ turn)) (offers-length (a .pen) (rowsOf (a .pen .frame) (length (a .im .now)) (length (a .zm .now))) false (a .t) (a .y)),
-      c .before .before .before .before .before .before .before .loop-test .taken,
+      reached-count 1 (reached-add (k .inv .2) (at-divided-pixel .divided-pixel .ensures ∙ turn)) (offers-length (a .pen) (rowsOf (a .pen .frame) (length (a .im .now)) (length (a .zm .now))) false (a .t) (a .y)),
+      in-loop .loop-test .taken,
       k .inv .3,
     )
 
@@ -62,13 +64,15 @@ loop-less c = search needs
 
 loop-again : tie.Need-loop-again Inv-loop μ-loop
 loop-again c =
-    let l = c .before .before .before .before .before .before .before .before in
+    let at-divided-pixel = c .before .before .before .before in
+    let in-loop = at-divided-pixel .before .before .before in
+    let l = in-loop .before in
     let a = l .before .before .before .args in
     let k = l .loop in
     let turn = ap₂ (λ (i z : ℕ). drawn (a .pen) (pixelOffers (a .pen) (rowsOf (a .pen .frame) i z) false (a .t) (k .x) (a .y)) (picture (k .im) (k .zm) 0)) (reached-i (k .inv .2)) (reached-z (k .inv .2)) in (
       omega (arith, k .inv .0),
-      omega (arith, c .before .before .before .before .before .before .before .loop-test .taken),
-      reached-add (k .inv .2) (c .before .before .before .before .divided-pixel .ensures ∙ turn),
+      omega (arith, in-loop .loop-test .taken),
+      reached-add (k .inv .2) (at-divided-pixel .divided-pixel .ensures ∙ turn),
       k .inv .3,
     )
 

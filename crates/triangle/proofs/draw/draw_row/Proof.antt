@@ -19,8 +19,11 @@ enum-known-way c = search needs
 
 run-row-requires : tie.Need-run-row-requires
 run-row-requires c κs =
-    let s = c .before .before .before .before .before .before .before .before .before .before .before in
-    (s .pre .6, c .before .before .before .before .before .before .before .before .spanned .ensures, s .pre .5, c .before .before .before .before .before .before .if1 .taken, rw (c .before .before .before .way .given .1) at (c .before .before .before .before .before .way-of .ensures))
+    let at-way-of = c .before .before .before .before .before in
+    let at-if1 = at-way-of .before in
+    let at-spanned = at-if1 .before .before in
+    let s = at-spanned .before .before .before in
+    (s .pre .6, at-spanned .spanned .ensures, s .pre .5, at-if1 .if1 .taken, rw (c .before .before .before .way .given .1) at (at-way-of .way-of .ensures))
 
 same-length : tie.Need-same-length
 same-length c = search needs
@@ -36,9 +39,12 @@ enum-told c = search needs
 
 divided-row-requires : tie.Need-divided-row-requires
 divided-row-requires c κs =
-    let s = c .before .before .before .before .before .before .before .before .before .before in
-    let w = rw (c .before .before .enum-told .given .1) at (c .before .before .before .before .way-of .ensures) in
-    (s .pre .0, s .pre .1, s .pre .2, c .before .before .before .before .before .before .before .spanned .ensures, s .pre .5, c .before .before .before .before .before .if1 .taken, w .1)
+    let at-way-of = c .before .before .before .before in
+    let at-if1 = at-way-of .before in
+    let at-spanned = at-if1 .before .before in
+    let s = at-spanned .before .before .before in
+    let w = rw (c .before .before .enum-told .given .1) at (at-way-of .way-of .ensures) in
+    (s .pre .0, s .pre .1, s .pre .2, at-spanned .spanned .ensures, s .pre .5, at-if1 .if1 .taken, w .1)
 
 same-length-3 : tie.Need-same-length-3
 same-length-3 c = search needs
@@ -48,8 +54,11 @@ same-length-4 c = search needs
 
 returns-2 : tie.Need-returns-2
 returns-2 c =
-    let w = rw (c .before .before .before .before .before .before .before .enum-told .given .1) at (c .before .before .before .before .before .before .before .before .before .way-of .ensures) in
-    rw (w .0) (c .before .before .before .before .divided-row .ensures)
+    let at-divided-row = c .before .before .before .before in
+    let at-enum-told = at-divided-row .before .before .before in
+    let at-way-of = at-enum-told .before .before in
+    let w = rw (at-enum-told .enum-told .given .1) at (at-way-of .way-of .ensures) in
+    rw (w .0) (at-divided-row .divided-row .ensures)
 
 returns-3 : tie.Need-returns-3
 returns-3 c = let a = c .before .before .before .before .before .args in row-empty (a .pen) (rowsOf (a .pen .frame) (length (a .im .now)) (length (a .zm .now))) (a .constant) (a .t) (a .y) _ (c .before .before .spanned .ensures) (omega (arith, c .if1 .left)) (picture (a .im .now) (a .zm .now) 0)

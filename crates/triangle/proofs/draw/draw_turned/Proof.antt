@@ -81,19 +81,21 @@ rising-of-requires c κs = let f = first-row c in omega (arith, f .0, f .1, f .2
 
 loop-holds : tie.Need-loop-holds Inv-loop μ-loop
 loop-holds c =
+    let at-kind-of = c .before .before .before .before in
+    let at-shades-of = at-kind-of .before in
     let k = c .before in
-    let s = c .before .before .before .before .before .before .before .before .before .before .before in
+    let s = at-shades-of .before .before .before .before .before .before in
     let a = s .args in
-    let rows = c .before .before .before .before .before .before .before .rows-of in
-    let end = c .before .before .before .before .before .before .end-of .ensures in
+    let rows = at-shades-of .before .before .rows-of in
+    let end = at-shades-of .before .end-of .ensures in
     let start = k .least .ensures ∙ ap₂ (λ (p q : ℕ). min p q) (k .before .start-of .ensures) end in
     let f = first-row k in
     record {
       in-use = rows .ensures;
       end = end;
       start = start;
-      shaded = c .before .before .before .before .before .shades-of .ensures;
-      fast = c .before .before .before .is-plain .ensures ∙ ap (λ (k : Kind). isPlain (a .pen) k) (c .before .before .before .before .kind-of .ensures);
+      shaded = at-shades-of .shades-of .ensures;
+      fast = c .before .before .before .is-plain .ensures ∙ ap (λ (k : Kind). isPlain (a .pen) k) (at-kind-of .kind-of .ensures);
       line = omega (arith, s .good .0);
       since = le-refl _;
       until = f .0;
@@ -127,27 +129,39 @@ row-same l =
 
 add-n : tie.Need-add-n Inv-loop μ-loop
 add-n c =
-    let l = c .before .before .before .before .before .before .before .before in
+    let at-draw-row = c .before .before .before .before in
+    let in-loop = at-draw-row .before .before .before in
+    let l = in-loop .before in
     let a = l .before .before .before .before .before .before .before .before .before .before .before .before .args in
     let k = l .loop in
     omega (
       arith,
-      reached-count (a .pen .frame .line) (reached-add (k .inv .so-far) (c .before .before .before .before .draw-row .ensures ∙ row-same l)) (λ y. row-length (a .pen) _ (a .constant) (a .t) y),
-      mul-le-mul {n₁ = k .y + 1} {m₁ = a .pen .frame .line} {n₂ = mostRows} {m₂ = 65535} (omega (arith, c .before .before .before .before .before .before .before .loop-test .taken, k .inv .below, k .inv .few)) (k .inv .line),
+      reached-count (a .pen .frame .line) (reached-add (k .inv .so-far) (at-draw-row .draw-row .ensures ∙ row-same l)) (λ y. row-length (a .pen) _ (a .constant) (a .t) y),
+      mul-le-mul {n₁ = k .y + 1} {m₁ = a .pen .frame .line} {n₂ = mostRows} {m₂ = 65535} (omega (arith, in-loop .loop-test .taken, k .inv .below, k .inv .few)) (k .inv .line),
     )
 
 risen-requires : tie.Need-risen-requires Inv-loop μ-loop
-risen-requires c κs = let k = c .before .before .before .before .before .before .before .before .loop .inv in (omega (arith, c .before .before .before .before .before .before .before .loop-test .taken, k .below, k .few), k .carried)
+risen-requires c κs =
+    let in-loop = c .before .before .before .before .before .before .before in
+    let k = in-loop .before .loop .inv in
+    (omega (arith, in-loop .loop-test .taken, k .below, k .few), k .carried)
 
 add-y : tie.Need-add-y Inv-loop μ-loop
-add-y c = let k = c .before .before .before .before .before .before .before .before .before .loop .inv in omega (arith, c .before .before .before .before .before .before .before .before .loop-test .taken, k .below, k .few)
+add-y c =
+    let in-loop = c .before .before .before .before .before .before .before .before in
+    let k = in-loop .before .loop .inv in
+    omega (arith, in-loop .loop-test .taken, k .below, k .few)
 
 loop-less : tie.Need-loop-less Inv-loop μ-loop
-loop-less c = omega (arith, c .before .before .before .before .before .before .before .before .loop-test .taken)
+loop-less c =
+    let in-loop = c .before .before .before .before .before .before .before .before in
+    omega (arith, in-loop .loop-test .taken)
 
 loop-again : tie.Need-loop-again Inv-loop μ-loop
 loop-again c =
-    let l = c .before .before .before .before .before .before .before .before .before in
+    let at-draw-row = c .before .before .before .before .before in
+    let in-loop = at-draw-row .before .before .before in
+    let l = in-loop .before in
     let k = l .loop .inv in
     record {
       in-use = k .in-use;
@@ -157,11 +171,11 @@ loop-again c =
       fast = k .fast;
       line = k .line;
       since = omega (arith, k .since);
-      until = omega (arith, c .before .before .before .before .before .before .before .before .loop-test .taken);
+      until = omega (arith, in-loop .loop-test .taken);
       below = k .below;
       few = k .few;
       carried = c .risen .ensures;
-      so-far = reached-add (k .so-far) (c .before .before .before .before .before .draw-row .ensures ∙ row-same l);
+      so-far = reached-add (k .so-far) (at-draw-row .draw-row .ensures ∙ row-same l);
     }
 
 same-length : tie.Need-same-length Inv-loop μ-loop

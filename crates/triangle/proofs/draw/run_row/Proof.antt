@@ -40,12 +40,14 @@ same-length-2 c = search needs
 
 returns : tie.Need-returns
 returns c =
-    let s = c .before .before .before .before .before .before .before .before .before .before .before .before .before in
+    let at-span-nearer = c .before .before .before .before in
+    let at-if1 = at-span-nearer .before .before .before .before .before .before in
+    let s = at-if1 .before .before .before in
     let a = s .args in
     let rows = rowsOf (a .pen .frame) (length (a .im .now)) (length (a .zm .now)) in
     let p = picture (a .im .now) (a .zm .now) 0 in
-    c .before .before .before .before .span-nearer .ensures
-    ∙ sym (plain-span (a .pen) (kindOf (a .constant)) (sym (s .pre .0) ∙ c .before .before .before .before .before .before .before .before .before .before .if1 .taken) rows (a .s .lo) (a .s .hi) (a .y) (a .r .i) (a .r .z) p)
+    at-span-nearer .span-nearer .ensures
+    ∙ sym (plain-span (a .pen) (kindOf (a .constant)) (sym (s .pre .0) ∙ at-if1 .if1 .taken) rows (a .s .lo) (a .s .hi) (a .y) (a .r .i) (a .r .z) p)
     ∙ ap (λ (os : List Offer). drawn (a .pen) os p) (row s)
 
 kind-of-requires : tie.Need-kind-of-requires
@@ -68,12 +70,14 @@ same-length-4 c = search needs
 
 returns-2 : tie.Need-returns-2
 returns-2 c =
-    let s = c .before .before .before .before .before .before .before .before .before .before .before .before .before in
+    let at-span = c .before .before .before .before in
+    let at-kind-of = at-span .before .before .before .before .before in
+    let s = at-kind-of .before .before .before .before in
     let a = s .args in
     let rows = rowsOf (a .pen .frame) (length (a .im .now)) (length (a .zm .now)) in
     let p = picture (a .im .now) (a .zm .now) 0 in
-    c .before .before .before .before .span .ensures
-    ∙ ap (λ (k : Kind). drawn (a .pen) (spanOffers (a .pen) rows k (a .s .lo) (a .s .hi) (a .y) (a .r .i) (a .r .z)) p) (c .before .before .before .before .before .before .before .before .before .kind-of .ensures)
+    at-span .span .ensures
+    ∙ ap (λ (k : Kind). drawn (a .pen) (spanOffers (a .pen) rows k (a .s .lo) (a .s .hi) (a .y) (a .r .i) (a .r .z)) p) (at-kind-of .kind-of .ensures)
     ∙ ap (λ (os : List Offer). drawn (a .pen) os p) (row s)
 
 pub run-row-spec : {M : Type 1} → statement M

@@ -39,8 +39,13 @@ same-length-2 c = search needs
 
 returns : tie.Need-returns
 returns c =
-    let a = c .before .before .before .before .before .before .before .before .before .before .before .before .before .before .before .args in
-    named-drawn (a .pen) (rowsOf (a .pen .frame) (length (a .im .now)) (length (a .zm .now))) (a .constant) (a .a) (a .b) (a .c) _ (c .before .before .before .before .before .before .before .before .before .before .edge-at .ensures .0) _ (c .before .before .before .before .before .before .before .before .before .gap .ensures) (c .before .before .before .before .before .before .before .if1 .taken) (picture (a .im .now) (a .zm .now) 0) _ (c .before .before .before .before .before .before .before .before .named .ensures) (c .before .before .before .before .draw-turned .ensures)
+    let at-draw-turned = c .before .before .before .before in
+    let at-if1 = at-draw-turned .before .before .before in
+    let at-named = at-if1 .before in
+    let at-gap = at-named .before in
+    let at-edge-at = at-gap .before in
+    let a = at-edge-at .before .before .before .before .before .args in
+    named-drawn (a .pen) (rowsOf (a .pen .frame) (length (a .im .now)) (length (a .zm .now))) (a .constant) (a .a) (a .b) (a .c) _ (at-edge-at .edge-at .ensures .0) _ (at-gap .gap .ensures) (at-if1 .if1 .taken) (picture (a .im .now) (a .zm .now) 0) _ (at-named .named .ensures) (at-draw-turned .draw-turned .ensures)
 
 returns-2 : tie.Need-returns-2
 returns-2 c =

@@ -23,7 +23,8 @@ carried-run-requires c κs =
 
 returns-2 : tie.Need-returns-2
 returns-2 c =
-    let w = rw (c .before .before .shades .given .1) at (c .before .before .before .before .pre .2) in
+    let start = c .before .before .before .before in
+    let w = rw (c .before .before .shades .given .1) at (start .pre .2) in
     rw (w .0) (c .carried-run .ensures)
 
 enum-told-2 : tie.Need-enum-told-2

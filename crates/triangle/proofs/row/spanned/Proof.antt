@@ -31,8 +31,9 @@ cut-requires-3 c κs = let s = c .before .before .before .before .before .before
 
 returns : tie.Need-returns
 returns c =
-    let a = c .before .before .before .before .before .before .before .before .before .before .before .before .before .args in
-    spanned-of (a .pen) (a .t) (a .y) _ _ _ _ (c .before .before .before .before .least .ensures) (c .before .before .cut .ensures) (c .before .cut2 .ensures) (c .cut3 .ensures)
+    let at-least = c .before .before .before .before in
+    let a = at-least .before .before .before .before .before .before .before .before .before .args in
+    spanned-of (a .pen) (a .t) (a .y) _ _ _ _ (at-least .least .ensures) (c .before .before .cut .ensures) (c .before .cut2 .ensures) (c .cut3 .ensures)
 
 pub spanned-spec : {M : Type 1} → statement M
 spanned-spec =
