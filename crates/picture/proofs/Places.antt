@@ -2,7 +2,7 @@
 use mathlib.Core.Path.{_≡_, refl, sym, ap, _∙_}
 use mathlib.Core.Bool.{Bool, true, false, cond, not, _&&_, _||_, true≢false}
 use Prim.Native.Nat.{ℕ, _+_, _-_, _*_, _/_, _%_, _≤_, _<_, zero-le, min}
-use native.Mathlib.Nat.{add-assoc, min-le-right, mul-le-mul, mul-le-mul-right}
+use native.Mathlib.Nat.{add-assoc, zero-add, min-le-right, mul-le-mul, mul-le-mul-right}
 use native.Mathlib.Omega.{arith}
 use lib.Dec.{ltb, leb, eqb}
 use borrow.Author.Tests.{lt-ltb, ltb-true, le-leb, leb-true, ltb-false, eqb-true, eqb-false, eq-eqb}
@@ -226,3 +226,24 @@ plain-mine frame x e = rw (lies-plain frame e)
 pub tiled-mine : (frame : Frame) (x : ℕ) → liesTiled frame ≡ true → mine (layoutOf frame) x ≡ true
 unfolding mine
 tiled-mine frame x e = rw (lies-tiled frame e)
+
+-- of tests one of which holds, the other where the one does not
+or-other : (a b : Bool) → a || b ≡ true → b ≡ false → a ≡ true
+or-other true b e f = refl
+or-other false b e f = sym f ∙ e
+
+-- in rows and in tiles, how far apart those of the first row lie, and that the memory has every column
+module _ (frame : Frame) (x : ℕ) (e : liesPlain frame || liesTiled frame ≡ true) where
+  pub along-place : (y : ℕ) → placeOf frame 0 y + cond (liesTiled frame) (alongTiles x) x ≡ placeOf frame x y
+  along-place y = go (liesTiled frame) refl
+    where
+      go : (b : Bool) → liesTiled frame ≡ b → placeOf frame 0 y + cond b (alongTiles x) x ≡ placeOf frame x y
+      go true t = place-along frame x y t
+      go false t = place-beside frame 0 y x (or-other (liesPlain frame) (liesTiled frame) e t) ∙ ap (λ (n : ℕ). placeOf frame n y) (zero-add x)
+
+  pub whole-mine : mine (layoutOf frame) x ≡ true
+  whole-mine = go (liesTiled frame) refl
+    where
+      go : (b : Bool) → liesTiled frame ≡ b → mine (layoutOf frame) x ≡ true
+      go true t = tiled-mine frame x t
+      go false t = plain-mine frame x (or-other (liesPlain frame) (liesTiled frame) e t)

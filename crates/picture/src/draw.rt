@@ -1,6 +1,6 @@
 // What figures are drawn with: a pixel, and a run of pixels of one row.
 ghost use mathlib.Core.Path.{_≡_};
-ghost use mathlib.Core.Bool.{true, false};
+ghost use mathlib.Core.Bool.{true, false, _||_};
 ghost use Prim.Native.Nat.{_+_, _*_, _≤_, _<_, min};
 ghost use lib.ListN.{length};
 ghost use Rattle.picture.specs.Draw.{placed, shown, spanOffers};
@@ -18,7 +18,7 @@ use crate::pixel::is_masked;
 use crate::pixel::is_offered;
 use crate::pixel::is_shown;
 use crate::pixel::put_at;
-use crate::place::along_tiles;
+use crate::place::along;
 use crate::place::has_row;
 use crate::place::lies_plain;
 use crate::place::lies_tiled;
@@ -87,7 +87,7 @@ fn draw_one(
     n
 }
 
-// The pixels of a row in use from column lo up to and without hi, which is no more than the line length, where they lie side by side.
+// The pixels of a row in use from column lo up to and without hi, which is no more than the line length, in rows or in tiles.
 fn fill(
     pen: Pen,
     kind: Kind,
@@ -99,11 +99,12 @@ fn fill(
     im: &mut [u16],
     zm: &mut [u16],
 ) -> u64
-    requires { ⌜ (lo < hi) × (hi ≤ pen .frame .line) × (y < rowsOf (pen .frame) (length (now im)) (length (now zm))) × (liesPlain (pen .frame) ≡ true) ⌝ }
+    requires { ⌜ (lo < hi) × (hi ≤ pen .frame .line) × (y < rowsOf (pen .frame) (length (now im)) (length (now zm))) × ((liesPlain (pen .frame) || liesTiled (pen .frame)) ≡ true) ⌝ }
     ensures { λ r. ⌜ Draws pen (λ rows. spanOffers pen rows kind lo hi y i z) im zm 0 r ⌝ }
 {
     let frame = pen.frame;
-    let base = place(frame, lo, y);
+    let tiled = lies_tiled(frame);
+    let base = place(frame, 0, y);
     let count = hi - lo;
     let mut ki = i.first;
     let mut kz = z.first;
@@ -115,7 +116,7 @@ fn fill(
             kind,
             lo + j,
             y,
-            base + (j as usize),
+            base + along(tiled, lo + j),
             whole(ki),
             whole(kz),
             im,
@@ -127,48 +128,6 @@ fn fill(
         j += 1;
     }
     n
-}
-
-// The same as `fill` where pixels lie in tiles.
-fn fill_tiled(
-    pen: Pen,
-    kind: Kind,
-    lo: u16,
-    hi: u16,
-    y: u16,
-    i: Carried,
-    z: Carried,
-    im: &mut [u16],
-    zm: &mut [u16],
-) -> u64
-    requires { ⌜ (lo < hi) × (hi ≤ pen .frame .line) × (y < rowsOf (pen .frame) (length (now im)) (length (now zm))) × (liesTiled (pen .frame) ≡ true) ⌝ }
-    ensures { λ r. ⌜ Draws pen (λ rows. spanOffers pen rows kind lo hi y i z) im zm 0 r ⌝ }
-{
-    let frame = pen.frame;
-    let base = place(frame, 0, y);
-    let count = hi - lo;
-    let mut ki = i.first;
-    let mut kz = z.first;
-    let mut j: u16 = 0;
-    let mut passed: u64 = 0;
-    while j < count {
-        passed = draw_one(
-            pen,
-            kind,
-            lo + j,
-            y,
-            base + along_tiles(lo + j),
-            whole(ki),
-            whole(kz),
-            im,
-            zm,
-            passed,
-        );
-        ki = std::num::wrapping_add_u64(ki, i.add);
-        kz = std::num::wrapping_add_u64(kz, z.add);
-        j += 1;
-    }
-    passed
 }
 
 // So many pixels of a row in use that a unit has, from its column x on: each so many columns on, and side by side.
@@ -257,11 +216,8 @@ fn fill_row(
     ensures { λ r. ⌜ Draws pen (λ rows. spanOffers pen rows kind lo hi y i z) im zm 0 r ⌝ }
 {
     let frame = pen.frame;
-    if lies_plain(frame) {
+    if lies_plain(frame) | lies_tiled(frame) {
         return fill(pen, kind, lo, hi, y, i, z, im, zm);
-    }
-    if lies_tiled(frame) {
-        return fill_tiled(pen, kind, lo, hi, y, i, z, im, zm);
     }
     fill_shared(pen, kind, lo, hi, y, i, z, im, zm)
 }

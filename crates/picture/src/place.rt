@@ -1,6 +1,6 @@
 // Where pixels lie in the lent memories.
 ghost use mathlib.Core.Path.{_≡_};
-ghost use mathlib.Core.Bool.{true};
+ghost use mathlib.Core.Bool.{true, cond};
 ghost use Prim.Native.Nat.{_*_, _≤_, _<_, min, max};
 ghost use lib.Dec.{ltb};
 ghost use Rattle.picture.specs.Place.{tiled, liesPlain, liesTiled, waysOf, layoutOf, spotOf, placeOf, isWhole, widthOf, rowsIn, rowsOf, mine, inMemory};
@@ -160,6 +160,13 @@ pub(crate) fn along_tiles(x: u16) -> usize
     ensures { λ r. ⌜ (r ≡ alongTiles x) × (r ≤ 262143) ⌝ }
 {
     (x as usize) + 12 * ((x / 4) as usize)
+}
+
+// The same in rows or in tiles. It is a choice and no branch.
+pub(crate) fn along(tiled: bool, x: u16) -> usize
+    ensures { λ r. ⌜ (r ≡ cond tiled (alongTiles x) x) × (r ≤ 262143) ⌝ }
+{
+    if tiled { along_tiles(x) } else { x as usize }
 }
 
 // The place of pixel (x, y).
