@@ -67,12 +67,14 @@ whole-requires-2 c κs = search needs
 
 draw-one-requires : tie.Need-draw-one-requires Inv-loop μ-loop
 draw-one-requires c κs =
-    let l = c .before .before .before .before .before .before in
+    let at-along = c .before .before .before .before in
+    let in-loop = at-along .before in
+    let l = in-loop .before in
     let s = l .before .before .before .before .before .before in
     let a = s .args in
     let k = l .loop in
-    let h : a .lo + k .j < a .pen .frame .line = omega (arith, k .inv .1, c .before .before .before .before .before .loop-test .taken, s .pre .0, s .pre .1) in
-    let e = ap₂ (λ (m n : ℕ). m + n) (k .inv .2) (c .before .before .before .before .along .ensures .0 ∙ ap (λ (b : Bool). cond b (alongTiles (a .lo + k .j)) (a .lo + k .j)) (k .inv .4)) ∙ along-place (a .pen .frame) (a .lo + k .j) (s .pre .3) (a .y) in
+    let h : a .lo + k .j < a .pen .frame .line = omega (arith, k .inv .1, in-loop .loop-test .taken, s .pre .0, s .pre .1) in
+    let e = ap₂ (λ (m n : ℕ). m + n) (k .inv .2) (at-along .along .ensures .0 ∙ ap (λ (b : Bool). cond b (alongTiles (a .lo + k .j)) (a .lo + k .j)) (k .inv .4)) ∙ along-place (a .pen .frame) (a .lo + k .j) (s .pre .3) (a .y) in
     let below = place-below (a .pen .frame) (length (a .im .now)) (length (a .zm .now)) (a .lo + k .j) (a .y)
     (inside-of (a .pen .frame) (rowsOf (a .pen .frame) (length (a .im .now)) (length (a .zm .now))) (a .lo + k .j) (a .y) h (s .pre .2) (whole-mine (a .pen .frame) (a .lo + k .j) (s .pre .3))) in
     (e, omega (arith, e, below .0, reached-i (k .inv .7)), omega (arith, e, below .1, reached-z (k .inv .7)), omega (arith, k .inv .3, k .inv .0, k .inv .1))
@@ -91,13 +93,16 @@ loop-less c = search needs
 
 loop-again : tie.Need-loop-again Inv-loop μ-loop
 loop-again c =
+    let at-whole2 = c .before .before .before .before .before .before .before .before .before in
+    let at-whole = at-whole2 .before in
+    let in-loop = at-whole .before .before in
     let d = c .before .before .before .before .before .before in
-    let l = c .before .before .before .before .before .before .before .before .before .before .before .before .before in
+    let l = in-loop .before in
     let s = l .before .before .before .before .before .before in
     let a = s .args in
     let k = l .loop in
     let rows = rowsOf (a .pen .frame) (length (a .im .now)) (length (a .zm .now)) in (
-      omega (arith, c .before .before .before .before .before .before .before .before .before .before .before .before .loop-test .taken),
+      omega (arith, in-loop .loop-test .taken),
       k .inv .1,
       k .inv .2,
       omega (arith, k .inv .3, d .draw-one .ensures .1),
@@ -105,8 +110,8 @@ loop-again c =
       carried-next (a .i .first) (a .i .add) (k .j) _ (k .ki) (k .inv .5) (c .before .wrapping-add-u64 .ensures),
       carried-next (a .z .first) (a .z .add) (k .j) _ (k .kz) (k .inv .6) (c .wrapping-add-u642 .ensures),
       reached-more (k .inv .7)
-          (row-turn (a .pen) rows (a .kind) (a .lo) (a .y) (a .i) (a .z) (k .j) (picture (k .im) (k .zm) (k .n)) (inside-of (a .pen .frame) rows (a .lo + k .j) (a .y) (omega (arith, k .inv .1, c .before .before .before .before .before .before .before .before .before .before .before .before .loop-test .taken, s .pre .0, s .pre .1)) (s .pre .2) (whole-mine (a .pen .frame) (a .lo + k .j) (s .pre .3)))
-          (c .before .before .before .before .before .before .before .before .before .before .whole .ensures ∙ carried-at (a .i) (k .j) (k .ki) (k .inv .5)) (c .before .before .before .before .before .before .before .before .before .whole2 .ensures ∙ carried-at (a .z) (k .j) (k .kz) (k .inv .6)) (d .draw-one .ensures .0)),
+          (row-turn (a .pen) rows (a .kind) (a .lo) (a .y) (a .i) (a .z) (k .j) (picture (k .im) (k .zm) (k .n)) (inside-of (a .pen .frame) rows (a .lo + k .j) (a .y) (omega (arith, k .inv .1, in-loop .loop-test .taken, s .pre .0, s .pre .1)) (s .pre .2) (whole-mine (a .pen .frame) (a .lo + k .j) (s .pre .3)))
+          (at-whole .whole .ensures ∙ carried-at (a .i) (k .j) (k .ki) (k .inv .5)) (at-whole2 .whole2 .ensures ∙ carried-at (a .z) (k .j) (k .kz) (k .inv .6)) (d .draw-one .ensures .0)),
     )
 
 same-length : tie.Need-same-length Inv-loop μ-loop

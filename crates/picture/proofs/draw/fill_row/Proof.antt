@@ -14,8 +14,9 @@ lies-tiled-requires c κs = search needs
 
 fill-requires : tie.Need-fill-requires
 fill-requires c κs =
-    let p = c .before .before .before .before .before .before .before .before .pre in
-    (p .0, p .1, p .2, sym (ap₂ (λ (a b : Bool). a || b) (c .before .before .before .before .lies-plain .ensures) (c .before .before .before .lies-tiled .ensures)) ∙ c .before .before .if1 .taken)
+    let at-lies-plain = c .before .before .before .before in
+    let p = at-lies-plain .before .before .before .before .pre in
+    (p .0, p .1, p .2, sym (ap₂ (λ (a b : Bool). a || b) (at-lies-plain .lies-plain .ensures) (c .before .before .before .lies-tiled .ensures)) ∙ c .before .before .if1 .taken)
 
 same-length : tie.Need-same-length
 same-length c = search needs
@@ -28,8 +29,9 @@ returns c = search needs
 
 fill-shared-requires : tie.Need-fill-shared-requires
 fill-shared-requires c κs =
-    let p = c .before .before .before .before .before .before .before .before .pre in
-    let none = or-none _ _ (sym (ap₂ (λ (a b : Bool). a || b) (c .before .before .before .before .lies-plain .ensures) (c .before .before .before .lies-tiled .ensures)) ∙ c .before .before .if1 .left) in
+    let at-lies-plain = c .before .before .before .before in
+    let p = at-lies-plain .before .before .before .before .pre in
+    let none = or-none _ _ (sym (ap₂ (λ (a b : Bool). a || b) (at-lies-plain .lies-plain .ensures) (c .before .before .before .lies-tiled .ensures)) ∙ c .before .before .if1 .left) in
     (p .0, p .1, p .2, none .0, none .1)
 
 same-length-3 : tie.Need-same-length-3
