@@ -28,21 +28,13 @@ put-numbers-requires c κs =
     omega (arith, roomy (length (start .args .out .now)) 76 (start .args .at) (at-has-room .has-room .ensures) (at-if1 .if1 .left), length-traced (start .args .t))
 
 put-numbers-requires-2 : tie.Need-put-numbers-requires-2
-put-numbers-requires-2 c κs =
-    let at-if1 = c .before .before .before .before .before .before .before .before .before in
-    let at-has-room = at-if1 .before in
-    let start = at-has-room .before .before in
-    omega (arith, roomy (length (start .args .out .now)) 76 (start .args .at) (at-has-room .has-room .ensures) (at-if1 .if1 .left), length-traced (start .args .t), length-numbers (start .args .before))
+put-numbers-requires-2 c κs = omega (arith, roomy (length (c .before .before .before .before .before .before .before .before .before .before .before .before .args .out .now)) 76 (c .before .before .before .before .before .before .before .before .before .before .before .before .args .at) (c .before .before .before .before .before .before .before .before .before .before .has-room .ensures) (c .before .before .before .before .before .before .before .before .before .if1 .left), length-traced (c .before .before .before .before .before .before .before .before .before .before .before .before .args .t), length-numbers (c .before .before .before .before .before .before .before .before .before .before .before .before .args .before))
 
 slice-aggregate-put-part : tie.Need-slice-aggregate-put-part
 slice-aggregate-put-part c = search needs
 
 put-part-requires : tie.Need-put-part-requires
-put-part-requires c κs =
-    let at-if1 = c .before .before .before .before .before .before .before .before .before .before .before .before .before .before in
-    let at-has-room = at-if1 .before in
-    let start = at-has-room .before .before in
-    (omega arith, omega (arith, roomy (length (start .args .out .now)) 76 (start .args .at) (at-has-room .has-room .ensures) (at-if1 .if1 .left), length-traced (start .args .t), length-numbers (start .args .before), length-numbers (start .args .after)))
+put-part-requires c κs = (omega arith, omega (arith, roomy (length (c .before .before .before .before .before .before .before .before .before .before .before .before .before .before .before .before .before .args .out .now)) 76 (c .before .before .before .before .before .before .before .before .before .before .before .before .before .before .before .before .before .args .at) (c .before .before .before .before .before .before .before .before .before .before .before .before .before .before .before .has-room .ensures) (c .before .before .before .before .before .before .before .before .before .before .before .before .before .before .if1 .left), length-traced (c .before .before .before .before .before .before .before .before .before .before .before .before .before .before .before .before .before .args .t), length-numbers (c .before .before .before .before .before .before .before .before .before .before .before .before .before .before .before .before .before .args .before), length-numbers (c .before .before .before .before .before .before .before .before .before .before .before .before .before .before .before .before .before .args .after)))
 
 same-length : tie.Need-same-length
 same-length c = search needs
