@@ -73,6 +73,14 @@ bandEnd (share ways unit) y = y + 1
 abbrev pub alongTiles : ℕ → ℕ
 alongTiles x = x + 12 * (x / 4)
 
+-- a row's pixels from column lo up to and without hi lie inside memories of two lengths, in tiles; base is the row's first place
+pub record FitsTiles (base lo hi ni nz : ℕ) : Type 0 where
+  pub some : lo < hi
+  pub few : hi ≤ 65532
+  pub low : base ≤ 4294967295
+  pub i : base + alongTiles (hi - 1) < ni
+  pub z : base + alongTiles (hi - 1) < nz
+
 -- ---- what a unit of a board has of a row
 
 -- the frame is that of a unit of so many, two or four

@@ -6,7 +6,7 @@ ghost use lib.ListN.{length};
 ghost use Rattle.picture.specs.declared.Kind.the-variants.{Gouraud};
 ghost use Rattle.picture.specs.Draw.{carriedOne, isPlain, nearerPen, spanOffers};
 ghost use Rattle.picture.specs.Place.{liesPlain, liesTiled, rowsOf};
-ghost use Rattle.picture.specs.Loops.{alongTiles, nearerAt, Runs, Fits, Beside};
+ghost use Rattle.picture.specs.Loops.{alongTiles, nearerAt, Runs, Fits, FitsTiles, Beside};
 ghost use Rattle.picture.specs.Picture.{picture};
 ghost use Rattle.picture.specs.Lent.{Draws};
 use crate::Carried;
@@ -139,7 +139,7 @@ fn draw_tiled(
     im: &mut [u16],
     zm: &mut [u16],
 ) -> u64
-    requires { ⌜ (lo < hi) × (hi ≤ 65532) × (base ≤ 4294967295) × (base + alongTiles (hi - 1) < length (now im)) × (base + alongTiles (hi - 1) < length (now zm)) ⌝ }
+    requires { ⌜ FitsTiles base lo hi (length (now im)) (length (now zm)) ⌝ }
     ensures { λ r. ⌜ Runs (λ j. base + alongTiles (lo + j)) i z (hi - lo) im zm 0 r ⌝ }
 {
     let wide_i = four_times(i.add);
@@ -170,6 +170,33 @@ fn draw_tiled(
         }
     }
     passed
+}
+
+// The same, and the loop is compiled once more for numbers to which nothing is added.
+fn draw_tiles(
+    base: usize,
+    lo: u16,
+    hi: u16,
+    i: Carried,
+    z: Carried,
+    im: &mut [u16],
+    zm: &mut [u16],
+) -> u64
+    requires { ⌜ FitsTiles base lo hi (length (now im)) (length (now zm)) ⌝ }
+    ensures { λ r. ⌜ Runs (λ j. base + alongTiles (lo + j)) i z (hi - lo) im zm 0 r ⌝ }
+{
+    if (i.add == 0) & (z.add == 0) {
+        let steady_i = Carried {
+            first: i.first,
+            add: 0,
+        };
+        let steady_z = Carried {
+            first: z.first,
+            add: 0,
+        };
+        return draw_tiled(base, lo, hi, steady_i, steady_z, im, zm);
+    }
+    draw_tiled(base, lo, hi, i, z, im, zm)
 }
 
 // What a unit of a board has of a row from column lo up to and without hi: each of two or four columns, which lie side by side.
@@ -234,7 +261,7 @@ fn draw_row(
 {
     if lies_tiled(frame) {
         let base = place(frame, 0, y);
-        return draw_tiled(base, lo, hi, i, z, im, zm);
+        return draw_tiles(base, lo, hi, i, z, im, zm);
     }
     let run = run_of(frame, lo, hi, y, i, z);
     draw_beside(run, im, zm)

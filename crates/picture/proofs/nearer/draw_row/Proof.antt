@@ -15,15 +15,15 @@ lies-tiled-requires c κs = search needs
 place-requires : tie.Need-place-requires
 place-requires c κs = search needs
 
-draw-tiled-requires : tie.Need-draw-tiled-requires
-draw-tiled-requires c κs =
+draw-tiles-requires : tie.Need-draw-tiles-requires
+draw-tiles-requires c κs =
     let at-lies-tiled = c .before .before .before .before in
     let s = at-lies-tiled .before .before .before in
     let a = s .args in
     let lies = sym (at-lies-tiled .lies-tiled .ensures) ∙ c .before .before .before .if1 .taken in
     let base = c .before .before .place .ensures in
     let t = tiled-fits (a .frame) (a .lo) (a .hi) (a .y) (a .i) (a .z) (s .pre .0) (s .pre .1) lies (base .0) (length (a .im .now)) (length (a .zm .now)) (s .pre .2) (omega arith) in
-    (s .pre .0, t .0, base .1, t .1, t .2)
+    record { some = s .pre .0; few = t .0; low = base .1; i = t .1; z = t .2 }
 
 same-length : tie.Need-same-length
 same-length c = search needs
@@ -33,14 +33,14 @@ same-length-2 c = search needs
 
 returns : tie.Need-returns
 returns c =
-    let at-draw-tiled = c .before .before .before .before in
-    let at-place = at-draw-tiled .before .before .before in
+    let at-draw-tiles = c .before .before .before .before in
+    let at-place = at-draw-tiles .before .before .before in
     let at-if1 = at-place .before in
     let at-lies-tiled = at-if1 .before in
     let s = at-lies-tiled .before .before .before in
     let a = s .args in
     let lies = sym (at-lies-tiled .lies-tiled .ensures) ∙ at-if1 .if1 .taken in
-    at-draw-tiled .draw-tiled .ensures
+    at-draw-tiles .draw-tiles .ensures
     ∙ tiled-run (a .frame) (a .lo) (a .hi) (a .y) (a .i) (a .z) (s .pre .0) (s .pre .1) lies (at-place .place .ensures .0)
     (rowsOf (a .frame) (length (a .im .now)) (length (a .zm .now))) (s .pre .2) (picture (a .im .now) (a .zm .now) 0)
 
@@ -75,7 +75,7 @@ draw-row-spec =
     (tie.spec
     lies-tiled-requires
     place-requires
-    draw-tiled-requires
+    draw-tiles-requires
     same-length
     same-length-2
     returns

@@ -34,7 +34,7 @@ loop-holds c =
     let a = start .args in
     let none : a .lo - a .lo ≡ 0 = omega arith in (
       omega arith,
-      omega (arith, start .pre .0),
+      omega (arith, start .pre .some),
       omega arith,
       c .before .four-times .ensures,
       c .four-times2 .ensures,
@@ -61,10 +61,10 @@ draw-four-requires c κs =
     let even = eqb-true (k .x % 4) 0 (test .0) in
     let room = leb-true (k .x + 4) (a .hi) (test .1) in
     let along = c .before .before .along-tiles .ensures in (
-      omega (arith, along .0, even, room, s .pre .3, ran-i (k .inv .7)),
-      omega (arith, along .0, even, room, s .pre .4, ran-z (k .inv .7)),
-      omega (arith, along .1, s .pre .2),
-      omega (arith, k .inv .2, room, s .pre .1),
+      omega (arith, along .0, even, room, s .pre .i, ran-i (k .inv .7)),
+      omega (arith, along .0, even, room, s .pre .z, ran-z (k .inv .7)),
+      omega (arith, along .1, s .pre .low),
+      omega (arith, k .inv .2, room, s .pre .few),
     )
 
 wrapping-add-u64-requires : tie.Need-wrapping-add-u64-requires Inv-loop μ-loop
@@ -121,9 +121,9 @@ put-nearer-requires c κs =
     let k = c .before .before .before .before .before .before .before .loop in
     let before = c .before .before .before .before .before .before .loop-test .taken in
     let along = c .before .before .before .before .along-tiles2 .ensures in (
-      omega (arith, along .0, before, s .pre .3, ran-i (k .inv .7)),
-      omega (arith, along .0, before, s .pre .4, ran-z (k .inv .7)),
-      omega (arith, k .inv .2, before, s .pre .1),
+      omega (arith, along .0, before, s .pre .i, ran-i (k .inv .7)),
+      omega (arith, along .0, before, s .pre .z, ran-z (k .inv .7)),
+      omega (arith, k .inv .2, before, s .pre .few),
     )
 
 wrapping-add-u64-requires-3 : tie.Need-wrapping-add-u64-requires-3 Inv-loop μ-loop
