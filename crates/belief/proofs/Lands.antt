@@ -11,7 +11,7 @@ use Rattle.picture.specs.declared.Vertex.{Vertex}
 use Rattle.picture.specs.Offer.{Offer}
 use Rattle.picture.specs.Picture.{isDeep, passes, newI, newZ}
 use Rattle.picture.specs.Cell.{Cell, offerLeaves}
-use Rattle.picture.proofs.Places.{both}
+use Rattle.ground.proofs.Truth.{both}
 use Rattle.picture.proofs.Rows.{in-all-planes}
 use Rattle.picture.proofs.Members.{Numbers}
 use Rattle.triangle.specs.Offers.{kindOf as triangleKind}

@@ -29,7 +29,7 @@ use Rattle.registers.specs.Figure.{shapeOf, vertexOf, isDashed, advanced, grown
 use Rattle.registers.specs.Next.{coordinateOf, coordinateCompletes, accepted, completedBy, penOf}
 use Rattle.registers.specs.Allowed.{xFits, pxFits, fits}
 use Rattle.registers.specs.Refusal.{refusalOf}
-use Rattle.registers.proofs.Truth.{both}
+use Rattle.ground.proofs.Truth.{both}
 use Rattle.registers.proofs.Refusals.{accepted-when}
 use Rattle.registers.proofs.Effects.{parm-leaves}
 use Rattle.registers.proofs.Begun.{end-closes}

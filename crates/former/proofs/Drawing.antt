@@ -15,7 +15,7 @@ use Rattle.picture.specs.Place.{layoutOf, mine, inMemory}
 use Rattle.picture.specs.Offer.{Offer, offer, isMasked, inWindow, shows, offered, keep}
 use Rattle.picture.specs.Picture.{Picture, picture, passes, newI, newZ, stepAt, drawOne, drawn}
 use Rattle.picture.specs.Store.{Store, pixelFor, storedI, storedZ, stored, filled, storable}
-use Rattle.picture.proofs.Places.{same-test}
+use Rattle.ground.proofs.Truth.{same-test}
 use Rattle.picture.proofs.Offers.{window-in}
 use Rattle.picture.proofs.Spans.{spans-same, spans-stop}
 use Rattle.triangle.specs.Edge.{edgeAt, covers}

@@ -12,7 +12,8 @@ use Rattle.picture.specs.declared.Vertex.{Vertex}
 use Rattle.picture.specs.declared.Kind.{Kind}
 use Rattle.picture.specs.Place.{liesPlain, liesTiled, layoutOf, rowsOf, isWhole, mine, inMemory}
 use Rattle.picture.specs.Offer.{offer, inWindow, offered, isMasked, shows}
-use Rattle.picture.proofs.Places.{both, rows-whole, plain-mine, tiled-mine}
+use Rattle.ground.proofs.Truth.{both}
+use Rattle.picture.proofs.Places.{rows-whole, plain-mine, tiled-mine}
 use Rattle.picture.proofs.Offers.{window-in, window-of}
 use Rattle.picture.proofs.Rows.{shows-all}
 use Rattle.line.specs.declared.field.Field.{Field}

@@ -17,7 +17,8 @@ use Rattle.picture.specs.Place.{liesPlain, placeOf, rowsOf, inMemory}
 use Rattle.picture.specs.Offer.{Offer, offer, isMasked, inWindow, shows, offered, keep}
 use Rattle.picture.specs.Picture.{isDeep, comparedOf, wins, passes, inPlanes, newI, newZ, Picture, picture, stepAt, drawOne, drawn}
 use Rattle.picture.specs.Draw.{placed, shown, seen}
-use Rattle.picture.proofs.Places.{both, inside-parts, inside-of, plain-mine, place-below}
+use Rattle.ground.proofs.Truth.{both}
+use Rattle.picture.proofs.Places.{inside-parts, inside-of, plain-mine, place-below}
 use Rattle.picture.proofs.Fold.{drawn-passed}
 
 -- inside the window, the window asks nothing more

@@ -23,7 +23,7 @@ use Rattle.picture.specs.Offer.{Offer, offer, isMasked, shows}
 use Rattle.picture.specs.Picture.{isDeep, comparedOf, isEdge, wins, passes, inPlanes, newI, newZ, Picture, picture, stepAt, drawOne, drawn}
 use Rattle.picture.specs.Draw.{carriedOne, shown, seen, carriedTo, spanPixel, spanOffers, isPlain, nearerPen}
 use Rattle.picture.specs.Loops.{Plain, isNearer, nearerAt}
-use Rattle.picture.proofs.Places.{both}
+use Rattle.ground.proofs.Truth.{both}
 use Rattle.picture.proofs.Fold.{drawn-nil}
 use Rattle.picture.proofs.Spans.{spans-stop, spans-none, spans-alike}
 

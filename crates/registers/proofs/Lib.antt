@@ -1,4 +1,5 @@
 pub mod Begun
+pub mod Chains
 pub mod Commands
 pub mod Completing
 pub mod Effects
@@ -11,4 +12,3 @@ pub mod Parking
 pub mod Refusals
 pub mod Table
 pub mod Tidy
-pub mod Truth
