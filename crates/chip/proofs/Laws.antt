@@ -23,7 +23,7 @@ use Rattle.triangle.specs.Offers.{kindOf as triangleKind, cornersOf}
 use Rattle.triangle.specs.Loops.{Large}
 use Rattle.triangle.proofs.Members.{triangle-member, triangle-counts}
 use Rattle.triangle.proofs.Sizes.{Below, never-large}
-use Rattle.line.specs.Segment.{kindOf, larger}
+use Rattle.line.specs.Segment.{modeOf, kindOf, larger}
 use Rattle.line.proofs.Members.{segment-member, segment-counts}
 use Rattle.registers.specs.declared.Registers.{Registers}
 use Rattle.registers.specs.declared.word.Word.{Word}
@@ -52,7 +52,7 @@ use Rattle.machine.proofs.Steps.{step-either}
 use Rattle.machine.specs.Touched.{cellIn}
 use Rattle.machine.proofs.Touched.{step-above, run-above}
 use Rattle.machine.proofs.Kept.{step-shallow, run-off, run-invariant}
-use Rattle.chip.specs.Chip.{modeOf, isConstant, styleOf, wholeOffers, isCut, figureOffers, wordStores, chip}
+use Rattle.chip.specs.Chip.{isConstant, styleOf, wholeOffers, isCut, figureOffers, wordStores, chip}
 use Rattle.chip.proofs.Figures.{offers-held}
 
 -- ---- bounds

@@ -5,7 +5,6 @@ pub mod Completing
 pub mod Effects
 pub mod Enables
 pub mod Kept
-pub mod Keys
 pub mod Layouts
 pub mod Lengths
 pub mod Parking
