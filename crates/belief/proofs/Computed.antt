@@ -17,7 +17,7 @@ use Rattle.registers.specs.Record.{settings, resetOf}
 use Rattle.registers.specs.Subcommand.{subcommandOf}
 use Rattle.registers.specs.Word.{decode, wordOf}
 use Rattle.registers.specs.Figure.{shapeOf, grownOf, completes}
-use Rattle.registers.specs.Next.{effectOf, parmOf, coordinateOf, coordinateCompletes, accepted, completedBy}
+use Rattle.registers.specs.Next.{effectOf, parmOf, coordinateOf, coordinateCompletes, recordAfter, completedBy}
 use Rattle.registers.specs.Allowed.{initAllowed}
 use Rattle.registers.specs.Bounds.{frameFits, modesFit, windowFits, vertexFits, figureFits, parkedFits, regionFits, inBounds}
 use Rattle.registers.specs.Refusal.{refusalOf}
@@ -62,7 +62,7 @@ pub record Computed : Type 0 where
   pub farthest-edge-6 : Offers farthestEdge 512 6 (offer Line2 6 0 500 65535 ∷ [])
 
 pub computed : Computed
-unfolding scene outline farFirst wideFaces tiedLast tiedFirst farthestFace farthestEdge isAllOn isSupposed eachIn nextIn refusalOf inBounds frameFits modesFit windowFits vertexFits figureFits parkedFits regionFits initAllowed effectOf parmOf coordinateOf coordinateCompletes accepted completedBy shapeOf grownOf completes decode wordOf subcommandOf settings lineOf offersIn offersAt modeOf wholeOffers isCut figureOffers layoutOf spotOf placeOf isWhole rowsIn rowsOf mine inMemory inWindow offered keep spans there plusOf minusOf closed inside covers mixed shade pixelAt pixelOffers triangleOffers larger smaller xLeads sideAt xAt yAt numberAt shadeOffers segmentOffers
+unfolding scene outline farFirst wideFaces tiedLast tiedFirst farthestFace farthestEdge isAllOn isSupposed eachIn nextIn refusalOf inBounds frameFits modesFit windowFits vertexFits figureFits parkedFits regionFits initAllowed effectOf parmOf coordinateOf coordinateCompletes recordAfter completedBy shapeOf grownOf completes decode wordOf subcommandOf settings lineOf offersIn offersAt modeOf wholeOffers isCut figureOffers layoutOf spotOf placeOf isWhole rowsIn rowsOf mine inMemory inWindow offered keep spans there plusOf minusOf closed inside covers mixed shade pixelAt pixelOffers triangleOffers larger smaller xLeads sideAt xAt yAt numberAt shadeOffers segmentOffers
 computed =
     record {
       scene-meets = refl;

@@ -23,7 +23,7 @@ use Rattle.registers.specs.Lines.{codeIn, lineOf}
 use Rattle.registers.specs.Record.{noVertex, settings, resetAs}
 use Rattle.registers.specs.Word.{commands, decode, wordOf}
 use Rattle.registers.specs.Figure.{shapeOf, vertexOf, isPair, grownOf, figureAfter}
-use Rattle.registers.specs.Next.{parmOf, coordinateOf, accepted, completedBy}
+use Rattle.registers.specs.Next.{parmOf, coordinateOf, recordAfter, completedBy}
 use Rattle.registers.specs.Refusal.{refusalOf}
 use Rattle.ground.proofs.Truth.{either}
 use Rattle.registers.proofs.Table.{everywhere}
@@ -117,8 +117,8 @@ module _ (r : Registers) (s : Small r) where
       }
 
   -- words keep it so
-  pub after-small : (w : Word) → Narrow w → Small (accepted r w)
-  unfolding accepted
+  pub after-small : (w : Word) → Narrow w → Small (recordAfter r w)
+  unfolding recordAfter
   after-small (Init d) h = settings-small 1 (frameOf (lineOf (codeIn d)) (r .frame .layout))
   after-small (Aux n) h = record { i = s .i; z = s .z; figure = s .figure }
   after-small (Parm v) h = parm-small v

@@ -26,7 +26,7 @@ use Rattle.registers.specs.declared.shape.Shape.the-variants.{Closed}
 use Rattle.registers.specs.declared.shape.Completed.the-variants.{Nothing, Segment}
 use Rattle.registers.specs.Record.{isOn, invBit, endBit}
 use Rattle.registers.specs.Figure.{shapeOf, vertexOf, isDashed, advanced, grownOf, completes, figureAfter, vertexCompletes}
-use Rattle.registers.specs.Next.{coordinateOf, coordinateCompletes, accepted, completedBy, penOf}
+use Rattle.registers.specs.Next.{coordinateOf, coordinateCompletes, recordAfter, completedBy, penOf}
 use Rattle.registers.specs.Allowed.{xFits, pxFits, fits}
 use Rattle.registers.specs.Refusal.{refusalOf}
 use Rattle.ground.proofs.Truth.{both}
@@ -72,13 +72,13 @@ module _ (r : Registers) (n : ℕ) (line : InLine r) where
 module _ (r : Registers) where
   -- it leaves the figure and completes nothing
   record Still (w : Word) : Type 0 where
-    figure : accepted r w .figure ≡ r .figure
+    figure : recordAfter r w .figure ≡ r .figure
     completed : completedBy r w ≡ Nothing
 
   -- it ends a dashed segment at x
   record Ends (w : Word) : Type 0 where
     x : ℕ
-    figure : accepted r w .figure ≡ figureAfter r x
+    figure : recordAfter r w .figure ≡ figureAfter r x
     completed : completedBy r w ≡ vertexCompletes r x
     dashed : isDashed r ≡ true
     unclosed : shapeOf (r .figure .shape) ≢ Closed
@@ -91,7 +91,7 @@ module _ (r : Registers) where
   px-unclosed shape f c = false≢true (rw c at f)
 
   coordinate-either : (c : Coordinate) (n : ℕ) → coordinateDashes r c ≡ true → fits r (At c n) ≡ true → Still (At c n) ⊎ Ends (At c n)
-  unfolding accepted completedBy coordinateOf coordinateCompletes
+  unfolding recordAfter completedBy coordinateOf coordinateCompletes
   coordinate-either I n t f = inl (record { figure = refl; completed = refl })
   coordinate-either Z n t f = inl (record { figure = refl; completed = refl })
   coordinate-either Y n t f = inl (record { figure = refl; completed = refl })
@@ -103,7 +103,7 @@ module _ (r : Registers) where
 
   -- a word of a dashed line does one or the other, if it fits
   word-either : (w : Word) → isDashing r w ≡ true → fits r w ≡ true → Still w ⊎ Ends w
-  unfolding accepted completedBy
+  unfolding recordAfter completedBy
   word-either (Init d) t f = absurd (false≢true t)
   word-either (Aux n) t f = inl (record { figure = refl; completed = refl })
   word-either (Parm v) t f = inl (record { figure = parm-leaves r v .figure; completed = refl })
@@ -137,15 +137,15 @@ module _ (ni nz : ℕ) where
 
     -- an accepted word comes before what the rest offers and completes
     module _ (e : refusalOf ni nz r w ≡ 0) where
-      offers-more : offersAlong ni nz r (w ∷ ws) ≡ figureOffers (rowsOf (r .frame) ni nz) r (completedBy r w) ++ offersAlong ni nz (accepted r w) ws
+      offers-more : offersAlong ni nz r (w ∷ ws) ≡ figureOffers (rowsOf (r .frame) ni nz) r (completedBy r w) ++ offersAlong ni nz (recordAfter r w) ws
       unfolding offersAlong
       offers-more = rw (offers-accepted chip ni nz r w e, next-accepted chip ni nz r w e)
 
-      legs-more : legsAlong ni nz r (w ∷ ws) ≡ legsIn (rowsOf (r .frame) ni nz) r (completedBy r w) ++ legsAlong ni nz (accepted r w) ws
+      legs-more : legsAlong ni nz r (w ∷ ws) ≡ legsIn (rowsOf (r .frame) ni nz) r (completedBy r w) ++ legsAlong ni nz (recordAfter r w) ws
       unfolding legsAlong
       legs-more = rw (eq-eqb _ _ e, next-accepted chip ni nz r w e)
 
-      each-more : AllDashing r (w ∷ ws) → (isDashing r w ≡ true) × AllDashing (accepted r w) ws
+      each-more : AllDashing r (w ∷ ws) → (isDashing r w ≡ true) × AllDashing (recordAfter r w) ws
       each-more t = (rw (eq-eqb _ _ e) at each-parts t .0, rw (next-accepted chip ni nz r w e) at each-parts t .1)
 
     -- a refused one leaves the rest
@@ -164,8 +164,8 @@ module _ (ni nz : ℕ) where
     -- so a word is refused, or leaves the figure, or ends a segment
     word-cases : {A : Type 0} → AllDashing r (w ∷ ws)
         → (refusalOf ni nz r w ≢ 0 → AllDashing r ws → A)
-        → (refusalOf ni nz r w ≡ 0 → AllDashing (accepted r w) ws → Still r w → A)
-        → (refusalOf ni nz r w ≡ 0 → AllDashing (accepted r w) ws → Ends r w → A) → A
+        → (refusalOf ni nz r w ≡ 0 → AllDashing (recordAfter r w) ws → Still r w → A)
+        → (refusalOf ni nz r w ≡ 0 → AllDashing (recordAfter r w) ws → Ends r w → A) → A
     word-cases t refused still ends =
         zero-or-not (refusalOf ni nz r w)
         (λ e. let k = each-more e t in ⊎-elim (still e (k .1)) (ends e (k .1)) (word-either r w (k .0) (accepted-when ni nz r w .0 e .fitting)))
@@ -180,11 +180,11 @@ module _ (ni nz : ℕ) where
   closed-none [] r c t = (refl, refl)
   closed-none (w ∷ ws) r c t =
       word-cases r w ws t (λ e u. rw (offers-passed r w ws e, legs-passed r w ws e) (closed-none ws r c u))
-      (λ e u s. rw (offers-more r w ws e, legs-more r w ws e, s .completed) (closed-none ws (accepted r w) (same-shape (s .figure) ∙ c) u))
+      (λ e u s. rw (offers-more r w ws e, legs-more r w ws e, s .completed) (closed-none ws (recordAfter r w) (same-shape (s .figure) ∙ c) u))
       (λ e u d. absurd (d .unclosed c))
 
   -- a word that ends a dashed segment of an open line, and some words after it
-  module _ (r : Registers) (w : Word) (ws : List Word) (line : InLine r) (d : Ends r w) (u : AllDashing (accepted r w) ws) where
+  module _ (r : Registers) (w : Word) (ws : List Word) (line : InLine r) (d : Ends r w) (u : AllDashing (recordAfter r w) ws) where
     -- the segment is visible
     ends-shown : isOn invBit (r .modes .lstatus) ≡ false
     ends-shown = not-true _ (both (not (isOn invBit (r .modes .lstatus))) (leb (r .modes .lmode) 1) (d .dashed) .0)
@@ -196,15 +196,15 @@ module _ (ni nz : ℕ) where
         (leb-true _ _ (both (not (isOn invBit (r .modes .lstatus))) (leb (r .modes .lmode) 1) (d .dashed) .1))
 
     -- those behind it are joined to it; where it ends the line there are none
-    ends-rest : (InLine (accepted r w) → Drawn (accepted r w .figure) (accepted r w) ws) → Drawn (advanced true (r .figure) (vertexOf r (d .x))) (accepted r w) ws
+    ends-rest : (InLine (recordAfter r w) → Drawn (recordAfter r w .figure) (recordAfter r w) ws) → Drawn (advanced true (r .figure) (vertexOf r (d .x))) (recordAfter r w) ws
     unfolding segmentsOffers shapeOf
     ends-rest on = go (isOn endBit (r .modes .lstatus)) refl
       where
-        go : (end : Bool) → isOn endBit (r .modes .lstatus) ≡ end → Drawn (advanced true (r .figure) (vertexOf r (d .x))) (accepted r w) ws
-        go true e = let k = closed-none ws (accepted r w) (same-shape (d .figure ∙ end-closes r (d .x) line e)) u in rw (k .0, k .1) refl
+        go : (end : Bool) → isOn endBit (r .modes .lstatus) ≡ end → Drawn (advanced true (r .figure) (vertexOf r (d .x))) (recordAfter r w) ws
+        go true e = let k = closed-none ws (recordAfter r w) (same-shape (d .figure ∙ end-closes r (d .x) line e)) u in rw (k .0, k .1) refl
         go false e =
             let f = d .figure ∙ dashed-advances r (d .x) line (d .dashed) e in
-            on (same-shape f) ∙ ap (λ (f : Figure). legsFrom f (legsAlong ni nz (accepted r w) ws)) f
+            on (same-shape f) ∙ ap (λ (f : Figure). legsFrom f (legsAlong ni nz (recordAfter r w) ws)) f
 
   -- the words of a line offer its segments, one after the other
   along : (ws : List Word) (r : Registers) → InLine r → AllDashing r ws → Drawn (r .figure) r ws
@@ -214,36 +214,36 @@ module _ (ni nz : ℕ) where
       word-cases r w ws t (λ e u. rw (offers-passed r w ws e, legs-passed r w ws e) (along ws r line u))
       (λ e u s.
       rw (offers-more r w ws e, legs-more r w ws e, s .completed)
-      (along ws (accepted r w) (same-shape (s .figure) ∙ line) u ∙ ap (λ (f : Figure). legsFrom f (legsAlong ni nz (accepted r w) ws)) (s .figure)))
+      (along ws (recordAfter r w) (same-shape (s .figure) ∙ line) u ∙ ap (λ (f : Figure). legsFrom f (legsAlong ni nz (recordAfter r w) ws)) (s .figure)))
       (λ e u d.
       rw (offers-more r w ws e, legs-more r w ws e, d .completed, shown-completes r (d .x) line (ends-shown r w ws line d u))
       (ap₂ (λ (a b : List Offer). a ++ b)
       (ap (λ (s : Style). segmentOffers (penOf r) (rowsOf (r .frame) ni nz) s (r .figure .first) (vertexOf r (d .x))) (ends-style r w ws line d u))
-      (ends-rest r w ws line d u (λ l. along ws (accepted r w) l u))))
+      (ends-rest r w ws line d u (λ l. along ws (recordAfter r w) l u))))
 
 -- ---- a line
 
-lx-begins : (r : Registers) (n : ℕ) → Begun (accepted r (At Lx n))
-unfolding accepted coordinateOf
+lx-begins : (r : Registers) (n : ℕ) → Begun (recordAfter r (At Lx n))
+unfolding recordAfter coordinateOf
 lx-begins r n = record { steps = refl; dashed = refl }
 
 -- a segment advances the position, whatever it offers
-segment-advances : (r : Registers) (n : ℕ) → InLine r → isOn endBit (r .modes .lstatus) ≡ false → Advanced r n (accepted r (At Px n)) × Advanced r n (accepted r (At X n))
-unfolding accepted coordinateOf grownOf
+segment-advances : (r : Registers) (n : ℕ) → InLine r → isOn endBit (r .modes .lstatus) ≡ false → Advanced r n (recordAfter r (At Px n)) × Advanced r n (recordAfter r (At X n))
+unfolding recordAfter coordinateOf grownOf
 segment-advances r n line goes-on = rw (line, goes-on) (refl, refl)
 
 -- one that ends the line is completed
 segment-closes : (r : Registers) (n : ℕ) → InLine r → isOn invBit (r .modes .lstatus) ≡ false → isOn endBit (r .modes .lstatus) ≡ true
     → Closes r n (At Px n) × Closes r n (At X n)
-unfolding accepted completedBy coordinateOf coordinateCompletes
+unfolding recordAfter completedBy coordinateOf coordinateCompletes
 segment-closes r n line shown ends =
     let closes : Closes r n (At Px n) = (shown-completes r n line shown, end-closes r n line ends) in
     (closes, closes)
 
 -- from LX on, they are a whole line
-runs-on : (ni nz : ℕ) (r : Registers) (n : ℕ) (ws : List Word) → AllDashing ni nz (accepted r (At Lx n)) ws → RunsOn ni nz (vertexOf r n) (accepted r (At Lx n)) ws
-unfolding accepted coordinateOf shapeOf
-runs-on ni nz r n ws t = along ni nz ws (accepted r (At Lx n)) refl t ∙ line-whole (vertexOf r n) (legsAlong ni nz (accepted r (At Lx n)) ws)
+runs-on : (ni nz : ℕ) (r : Registers) (n : ℕ) (ws : List Word) → AllDashing ni nz (recordAfter r (At Lx n)) ws → RunsOn ni nz (vertexOf r n) (recordAfter r (At Lx n)) ws
+unfolding recordAfter coordinateOf shapeOf
+runs-on ni nz r n ws t = along ni nz ws (recordAfter r (At Lx n)) refl t ∙ line-whole (vertexOf r n) (legsAlong ni nz (recordAfter r (At Lx n)) ws)
 
 -- the pattern runs on through the bends of a line
 pub dashes : Dashes

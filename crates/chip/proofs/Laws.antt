@@ -34,7 +34,7 @@ use Rattle.registers.specs.declared.shape.Shape.the-variants.{Line}
 use Rattle.registers.specs.declared.subcommand.Subcommand.the-variants.{Hcontrol}
 use Rattle.registers.specs.Record.{isOn, invBit, iBit, zBit, resetAs}
 use Rattle.registers.specs.Figure.{shapeOf, vertexOf, completes, vertexCompletes}
-use Rattle.registers.specs.Next.{awaited, accepted, completedBy, penOf}
+use Rattle.registers.specs.Next.{awaited, recordAfter, completedBy, penOf}
 use Rattle.registers.specs.Lines.{shortestLine, longestLine, lineUnit}
 use Rattle.registers.specs.Bounds.{largestLayout, frameFits, inBounds}
 use Rattle.registers.specs.Refusal.{isInit, isParm, isPtrn, refusalOf}
@@ -192,15 +192,15 @@ abbrev pub Unset : Registers → Word → Memories → Type 0
 Unset r w m = isParm w ≡ true → awaited r ≡ Hcontrol → ⊥
 
 -- after INIT both are off
-pub init-disables : (r : Registers) (d : ℕ) → Disabled (accepted r (Init d))
+pub init-disables : (r : Registers) (d : ℕ) → Disabled (recordAfter r (Init d))
 init-disables r d = rw (hcontrol-init r d) (refl, refl)
 
 -- any other word but a parameter of HCONTROL leaves them
-disabled-kept : (r : Registers) (w : Word) → Disabled r → (isParm w ≡ true → awaited r ≡ Hcontrol → ⊥) → isInit w ≡ false → Disabled (accepted r w)
+disabled-kept : (r : Registers) (w : Word) → Disabled r → (isParm w ≡ true → awaited r ≡ Hcontrol → ⊥) → isInit w ≡ false → Disabled (recordAfter r w)
 disabled-kept r w off unset other =
     subst (λ (h : ℕ). (isOn iBit h ≡ false) × (isOn zBit h ≡ false)) (sym (hcontrol-alone r w unset other)) off
 
-disabled-after : (r : Registers) (w : Word) → Disabled r → (isParm w ≡ true → awaited r ≡ Hcontrol → ⊥) → Disabled (accepted r w)
+disabled-after : (r : Registers) (w : Word) → Disabled r → (isParm w ≡ true → awaited r ≡ Hcontrol → ⊥) → Disabled (recordAfter r w)
 disabled-after r (Init d) off unset = init-disables r d
 disabled-after r (Aux n) off unset = disabled-kept r (Aux n) off unset refl
 disabled-after r (Parm v) off unset = disabled-kept r (Parm v) off unset refl

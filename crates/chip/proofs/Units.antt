@@ -26,7 +26,7 @@ use Rattle.registers.specs.declared.word.Word.{Word}
 use Rattle.registers.specs.Lines.{lineUnit}
 use Rattle.registers.specs.Record.{laid}
 use Rattle.registers.specs.Bounds.{largestLayout}
-use Rattle.registers.specs.Next.{accepted as after, penOf}
+use Rattle.registers.specs.Next.{recordAfter, penOf}
 use Rattle.registers.specs.Refusal.{isInit, refusalOf}
 use Rattle.registers.proofs.Refusals.{accepted-when}
 use Rattle.registers.proofs.Layouts.{after-laid, number-laid, number-even}
@@ -256,13 +256,13 @@ module _ (ways n n′ : ℕ) (some : Ways ways) (r : Registers) (w : Word) (b : 
         abbrev left′ : Picture
         left′ = painted pen′ os ss m
 
-        unit-is : (u : ℕ) → u < ways → unitStep ways r w b u ≡ accepted (after (unit u) w) (left u)
+        unit-is : (u : ℕ) → u < ways → unitStep ways r w b u ≡ accepted (recordAfter (unit u) w) (left u)
         unit-is u l =
             step-accepted chip (unit u) w (b u) (number u l ∙ e)
-            ∙ ap₂ (λ (us : List Offer) (ts : List Store). accepted (after (unit u) w) (painted (pen u) us ts (b u))) (offers-unit u l) (stores-unit u l)
+            ∙ ap₂ (λ (us : List Offer) (ts : List Store). accepted (recordAfter (unit u) w) (painted (pen u) us ts (b u))) (offers-unit u l) (stores-unit u l)
 
-        one-is : oneStep r w m ≡ accepted (after one w) left′
-        one-is = step-accepted chip one w m e ∙ ap₂ (λ (us : List Offer) (ts : List Store). accepted (after one w) (painted pen′ us ts m)) offers-one stores-one
+        one-is : oneStep r w m ≡ accepted (recordAfter one w) left′
+        one-is = step-accepted chip one w m e ∙ ap₂ (λ (us : List Offer) (ts : List Store). accepted (recordAfter one w) (painted pen′ us ts m)) offers-one stores-one
 
         twins : (u : ℕ) → Twins (pen u) pen′
         twins u = pens-laid (unitLayout ways u) r

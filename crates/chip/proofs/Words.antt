@@ -11,7 +11,7 @@ use Rattle.registers.specs.declared.Registers.{Registers}
 use Rattle.registers.specs.declared.word.Word.{Word}
 use Rattle.registers.specs.declared.shape.Completed.{Completed}
 use Rattle.registers.specs.declared.shape.Completed.the-variants.{Nothing}
-use Rattle.registers.specs.Next.{accepted, completedBy}
+use Rattle.registers.specs.Next.{recordAfter, completedBy}
 use Rattle.registers.specs.Refusal.{refusalOf}
 use Rattle.picture.proofs.Stores.{filled-nil}
 use mathlib.Core.Path.{sym}
@@ -48,18 +48,18 @@ module _ (r : Registers) (w : Word) (i z : List ℕ) {word : Word} {n : ℕ} (is
   module _ (none : n ≡ 0) where
     -- an accepted word that stores nothing besides, with what it completed drawn
     pub word-drawn : {next : Registers} {figure : Completed} {i′ z′ : List ℕ} {p : ℕ} → wordStores (rowsOf (r .frame) (length i) (length z)) r word ≡ []
-        → figure ≡ completedBy r word → picture i′ z′ p ≡ figured r i z figure → next ≡ accepted r word
+        → figure ≡ completedBy r word → picture i′ z′ p ≡ figured r i z figure → next ≡ recordAfter r word
         → outcome 0 p next (memories i′ z′) ≡ stepOf chip r w (memories i z)
     word-drawn unstored completes drew next =
         told-accepted chip r w (memories i z) given none
         (drew ∙ ap (figured r i z) (completes ∙ ap (completedBy r) is)
         ∙ sym (ap (λ (ss : List Store). filled (penOf r) ss (figured r i z (completedBy r w))) (ap (wordStores rows r) (sym is) ∙ unstored)
         ∙ filled-nil (penOf r) (figured r i z (completedBy r w))))
-        (next ∙ ap (accepted r) is)
+        (next ∙ ap (recordAfter r) is)
 
     -- an accepted word that completes nothing
     pub word-quiet : {a : Answer} {next : Registers} → wordStores (rowsOf (r .frame) (length i) (length z)) r word ≡ [] → a ≡ told 0 next
-        → Nothing ≡ completedBy r word → next ≡ accepted r word
+        → Nothing ≡ completedBy r word → next ≡ recordAfter r word
         → answered a (memories i z) ≡ stepOf chip r w (memories i z)
     word-quiet unstored answer completes next =
         ap (λ (b : Answer). answered b (memories i z)) answer
@@ -67,11 +67,11 @@ module _ (r : Registers) (w : Word) (i z : List ℕ) {word : Word} {n : ℕ} (is
 
     -- an accepted word that completes nothing, with what it stores stored
     pub word-stored : {a : Answer} {next : Registers} {i′ z′ : List ℕ} → a ≡ told 0 next → Nothing ≡ completedBy r word
-        → picture i′ z′ 0 ≡ filled (penOf r) (wordStores (rowsOf (r .frame) (length i) (length z)) r word) (picture i z 0) → next ≡ accepted r word
+        → picture i′ z′ 0 ≡ filled (penOf r) (wordStores (rowsOf (r .frame) (length i) (length z)) r word) (picture i z 0) → next ≡ recordAfter r word
         → answered a (memories i′ z′) ≡ stepOf chip r w (memories i z)
     word-stored {i′ = i′} {z′ = z′} answer completes stores next =
         ap (λ (b : Answer). answered b (memories i′ z′)) answer
         ∙ told-accepted chip r w (memories i z) given none
         (stores
         ∙ ap₂ (filled (penOf r)) (ap (wordStores rows r) is) (nothing-drawn r i z ∙ ap (figured r i z) (completes ∙ ap (completedBy r) is)))
-        (next ∙ ap (accepted r) is)
+        (next ∙ ap (recordAfter r) is)

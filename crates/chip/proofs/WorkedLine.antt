@@ -9,7 +9,7 @@ use Rattle.registers.specs.Record.{settings}
 use Rattle.registers.specs.Subcommand.{subcommandOf}
 use Rattle.registers.specs.Word.{decode, wordOf}
 use Rattle.registers.specs.Figure.{shapeOf, grownOf, completes}
-use Rattle.registers.specs.Next.{effectOf, parmOf, coordinateOf, coordinateCompletes, accepted, completedBy}
+use Rattle.registers.specs.Next.{effectOf, parmOf, coordinateOf, coordinateCompletes, recordAfter, completedBy}
 use Rattle.registers.specs.Allowed.{initAllowed}
 use Rattle.registers.specs.Bounds.{frameFits, modesFit, windowFits, vertexFits, figureFits, parkedFits, regionFits, inBounds}
 use Rattle.registers.specs.Refusal.{refusalOf}
@@ -19,5 +19,5 @@ use Rattle.chip.specs.Dashes.{offersAlong}
 use Rattle.chip.specs.WorkedLine.{begun, WorkedLine}
 
 pub worked-line : WorkedLine
-unfolding begun offersAlong eachIn nextIn registersIn refusalOf inBounds frameFits modesFit windowFits vertexFits figureFits parkedFits regionFits initAllowed effectOf parmOf coordinateOf coordinateCompletes accepted completedBy shapeOf grownOf completes decode wordOf subcommandOf settings lineOf offersIn modeOf wholeOffers isCut figureOffers layoutOf isWhole rowsIn rowsOf mine inMemory inWindow shows offered keep spans larger smaller xLeads sideAt xAt yAt isSet firstOf from dashOffers segmentOffers
+unfolding begun offersAlong eachIn nextIn registersIn refusalOf inBounds frameFits modesFit windowFits vertexFits figureFits parkedFits regionFits initAllowed effectOf parmOf coordinateOf coordinateCompletes recordAfter completedBy shapeOf grownOf completes decode wordOf subcommandOf settings lineOf offersIn modeOf wholeOffers isCut figureOffers layoutOf isWhole rowsIn rowsOf mine inMemory inWindow shows offered keep spans larger smaller xLeads sideAt xAt yAt isSet firstOf from dashOffers segmentOffers
 worked-line = record { dashed = refl; offers = refl; closed = refl }

@@ -15,7 +15,7 @@ use Rattle.registers.specs.declared.word.Word.the-variants.{Init, Aux, Parm, At
 use Rattle.registers.specs.declared.shape.Completed.{Completed}
 use Rattle.registers.specs.declared.shape.Completed.the-variants.{Nothing, Triangle, Segment}
 use Rattle.registers.specs.Record.{isOn, sectionBit}
-use Rattle.registers.specs.Next.{accepted, completedBy, penOf, isDeepPicture}
+use Rattle.registers.specs.Next.{recordAfter, completedBy, penOf, isDeepPicture}
 use Rattle.registers.specs.Refusal.{refusalOf}
 use Rattle.machine.specs.Machine.{Machine}
 
@@ -74,7 +74,7 @@ chip =
       Registers = Registers;
       Word = Word;
       refusal = refusalOf;
-      next = accepted;
+      next = recordAfter;
       pen = penOf;
       offers = λ rows r w. figureOffers rows r (completedBy r w);
       stores = wordStores;

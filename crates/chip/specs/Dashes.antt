@@ -20,7 +20,7 @@ use Rattle.registers.specs.declared.shape.Completed.{Completed}
 use Rattle.registers.specs.declared.shape.Completed.the-variants.{Nothing, Triangle, Segment}
 use Rattle.registers.specs.Record.{isOn, invBit, endBit, patternLength, noFigure}
 use Rattle.registers.specs.Figure.{shapeOf, vertexOf, isDashed}
-use Rattle.registers.specs.Next.{accepted, completedBy, penOf}
+use Rattle.registers.specs.Next.{recordAfter, completedBy, penOf}
 use Rattle.registers.specs.Refusal.{refusalOf}
 use Rattle.machine.specs.Offers.{nextIn, offersIn, eachIn}
 use Rattle.chip.specs.Chip.{styleOf, chip}
@@ -99,7 +99,7 @@ Advanced r n s = s .figure .steps ≡ (r .figure .steps + larger (r .figure .fir
 
 -- a word completes the segment to a vertex, and no figure is open after it
 abbrev pub Closes : Registers → ℕ → Word → Type 0
-Closes r n w = (completedBy r w ≡ Segment (r .figure .first) (vertexOf r n)) × (accepted r w .figure ≡ noFigure)
+Closes r n w = (completedBy r w ≡ Segment (r .figure .first) (vertexOf r n)) × (recordAfter r w .figure ≡ noFigure)
 
 -- words offer one line from a vertex through the segments that they complete: step j uses bit 31 − (j mod 32), and a bend is one step
 abbrev pub RunsOn : ℕ → ℕ → Vertex → Registers → List Word → Type 0
@@ -108,13 +108,13 @@ RunsOn ni nz first r ws = offersAlong ni nz r ws ≡ lineOffers first (legsAlong
 -- how the pattern runs on through a line
 pub record Dashes : Type 0 where
   -- LX begins anew
-  pub begins : (r : Registers) (n : ℕ) → Begun (accepted r (At Lx n))
+  pub begins : (r : Registers) (n : ℕ) → Begun (recordAfter r (At Lx n))
   -- every segment that does not end the line advances the position, in each mode, visible or not
   pub advances : (r : Registers) (n : ℕ) → InLine r → isOn endBit (r .modes .lstatus) ≡ false
-      → Advanced r n (accepted r (At Px n)) × Advanced r n (accepted r (At X n))
+      → Advanced r n (recordAfter r (At Px n)) × Advanced r n (recordAfter r (At X n))
   -- a visible one that ends the line is completed as any other is, and the line is closed
   pub closes : (r : Registers) (n : ℕ) → InLine r → isOn invBit (r .modes .lstatus) ≡ false → isOn endBit (r .modes .lstatus) ≡ true
       → Closes r n (At Px n) × Closes r n (At X n)
   -- words after LX, whatever is set between the segments, are one line as long as all its segments are dashed; the last one may end it
-  pub whole : (ni nz : ℕ) (r : Registers) (n : ℕ) (ws : List Word) → eachIn chip isDashing ni nz (accepted r (At Lx n)) ws ≡ true
-      → RunsOn ni nz (vertexOf r n) (accepted r (At Lx n)) ws
+  pub whole : (ni nz : ℕ) (r : Registers) (n : ℕ) (ws : List Word) → eachIn chip isDashing ni nz (recordAfter r (At Lx n)) ws ≡ true
+      → RunsOn ni nz (vertexOf r n) (recordAfter r (At Lx n)) ws

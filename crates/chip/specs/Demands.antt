@@ -15,7 +15,7 @@ use Rattle.stream.specs.declared.Coded.{Coded}
 use Rattle.stream.specs.declared.Coded.the-variants.{Done}
 use Rattle.registers.specs.declared.Registers.{Registers}
 use Rattle.registers.specs.Word.{decode, wordOf}
-use Rattle.registers.specs.Next.{accepted, completedBy, penOf}
+use Rattle.registers.specs.Next.{recordAfter, completedBy, penOf}
 use Rattle.registers.specs.Refusal.{refusalOf}
 use Rattle.machine.specs.Run.{ran, runOf}
 use Rattle.machine.specs.Along.{Stopped}
@@ -86,7 +86,7 @@ pub record Demand1 : Type 0 where
 -- after an accepted word the registers, both memories and the count of pixels passed are those of document 01, and no other place is
 -- touched
 pub record Accepts (r : Registers) (command d : ℕ) (i z : List ℕ) (o : Stepped r command d i z) : Type 0 where
-  pub registers : o .registers ≡ accepted r (decode command d)
+  pub registers : o .registers ≡ recordAfter r (decode command d)
   pub drawing : picture (o .i-left) (o .z-left) (o .passed)
       ≡ filled (penOf r) (wordStores (rowsOf (r .frame) (length i) (length z)) r (decode command d))
       (drawn (penOf r) (figureOffers (rowsOf (r .frame) (length i) (length z)) r (completedBy r (decode command d))) (picture i z 0))

@@ -7,7 +7,7 @@ use Rattle.registers.specs.declared.word.Word.{Word}
 use Rattle.registers.specs.declared.shape.Shape.the-variants.{Line}
 use Rattle.registers.specs.Record.{isOn, sectionBit}
 use Rattle.registers.specs.Figure.{shapeOf}
-use Rattle.registers.specs.Next.{accepted, completedBy, penOf}
+use Rattle.registers.specs.Next.{recordAfter, completedBy, penOf}
 use Rattle.registers.specs.Refusal.{refusalOf}
 use Rattle.machine.specs.Machine.{Machine, Memories, stepOf}
 use Rattle.chip.specs.Chip.{isConstant, wholeOffers, isCut, wordStores, chip}
@@ -19,7 +19,7 @@ uncut =
       Registers = Registers;
       Word = Word;
       refusal = refusalOf;
-      next = accepted;
+      next = recordAfter;
       pen = penOf;
       offers = λ rows r w. wholeOffers rows r (completedBy r w);
       stores = wordStores;

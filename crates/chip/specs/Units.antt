@@ -14,7 +14,7 @@ use Rattle.registers.specs.declared.word.Word.{Word}
 use Rattle.registers.specs.Lines.{lineUnit}
 use Rattle.registers.specs.Record.{laid}
 use Rattle.registers.specs.Bounds.{largestLayout}
-use Rattle.registers.specs.Next.{accepted}
+use Rattle.registers.specs.Next.{recordAfter}
 use Rattle.registers.specs.Refusal.{isInit, isPtrn, refusalOf}
 use Rattle.machine.specs.Run.{Outcome}
 use Rattle.machine.specs.Machine.{Memories, Even, stepOf}
@@ -63,7 +63,7 @@ pub record Units : Type 0 where
   -- and over memories of whichever length, if both have one
   pub lengths : (n n′ : ℕ) (r : Registers) (w : Word) → refusalOf n n r w ≡ refusalOf n′ n′ r w
   -- it leaves the same record, but for the layout
-  pub next : (k : ℕ) (r : Registers) (w : Word) → accepted (laid k r) w ≡ laid k (accepted (laid 0 r) w)
+  pub next : (k : ℕ) (r : Registers) (w : Word) → recordAfter (laid k r) w ≡ laid k (recordAfter (laid 0 r) w)
   -- where as many rows are in use it offers what it offers over rows, of the columns that the layout has
   pub offers : (k rows : ℕ) (r : Registers) (w : Word)
       → chip .offers rows (laid k r) w ≡ heldBy (layoutOf (frameOf (r .frame .line) k)) (chip .offers rows (laid 0 r) w)

@@ -9,7 +9,7 @@ use Rattle.registers.specs.declared.Registers.{Registers}
 use Rattle.registers.specs.declared.word.Word.the-variants.{At}
 use Rattle.registers.specs.declared.word.Coordinate.the-variants.{Lx}
 use Rattle.registers.specs.Record.{resetOf, noFigure}
-use Rattle.registers.specs.Next.{accepted}
+use Rattle.registers.specs.Next.{recordAfter}
 use Rattle.registers.specs.Word.{wordOf}
 use Rattle.machine.specs.Offers.{registersIn, eachIn}
 use Rattle.chip.specs.Chip.{chip}
@@ -25,7 +25,7 @@ bentLine = 0xB0003 ∷ 0xE0001 ∷ 0xD0000 ∷ 0x30002 ∷ 0xB0003 ∷ 0xE0001 �
 
 -- the registers after LX at (0, 0)
 unfoldable pub begun : Registers
-begun = accepted (registersIn chip 1024 1024 resetOf (map wordOf setUp)) (At Lx 0)
+begun = recordAfter (registersIn chip 1024 1024 resetOf (map wordOf setUp)) (At Lx 0)
 
 -- its steps 0 to 7 have the bits 1 0 1 0, then 1 0, then 1 0: mode 1 offers foreground at set bits, mode 0 background at clear ones as well
 pub record WorkedLine : Type 0 where

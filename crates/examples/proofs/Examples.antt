@@ -29,7 +29,7 @@ use Rattle.registers.specs.declared.Registers.{Registers}
 use Rattle.registers.specs.Lines.{lineOf, codeIn, chipsIn, unitIn, pageIn}
 use Rattle.registers.specs.Word.{decode}
 use Rattle.registers.specs.Record.{settings}
-use Rattle.registers.specs.Next.{accepted}
+use Rattle.registers.specs.Next.{recordAfter}
 use Rattle.registers.specs.Allowed.{initAllowed}
 use Rattle.registers.specs.Bounds.{inBounds}
 use Rattle.registers.specs.Refusal.{refusalOf, next}
@@ -74,7 +74,7 @@ module _ (code top page : ℕ) (h : code < 64) (low : page ≤ 7) where
       go false = refl
 
   init-line : (n : ℕ) (r : Registers) → inBounds r ≡ true → eqb (lineOf code) 0 ≡ false → next n n r (decode 15 (initData top code page)) .frame .line ≡ lineOf code
-  unfolding next accepted decode settings
+  unfolding next recordAfter decode settings
   init-line n r e f = rw (init-number n r e, f) (ap lineOf code-found)
 
 code-refused : (code : ℕ) → code < 64 → eqb (lineOf code) 0 ≡ true → Says (codeGives code 9)

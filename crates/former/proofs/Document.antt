@@ -19,7 +19,7 @@ use Rattle.registers.specs.Lines.{lineOf}
 use Rattle.registers.specs.Record.{window, settings, resetOf, withWindow, initOf}
 use Rattle.registers.specs.Subcommand.{subcommandOf}
 use Rattle.registers.specs.Figure.{shapeOf}
-use Rattle.registers.specs.Next.{awaited, transferredOf, accepted}
+use Rattle.registers.specs.Next.{awaited, transferredOf, recordAfter}
 use Rattle.registers.specs.Allowed.{isBorder, parameterAllowed, allowed}
 use Rattle.registers.specs.Bounds.{frameFits, modesFit, windowFits, vertexFits, figureFits, parkedFits, regionFits, inBounds}
 use Rattle.registers.specs.Refusal.{isInit}
@@ -106,8 +106,8 @@ word-leaves ni nz r w e =
     let h = after-kept ni nz r w (t .now) in
     fit ni nz (former .next r w) (accepted-when ni nz r w .0 (t .now) .same) (go h (isInit w)) (inside-whole (former .next r w) (after-in r w (inside-parts r (t .bounds)) (t .word)))
   where
-    go : inBounds (accepted r w) ≡ true → (b : Bool) → inBounds (cond b (withWindow (accepted r w) formerWindow) (accepted r w)) ≡ true
-    go h true = narrowed (accepted r w) h
+    go : inBounds (recordAfter r w) ≡ true → (b : Bool) → inBounds (cond b (withWindow (recordAfter r w) formerWindow) (recordAfter r w)) ≡ true
+    go h true = narrowed (recordAfter r w) h
     go h false = h
 
 read-leaves : (ni nz : ℕ) (r : Registers) → wasReadRefused ni nz r ≡ 0 → wasUnfit ni nz (transferredOf r) ≡ false
@@ -121,16 +121,16 @@ cases : (n : ℕ)
     → (numberAfter n (Init 0 ∷ []) (At Y 8191) ≡ 0) × (numberAfter n (Init 0 ∷ []) (At Y 8192) ≡ 9)
     × (numberAfter n (Init 0 ∷ Aux 6 ∷ []) (Parm 8192) ≡ 0) × (numberAfter n (Init 0 ∷ Aux 6 ∷ []) (Parm 8193) ≡ 9)
     × (numberAfter n (Init 0 ∷ []) (At X 9000) ≡ 9)
-unfolding wasRefused wasAfter accepted settings lineOf subcommandOf shapeOf wasRecord wasWindow wasVertex wasRegion inBounds frameFits modesFit windowFits vertexFits figureFits parkedFits regionFits
+unfolding wasRefused wasAfter recordAfter settings lineOf subcommandOf shapeOf wasRecord wasWindow wasVertex wasRegion inBounds frameFits modesFit windowFits vertexFits figureFits parkedFits regionFits
 cases n = let like = eq-eqb n n refl in (rw like, rw like, rw like, rw like, rw like)
 
 -- ---- all of it
 
 init : (r : Registers) (d : ℕ) → former .next r (Init d) ≡ withWindow (initOf r d) (window 0 formerBorder formerBorder 0)
-unfolding wasAfter accepted
+unfolding wasAfter recordAfter
 init r d = refl
 
-next : (r : Registers) (w : Word) → isInit w ≡ false → former .next r w ≡ accepted r w
+next : (r : Registers) (w : Word) → isInit w ≡ false → former .next r w ≡ recordAfter r w
 unfolding wasAfter
 next r w e = rw e
 

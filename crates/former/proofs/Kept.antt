@@ -30,7 +30,7 @@ use Rattle.registers.specs.Record.{noVertex, nothingAwaited, regionOf, settings
 use Rattle.registers.specs.Region.{toward, moved, nextPixel}
 use Rattle.registers.specs.Subcommand.{subcommandOf, wants}
 use Rattle.registers.specs.Figure.{shapeOf, vertexOf, isPair, grownOf}
-use Rattle.registers.specs.Next.{value, awaited, effectOf, parmOf, coordinateOf, transferredOf, accepted}
+use Rattle.registers.specs.Next.{value, awaited, effectOf, parmOf, coordinateOf, transferredOf, recordAfter}
 use Rattle.ground.proofs.Truth.{and-both, either}
 use Rattle.registers.proofs.Chains.{All, chain-all, all-chain}
 use Rattle.registers.proofs.Parking.{came-each, came-more}
@@ -223,7 +223,7 @@ reset-in = first-in 0 _
 
 -- the record after a word within the former limits lies within them, if the one before it did
 pub after-in : (r : Registers) (w : Word) → Inside r → wasWord r w ≡ true → Inside (wasAfter r w)
-unfolding wasAfter accepted
+unfolding wasAfter recordAfter
 after-in r (Init d) s h = first-in 1 _
 after-in r (Aux n) s h = in-parked s _ refl
 after-in r (Parm v) s h = parm-in r v s h

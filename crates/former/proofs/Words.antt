@@ -15,7 +15,7 @@ use Rattle.registers.specs.declared.word.Coordinate.the-variants.{I, Z, Y, X, T
 use Rattle.registers.specs.declared.subcommand.Subcommand.{Subcommand}
 use Rattle.registers.specs.Record.{nothingAwaited, settings, withWindow, withParked}
 use Rattle.registers.specs.Subcommand.{wants}
-use Rattle.registers.specs.Next.{awaited, joinedOf, counted, effectOf, parmOf, coordinateOf, accepted}
+use Rattle.registers.specs.Next.{awaited, joinedOf, counted, effectOf, parmOf, coordinateOf, recordAfter}
 use Rattle.registers.specs.Allowed.{allowed, fits}
 use Rattle.registers.specs.Bounds.{windowFits}
 use Rattle.registers.specs.Refusal.{tableOf, table, isUnfit, refusalOf, readTable, readRefusalOf}
@@ -155,8 +155,8 @@ module _ (r : Registers) (v : Window) (h : Widened (r .window) v) where
   coordinate-alike Px n = record { window = h; rest = refl }
 
   -- the two records go on alike
-  pub after-alike : (w : Word) → Alike (wasAfter r w) (accepted (withWindow r v) w)
-  unfolding wasAfter accepted settings
+  pub after-alike : (w : Word) → Alike (wasAfter r w) (recordAfter (withWindow r v) w)
+  unfolding wasAfter recordAfter settings
   after-alike (Init d) = record { window = first refl refl; rest = refl }
   after-alike (Aux n) = record { window = h; rest = refl }
   after-alike (Parm n) = parm-alike n

@@ -12,7 +12,7 @@ use Rattle.registers.specs.declared.word.Coordinate.{Coordinate}
 use Rattle.registers.specs.declared.word.Coordinate.the-variants.{Y, X}
 use Rattle.registers.specs.declared.subcommand.Subcommand.the-variants.{Window, Load, Save}
 use Rattle.registers.specs.Record.{window, withWindow, resetOf, initOf}
-use Rattle.registers.specs.Next.{awaited, transferredOf, accepted}
+use Rattle.registers.specs.Next.{awaited, transferredOf, recordAfter}
 use Rattle.registers.specs.Allowed.{allowed}
 use Rattle.registers.specs.Refusal.{isInit}
 use Rattle.former.specs.Former.{formerCoordinate, formerBorder, formerRows, wasCoordinate, wasBorder, wasNumber, wasWord, wasUnfit, wasBarred, formerReset, wasRows, former, wasReadRefused}
@@ -29,7 +29,7 @@ pub record Document01 : Type 0 where
   -- "INIT sets: .. window from 0 to 8192 both ways", and reset too; all else, and what any other word does, is today's
   pub reset : formerReset ≡ withWindow resetOf (window 0 formerBorder formerBorder 0)
   pub init : (r : Registers) (d : ℕ) → former .next r (Init d) ≡ withWindow (initOf r d) (window 0 formerBorder formerBorder 0)
-  pub next : (r : Registers) (w : Word) → isInit w ≡ false → former .next r w ≡ accepted r w
+  pub next : (r : Registers) (w : Word) → isInit w ≡ false → former .next r w ≡ recordAfter r w
   -- 9: "Y, X, T1X, T2X, LX and PX take 0 to 8191"
   pub coordinates : (r : Registers) (c : Coordinate) (n : ℕ) → wasBarred r (At c n) ≡ not (wasNumber c n)
   -- "WINDOW: left, top, right, bottom, each at most 8192; then 0"

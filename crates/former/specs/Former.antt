@@ -19,7 +19,7 @@ use Rattle.registers.specs.declared.subcommand.Subcommand.{Subcommand}
 use Rattle.registers.specs.declared.subcommand.Subcommand.the-variants.{Nothing, Pmode, Lmode, Zcontrol, Hcontrol, Tpattern, Window as Win, Section, Color, Lpattern, Mask, Lstatus, Imode, Load, Save}
 use Rattle.registers.specs.Record.{window, withWindow, resetOf}
 use Rattle.registers.specs.Subcommand.{subcommandOf}
-use Rattle.registers.specs.Next.{awaited, isDeepPicture, transferredOf, accepted, completedBy, penOf}
+use Rattle.registers.specs.Next.{awaited, isDeepPicture, transferredOf, recordAfter, completedBy, penOf}
 use Rattle.registers.specs.Allowed.{allowed}
 use Rattle.registers.specs.Bounds.{eachCame}
 use Rattle.registers.specs.Refusal.{isInit, tableOf, lowest, isUnfit, readTable}
@@ -137,7 +137,7 @@ formerReset = withWindow resetOf formerWindow
 
 -- the record after an accepted word: today's, but for that window
 unfoldable pub wasAfter : Registers → Word → Registers
-wasAfter r w = cond (isInit w) (withWindow (accepted r w) formerWindow) (accepted r w)
+wasAfter r w = cond (isInit w) (withWindow (recordAfter r w) formerWindow) (recordAfter r w)
 
 -- the rows that were in use of those that are
 abbrev pub wasRows : ℕ → ℕ

@@ -16,7 +16,7 @@ use Rattle.registers.specs.declared.word.Word.{Word}
 use Rattle.registers.specs.Record.{resetOf}
 use Rattle.registers.specs.Bounds.{inBounds}
 use Rattle.registers.specs.Word.{wordOf}
-use Rattle.registers.specs.Next.{accepted}
+use Rattle.registers.specs.Next.{recordAfter}
 use Rattle.registers.specs.Refusal.{table, lowest, refusalOf, next}
 use Rattle.machine.proofs.Runs.{zero-or-not}
 use Rattle.mending.specs.Mend.{numberIn, afterIn, keptIn, Dropped, dropped, droppedIn, droppedOf, indicesOf}
@@ -94,7 +94,7 @@ refusal-sizes n r w = ap (λ (like : Bool). lowest 1 (table (not like || not (in
 -- so are the registers after it
 pub next-sizes : (n : ℕ) (r : Registers) (w : Word) → next n n r w ≡ next 0 0 r w
 unfolding next
-next-sizes n r w = ap (λ (number : ℕ). cond (eqb number 0) (accepted r w) r) (refusal-sizes n r w)
+next-sizes n r w = ap (λ (number : ℕ). cond (eqb number 0) (recordAfter r w) r) (refusal-sizes n r w)
 
 -- and what is kept
 pub kept-sizes : (n : ℕ) (ws : List ℕ) (r : Registers) → keptIn n r ws ≡ keptIn 0 r ws

@@ -11,7 +11,7 @@ use Rattle.registers.specs.Subcommand.{subcommandOf}
 use Rattle.registers.specs.Record.{settings, resetOf}
 use Rattle.registers.specs.Word.{decode, wordOf}
 use Rattle.registers.specs.Allowed.{initAllowed}
-use Rattle.registers.specs.Next.{accepted}
+use Rattle.registers.specs.Next.{recordAfter}
 use Rattle.registers.specs.Refusal.{refusalOf, next}
 use Rattle.mending.specs.Mend.{keptIn, dropped, droppedIn, keptOf, mendedOf, droppedOf, cutOf, clearedOf}
 
@@ -24,7 +24,7 @@ unfolding damaged unpackOf whole joined cut bits number
 words = refl
 
 kept : keptOf damaged 0 ≡ 0xF0000 ∷ 0x10005 ∷ []
-unfolding keptIn wordOf decode refusalOf next accepted initAllowed lineOf settings inBounds frameFits modesFit windowFits figureFits vertexFits parkedFits regionFits subcommandOf
+unfolding keptIn wordOf decode refusalOf next recordAfter initAllowed lineOf settings inBounds frameFits modesFit windowFits figureFits vertexFits parkedFits regionFits subcommandOf
 kept = ap (keptIn 0 resetOf) words ∙ refl
 
 -- the new stream has the first and the last word
@@ -34,7 +34,7 @@ worked-stream = ap packOf kept ∙ refl
 
 -- the word with index 1 is on the list
 pub worked-list : droppedOf damaged 0 ≡ dropped 1 4 ∷ []
-unfolding droppedIn wordOf decode refusalOf next accepted initAllowed lineOf settings inBounds frameFits modesFit windowFits figureFits vertexFits parkedFits regionFits subcommandOf
+unfolding droppedIn wordOf decode refusalOf next recordAfter initAllowed lineOf settings inBounds frameFits modesFit windowFits figureFits vertexFits parkedFits regionFits subcommandOf
 worked-list = ap (droppedIn 0 0 resetOf) words ∙ refl
 
 -- no bits are cut, and the half byte is cleared

@@ -7,30 +7,30 @@ use Rattle.registers.specs.declared.word.Word.the-variants.{Init, Aux, P
 use Rattle.registers.specs.declared.subcommand.Subcommand.the-variants.{Hcontrol}
 use Rattle.registers.specs.declared.Registers.{Registers}
 use Rattle.registers.specs.Record.{settings}
-use Rattle.registers.specs.Next.{awaited, accepted, penOf}
+use Rattle.registers.specs.Next.{awaited, recordAfter, penOf}
 use Rattle.registers.specs.Refusal.{isInit, isParm}
 use Rattle.registers.proofs.Effects.{parm-leaves, coordinate-leaves}
 
 module _ (r : Registers) (d : ℕ) where
   -- after INIT the I enable is off
-  pub init-ienable : penOf (accepted r (Init d)) .ienable ≡ false
-  unfolding accepted settings
+  pub init-ienable : penOf (recordAfter r (Init d)) .ienable ≡ false
+  unfolding recordAfter settings
   init-ienable = refl
 
   -- and the Z enable
-  pub init-zenable : penOf (accepted r (Init d)) .zenable ≡ false
-  unfolding accepted settings
+  pub init-zenable : penOf (recordAfter r (Init d)) .zenable ≡ false
+  unfolding recordAfter settings
   init-zenable = refl
 
   -- all hardware bits are 0
-  pub hcontrol-init : accepted r (Init d) .modes .hcontrol ≡ 0
-  unfolding accepted settings
+  pub hcontrol-init : recordAfter r (Init d) .modes .hcontrol ≡ 0
+  unfolding recordAfter settings
   hcontrol-init = refl
 
 -- a word that is neither the parameter of HCONTROL nor INIT leaves the hardware bits, and with them both write enables, as they were
 pub hcontrol-alone : (r : Registers) (w : Word) → (isParm w ≡ true → awaited r ≡ Hcontrol → ⊥) → isInit w ≡ false
-    → accepted r w .modes .hcontrol ≡ r .modes .hcontrol
-unfolding accepted
+    → recordAfter r w .modes .hcontrol ≡ r .modes .hcontrol
+unfolding recordAfter
 hcontrol-alone r (Init d) h i = absurd (true≢false i)
 hcontrol-alone r (Aux n) h i = refl
 hcontrol-alone r (Parm v) h i = parm-leaves r v .hcontrol (h refl)

@@ -33,7 +33,7 @@ use Rattle.registers.specs.Record.{noNumber, loadNumber, patternLength, 
 use Rattle.registers.specs.Region.{toward, moved, nextPixel}
 use Rattle.registers.specs.Subcommand.{largestAux, subcommands, subcommandOf, wants}
 use Rattle.registers.specs.Figure.{shapeOf, vertexOf, isPair, advanced, grownOf, figureAfter}
-use Rattle.registers.specs.Next.{value, awaited, joinedOf, counted, effectOf, parmOf, coordinateOf, imgNumber, transferredOf, accepted}
+use Rattle.registers.specs.Next.{value, awaited, joinedOf, counted, effectOf, parmOf, coordinateOf, imgNumber, transferredOf, recordAfter}
 use Rattle.registers.specs.Allowed.{isCoordinate, isBorder, initAllowed, parameterAllowed, coordinateAllowed, allowed}
 use Rattle.registers.specs.Bounds.{largestLayout, frameFits, modesFit, windowFits, vertexFits, figureFits, eachCame, parkedFits, regionFits, inBounds}
 use Rattle.registers.specs.Refusal.{isUnmodelled, isAbove, table, lowest, isUnfit, refusalOf, next, readRefusalOf}
@@ -380,8 +380,8 @@ reset-kept = reset-kept-as 0 (omega arith)
 -- ---- words
 
 module _ (ni nz : ℕ) (r : Registers) where
-  after-sound : (w : Word) → Accepted ni nz r w → Sound (accepted r w)
-  unfolding accepted
+  after-sound : (w : Word) → Accepted ni nz r w → Sound (recordAfter r w)
+  unfolding recordAfter
   after-sound (Init d) a = init-sound r (parts r (a .sound)) d (a .valued)
   after-sound (Aux n) a = sound-parked (parts r (a .sound)) _ (aux-fits n (a .modelled) (a .listed))
   after-sound (Parm v) a = parm-sound r v (parts r (a .sound)) (a .valued)
@@ -394,11 +394,11 @@ module _ (ni nz : ℕ) (r : Registers) where
 
   module _ (w : Word) where
     -- no accepted word leaves a record that breaks a bound
-    pub after-kept : refusalOf ni nz r w ≡ 0 → inBounds (accepted r w) ≡ true
-    after-kept e = whole (accepted r w) (after-sound w (accepted-when ni nz r w .0 e))
+    pub after-kept : refusalOf ni nz r w ≡ 0 → inBounds (recordAfter r w) ≡ true
+    after-kept e = whole (recordAfter r w) (after-sound w (accepted-when ni nz r w .0 e))
 
     -- an accepted word leaves the record after it
-    pub next-accepted : refusalOf ni nz r w ≡ 0 → next ni nz r w ≡ accepted r w
+    pub next-accepted : refusalOf ni nz r w ≡ 0 → next ni nz r w ≡ recordAfter r w
     unfolding next
     next-accepted e = rw (e)
 
@@ -410,7 +410,7 @@ module _ (ni nz : ℕ) (r : Registers) where
     -- no word makes a record that breaks no bound break one
     pub next-kept : inBounds r ≡ true → inBounds (next ni nz r w) ≡ true
     unfolding next
-    next-kept h = either (λ k. inBounds k ≡ true) (eqb (refusalOf ni nz r w) 0) {x = accepted r w} {y = r} (λ t. after-kept (eqb-true _ _ t)) (λ t. h)
+    next-kept h = either (λ k. inBounds k ≡ true) (eqb (refusalOf ni nz r w) 0) {x = recordAfter r w} {y = r} (λ t. after-kept (eqb-true _ _ t)) (λ t. h)
 
 -- over memories of one length a record that breaks no bound never gets 2
 pub kept-fit : (n : ℕ) (r : Registers) (w : Word) → inBounds r ≡ true → refusalOf n n r w ≡ 2 → ⊥

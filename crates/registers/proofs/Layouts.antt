@@ -14,7 +14,7 @@ use Rattle.registers.specs.declared.word.Coordinate.the-variants.{I, Z, 
 use Rattle.registers.specs.declared.subcommand.Subcommand.{Subcommand}
 use Rattle.registers.specs.Record.{nothingAwaited, withParked, laid, settings, resetAs, resetOf}
 use Rattle.registers.specs.Subcommand.{wants}
-use Rattle.registers.specs.Next.{awaited, joinedOf, counted, effectOf, parmOf, coordinateOf, accepted, completedBy}
+use Rattle.registers.specs.Next.{awaited, joinedOf, counted, effectOf, parmOf, coordinateOf, recordAfter, completedBy}
 use Rattle.registers.specs.Bounds.{largestLayout, frameFits, inBounds}
 use Rattle.registers.specs.Refusal.{table, lowest, isUnfit, refusalOf, readTable, readRefusalOf}
 use Rattle.registers.proofs.Effects.{effect-has}
@@ -54,8 +54,8 @@ coordinate-laid k r Lx n = refl
 coordinate-laid k r Px n = refl
 
 -- the record after a word
-pub after-laid : (k : ℕ) (r : Registers) (w : Word) → accepted (laid k r) w ≡ laid k (accepted r w)
-unfolding accepted settings
+pub after-laid : (k : ℕ) (r : Registers) (w : Word) → recordAfter (laid k r) w ≡ laid k (recordAfter r w)
+unfolding recordAfter settings
 after-laid k r (Init d) = refl
 after-laid k r (Aux n) = refl
 after-laid k r (Parm v) = parm-laid k r v

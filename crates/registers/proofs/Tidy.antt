@@ -24,7 +24,7 @@ use Rattle.registers.specs.Record.{noNumber, noVertex, opened, noFigure,
 use Rattle.registers.specs.Region.{isOpen, nextPixel}
 use Rattle.registers.specs.Subcommand.{largestAux, subcommandOf, wants}
 use Rattle.registers.specs.Figure.{shapeOf, vertexOf, isPair, paired, advanced, grownOf}
-use Rattle.registers.specs.Next.{value, awaited, joinedOf, counted, effectOf, parmOf, coordinateOf, imgNumber, transferredOf, accepted}
+use Rattle.registers.specs.Next.{value, awaited, joinedOf, counted, effectOf, parmOf, coordinateOf, imgNumber, transferredOf, recordAfter}
 use Rattle.registers.specs.Refusal.{isAbove, isPtrn, refusalOf, next, readRefusalOf}
 use Rattle.ground.proofs.Truth.{either}
 use Rattle.registers.proofs.Table.{everywhere}
@@ -126,8 +126,8 @@ module _ (r : Registers) (t : Tidy r) where
   transferred-tidy way ne o =
       record { parked = t .parked; figure = t .figure; region = tidy-pixel (r .region) (λ e. ne (sym (eqb-true _ _ o) ∙ e)) }
 
-  tidy-after : (w : Word) → isAbove w ≡ false → isPtrn w && not (isOpen 1 r) ≡ false → Tidy (accepted r w)
-  unfolding accepted settings
+  tidy-after : (w : Word) → isAbove w ≡ false → isPtrn w && not (isOpen 1 r) ≡ false → Tidy (recordAfter r w)
+  unfolding recordAfter settings
   tidy-after (Init d) a g = record { parked = tidy-nothing; figure = tidy-none; region = tidy-dropped }
   tidy-after (Aux n) a g = record { parked = tidy-awaiting n (λ e. absurd (omega (arith, e, ltb-false largestAux n a))); figure = t .figure; region = t .region }
   tidy-after (Parm v) a g = tidy-parm v
@@ -142,7 +142,7 @@ module _ (r : Registers) (t : Tidy r) where
   pub next-tidy : (ni nz : ℕ) (w : Word) → Tidy (next ni nz r w)
   unfolding next
   next-tidy ni nz w =
-      either Tidy (eqb (refusalOf ni nz r w) 0) {x = accepted r w} {y = r}
+      either Tidy (eqb (refusalOf ni nz r w) 0) {x = recordAfter r w} {y = r}
       (λ e. let a = accepted-when ni nz r w .0 (eqb-true _ _ e) in tidy-after w (a .listed) (a .placed)) (λ e. t)
 
   -- and so does the read call

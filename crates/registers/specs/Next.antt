@@ -112,16 +112,16 @@ transferredOf r = withRegion r (nextPixel (r .region))
 -- ---- words
 
 -- the record after an accepted word; the last three are never accepted
-unfoldable pub accepted : Registers → Word → Registers
-accepted r (Init d) = initOf r d
-accepted r (Aux n) = withParked r (awaiting n)
-accepted r (Parm v) = parmOf r v
-accepted r (At c n) = coordinateOf r c n
-accepted r (Img d) = withParked r (awaiting (imgNumber d))
-accepted r (Ptrn v) = transferredOf r
-accepted r Reserved = r
-accepted r Unmodelled = r
-accepted r Unknown = r
+unfoldable pub recordAfter : Registers → Word → Registers
+recordAfter r (Init d) = initOf r d
+recordAfter r (Aux n) = withParked r (awaiting n)
+recordAfter r (Parm v) = parmOf r v
+recordAfter r (At c n) = coordinateOf r c n
+recordAfter r (Img d) = withParked r (awaiting (imgNumber d))
+recordAfter r (Ptrn v) = transferredOf r
+recordAfter r Reserved = r
+recordAfter r Unmodelled = r
+recordAfter r Unknown = r
 
 -- the figure that an accepted word completes
 unfoldable pub completedBy : Registers → Word → Completed

@@ -8,7 +8,7 @@ use Rattle.registers.specs.declared.word.Word.{Word}
 use Rattle.registers.specs.declared.word.Word.the-variants.{Init, Aux, Parm, At, Img, Ptrn, Reserved, Unmodelled, Unknown}
 use Rattle.registers.specs.declared.Registers.{Registers}
 use Rattle.registers.specs.Subcommand.{largestAux, unmodelledAux, wants}
-use Rattle.registers.specs.Next.{awaited, accepted}
+use Rattle.registers.specs.Next.{awaited, recordAfter}
 use Rattle.registers.specs.Allowed.{allowed, fits}
 use Rattle.registers.specs.Bounds.{inBounds}
 use Rattle.registers.specs.Region.{isOpen}
@@ -83,7 +83,7 @@ abbrev pub tableOf : Bool → Bool → Registers → Word → List Bool
 tableOf unfit barred r w =
     isUnknown w  -- 1: command above 15
     ∷ unfit  -- 2: the memories differ in length, or the record breaks a bound
-    ∷ (not (isInit w) && isCold r)  -- 3: any word but INIT before the first accepted INIT
+    ∷ (not (isInit w) && isCold r)  -- 3: any word but INIT before the first recordAfter INIT
     ∷ isReserved w  -- 4: command 7 or C hex
     ∷ isUnmodelled w  -- 5: command A hex; AUX 11
     ∷ (not (isParm w || isInit w) && awaits r)  -- 6: a parameter is awaited and the word is neither PARM nor INIT
@@ -114,7 +114,7 @@ refusalOf ni nz r w = lowest 1 (table (isUnfit ni nz r) r w)
 
 -- the record after a word: unchanged if it is refused
 unfoldable pub next : ℕ → ℕ → Registers → Word → Registers
-next ni nz r w = cond (eqb (refusalOf ni nz r w) 0) (accepted r w) r
+next ni nz r w = cond (eqb (refusalOf ni nz r w) 0) (recordAfter r w) r
 
 -- ---- the read call
 
@@ -122,7 +122,7 @@ next ni nz r w = cond (eqb (refusalOf ni nz r w) 0) (accepted r w) r
 abbrev pub readTable : Bool → Registers → List Bool
 readTable unfit r =
     unfit  -- 2: the memories differ in length, or the record breaks a bound
-    ∷ isCold r  -- 3: before the first accepted INIT
+    ∷ isCold r  -- 3: before the first recordAfter INIT
     ∷ false ∷ false
     ∷ awaits r  -- 6: a parameter is awaited
     ∷ false ∷ false ∷ false ∷ false ∷ false ∷ false ∷ false

@@ -13,7 +13,7 @@ use Rattle.registers.specs.declared.word.Word.the-variants.{Img, Parm}
 use Rattle.registers.specs.declared.shape.Completed.the-variants.{Nothing}
 use Rattle.registers.specs.Record.{nothingAwaited, regionOf, withParked, withRegion}
 use Rattle.registers.specs.Subcommand.{subcommandOf}
-use Rattle.registers.specs.Next.{awaited, effectOf, parmOf, accepted, completedBy}
+use Rattle.registers.specs.Next.{awaited, effectOf, parmOf, recordAfter, completedBy}
 use Rattle.registers.specs.Allowed.{onlyBits, imgBits, parameterAllowed}
 use Rattle.registers.specs.Bounds.{inBounds}
 use Rattle.registers.specs.Refusal.{isCold, awaits, refusalOf}
@@ -28,12 +28,12 @@ use Rattle.reload.specs.Reload.{Corners, opening, taking, Allowed, Ready
 
 -- a word is accepted that draws and stores nothing
 module _ (r : Registers) (w : Word) (m : Memories) (e : refusalOf (length (m .i)) (length (m .z)) r w ≡ 0) where
-  quiet-step : Nothing ≡ completedBy r w → wordStores (rowsOf (r .frame) (length (m .i)) (length (m .z))) r w ≡ [] → stepOf chip r w m ≡ outcome 0 0 (accepted r w) m
+  quiet-step : Nothing ≡ completedBy r w → wordStores (rowsOf (r .frame) (length (m .i)) (length (m .z))) r w ≡ [] → stepOf chip r w m ≡ outcome 0 0 (recordAfter r w) m
   quiet-step completes unstored = sym (word-quiet r w (m .i) (m .z) refl refl e unstored refl completes refl)
 
   -- the words behind it are taken from there
   quiet-on : Nothing ≡ completedBy r w → wordStores (rowsOf (r .frame) (length (m .i)) (length (m .z))) r w ≡ [] → (ws : List Word)
-      → taking r (w ∷ ws) m ≡ taking (accepted r w) ws m
+      → taking r (w ∷ ws) m ≡ taking (recordAfter r w) ws m
   quiet-on completes unstored ws = ap (λ (o : Outcome Registers Memories). taking (o .registers) ws (o .memories)) (quiet-step completes unstored)
 
 -- a parameter is accepted
@@ -82,19 +82,19 @@ module _ (m : Memories) (same : length (m .i) ≡ length (m .z)) where
   -- the five words, if each is such as is asked for
   module _ (r : Registers) (c : Corners) (d : ℕ) (q : Ready r m) (a : onlyBits imgBits d ≡ true) where
     abbrev r₁ : Registers
-    r₁ = accepted r (Img d)
+    r₁ = recordAfter r (Img d)
 
     abbrev r₂ : Registers
-    r₂ = accepted r₁ (Parm (c .x0))
+    r₂ = recordAfter r₁ (Parm (c .x0))
 
     abbrev r₃ : Registers
-    r₃ = accepted r₂ (Parm (c .y0))
+    r₃ = recordAfter r₂ (Parm (c .y0))
 
     abbrev r₄ : Registers
-    r₄ = accepted r₃ (Parm (c .x1))
+    r₄ = recordAfter r₃ (Parm (c .x1))
 
     abbrev r₅ : Registers
-    r₅ = accepted r₄ (Parm (c .y1))
+    r₅ = recordAfter r₄ (Parm (c .y1))
 
     five : Takes r₁ (c .x0) → Takes r₂ (c .y0) → Takes r₃ (c .x1) → Takes r₄ (c .y1) → (taking r (opening d c) m ≡ state r₅ m) × (inBounds r₅ ≡ true)
     unfolding completedBy wordStores
@@ -119,7 +119,7 @@ openedAs way c r = withRegion (withParked r nothingAwaited) (regionOf way (c .x0
 -- IMG with 0 and its parameters open a region to memory, with 1 from memory; the memories stay
 pub opened : (d : ℕ) → d < 2 → (c : Corners) (r : Registers) (m : Memories) → Allowed c → Ready r m
     → (taking r (opening d c) m ≡ state (openedAs (1 + d) c r) m) × (inBounds (openedAs (1 + d) c r) ≡ true)
-unfolding accepted parmOf effectOf subcommandOf
+unfolding recordAfter parmOf effectOf subcommandOf
 opened zero h c r m k q =
     five m (q .same) r c 0 q refl
     (record { begun = q .begun; waits = refl; allowed = le-leb _ _ (k .x0) })

@@ -19,7 +19,7 @@ use Rattle.registers.specs.declared.word.Word.the-variants.{Ptrn}
 use Rattle.registers.specs.Record.{isOn, iBit, zBit, nothingAwaited, regionOf, noRegion, withParked, withRegion}
 use Rattle.registers.specs.Region.{moved, nextPixel}
 use Rattle.registers.specs.Subcommand.{subcommandOf}
-use Rattle.registers.specs.Next.{penOf, isDeepPicture, accepted, completedBy}
+use Rattle.registers.specs.Next.{penOf, isDeepPicture, recordAfter, completedBy}
 use Rattle.registers.specs.Bounds.{inBounds}
 use Rattle.registers.specs.Refusal.{isCold, awaits, isUnfit, refusalOf}
 use Rattle.registers.proofs.Refusals.{accepted-when, given-14, read-when, read-14}
@@ -113,7 +113,7 @@ module _ (r : Registers) (begun : isCold r ≡ false) (idle : awaits r ≡ false
         })
 
     ptrn-step : (v : ℕ) → inBounds (at 1 g) ≡ true → stepOf chip (at 1 g) (Ptrn v) m ≡ outcome 0 0 (withRegion r (nextPixel (turned 1 g))) (put g v m)
-    unfolding completedBy wordStores accepted
+    unfolding completedBy wordStores recordAfter
     ptrn-step v s =
         sym (word-stored (at 1 g) (Ptrn v) (m .i) (m .z) refl refl (ptrn-on v s) {i′ = drawn g v m .i} {z′ = drawn g v m .z} refl refl
         (ap (λ (n : ℕ). picture (drawn g v m .i) (drawn g v m .z) n)
@@ -121,7 +121,7 @@ module _ (r : Registers) (begun : isCold r ≡ false) (idle : awaits r ≡ false
         refl)
 
     ptrn-next : ℕ → inBounds (at 1 g) ≡ true → inBounds (withRegion r (nextPixel (turned 1 g))) ≡ true
-    unfolding accepted
+    unfolding recordAfter
     ptrn-next v s = after-kept (length (m .i)) (length (m .z)) (at 1 g) (Ptrn v) (ptrn-on v s)
 
   -- with no region open every PTRN is refused
@@ -150,7 +150,7 @@ module _ (r : Registers) (begun : isCold r ≡ false) (idle : awaits r ≡ false
       (λ e. subst (λ (a : Reading). LeftAs (readsLeave n (a .registers) m)) (sym (read-refused (withRegion r k) m e)) (reads-leave n k m s))
 
   loads-leave : (vs : List ℕ) (k : Region) (m : Memories) → inBounds (withRegion r k) ≡ true → LeftAs (taking (withRegion r k) (map Ptrn vs) m .registers)
-  unfolding accepted
+  unfolding recordAfter
   loads-leave [] k m s = record { region = k; is = refl; sound = s }
   loads-leave (v ∷ vs) k m s =
       step-either chip (withRegion r k) (Ptrn v) m (λ o. LeftAs (taking (o .registers) (map Ptrn vs) (o .memories) .registers))

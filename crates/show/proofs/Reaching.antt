@@ -11,7 +11,7 @@ use Rattle.registers.specs.declared.word.Word.{Word}
 use Rattle.registers.specs.declared.shape.Completed.{Completed}
 use Rattle.registers.specs.Word.{wordOf}
 use Rattle.registers.specs.Record.{resetOf}
-use Rattle.registers.specs.Next.{accepted, completedBy}
+use Rattle.registers.specs.Next.{recordAfter, completedBy}
 use Rattle.show.specs.declared.Above.{Above}
 use Rattle.show.specs.declared.Came.{Came}
 use Rattle.show.specs.Reach.{heightOf, reachOf, isMissed, highest, raised, raisedBy, onward, reached}
@@ -20,7 +20,7 @@ abbrev standing : Registers → Above → Came
 standing r a = record { registers = r; above = a }
 
 -- one word more, from its parts
-pub onward-told : (places : ℕ) (s : Came) (w : Word) {r : Registers} {a : Above} {f : Completed} {missed : Bool} {height reach rows : ℕ} → r ≡ accepted (s .registers) w
+pub onward-told : (places : ℕ) (s : Came) (w : Word) {r : Registers} {a : Above} {f : Completed} {missed : Bool} {height reach rows : ℕ} → r ≡ recordAfter (s .registers) w
     → a ≡ raised (s .above) missed height rows → height ≡ heightOf f → missed ≡ isMissed rows reach (s .registers .window .top) → reach ≡ reachOf f
     → f ≡ completedBy (s .registers) w → rows ≡ rowsOf (s .registers .frame) places places
     → standing r a ≡ onward places s w

@@ -10,7 +10,7 @@ use Rattle.registers.specs.declared.shape.Completed.{Completed}
 use Rattle.registers.specs.declared.shape.Completed.the-variants.{Nothing, Triangle, Segment}
 use Rattle.registers.specs.Word.{wordOf}
 use Rattle.registers.specs.Record.{resetOf}
-use Rattle.registers.specs.Next.{accepted, completedBy}
+use Rattle.registers.specs.Next.{recordAfter, completedBy}
 use Rattle.show.specs.declared.Above.{Above}
 use Rattle.show.specs.declared.Came.{Came}
 
@@ -46,7 +46,7 @@ raisedBy s f rows = raised (s .above) (isMissed rows (reachOf f) (s .registers .
 unfoldable pub onward : ℕ → Came → Word → Came
 onward places s w =
     record {
-      registers = accepted (s .registers) w;
+      registers = recordAfter (s .registers) w;
       above = raisedBy s (completedBy (s .registers) w) (rowsOf (s .registers .frame) places places);
     }
 

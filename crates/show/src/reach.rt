@@ -2,7 +2,7 @@
 ghost use mathlib.Core.Path.{_≡_};
 ghost use Rattle.stream.specs.Format.{wordAt};
 ghost use Rattle.registers.specs.Word.{wordOf};
-ghost use Rattle.registers.specs.Next.{accepted};
+ghost use Rattle.registers.specs.Next.{recordAfter};
 ghost use Rattle.show.specs.Reach.{heightOf, reachOf, isMissed, raised, onward, reached};
 use crate::Above;
 use crate::Came;
@@ -46,7 +46,7 @@ fn is_missed(rows: usize, reach: usize, top: u16) -> bool
 
 // The registers after an accepted word.
 fn next(r: Registers, word: Word) -> Registers
-    ensures { λ s. ⌜ s ≡ accepted r word ⌝ }
+    ensures { λ s. ⌜ s ≡ recordAfter r word ⌝ }
 {
     match word {
         Word::Init(d) => r.init(d),

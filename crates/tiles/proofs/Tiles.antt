@@ -23,7 +23,7 @@ use Rattle.registers.specs.declared.word.Word.{Word}
 use Rattle.registers.specs.declared.shape.Completed.{Completed}
 use Rattle.registers.specs.declared.shape.Completed.the-variants.{Nothing}
 use Rattle.registers.specs.Record.{laid, settings, resetAs, resetOf}
-use Rattle.registers.specs.Next.{isDeepPicture, accepted as after, completedBy, penOf}
+use Rattle.registers.specs.Next.{isDeepPicture, recordAfter, completedBy, penOf}
 use Rattle.registers.specs.Refusal.{isInit, isPtrn, isCold, refusalOf, readRefusalOf}
 use Rattle.registers.proofs.Refusals.{accepted-when, read-when}
 use Rattle.registers.proofs.Layouts.{after-laid, completed-laid, number-laid, number-even, read-laid, read-even}
@@ -128,10 +128,10 @@ module _ (q : Registers) (n n′ : ℕ) (a b : Memories) (ea : Even n a) (eb : E
 
   module _ (w : Word) where
     -- the registers after an accepted word
-    after-tiled : after (laid 1 q) w ≡ laid 1 (after (laid 0 q) w)
+    after-tiled : recordAfter (laid 1 q) w ≡ laid 1 (recordAfter (laid 0 q) w)
     after-tiled = after-laid 1 q w ∙ ap (laid 1) (sym (after-laid 0 q w))
 
-    after-plain : after (laid 0 q) w ≡ laid 0 (after (laid 0 q) w)
+    after-plain : recordAfter (laid 0 q) w ≡ laid 0 (recordAfter (laid 0 q) w)
     after-plain = after-laid 0 q w ∙ ap (laid 0) (sym (after-laid 0 q w))
 
     -- an accepted word that completes nothing and is no PTRN
@@ -147,13 +147,13 @@ module _ (q : Registers) (n n′ : ℕ) (a b : Memories) (ea : Even n a) (eb : E
         nothing-drawn k m = ap (λ (os : List Offer). drawn (penOf (laid k q)) os (picture (m .i) (m .z) 0)) (nothing-offered (rowsIn chip (laid k q) m) (laid k q)) ∙ drawn-nil (penOf (laid k q)) _
 
     quiet-alike : (line : ℕ) → completedBy q w ≡ Nothing → isPtrn w ≡ false → SamePicture line (plainRows line n′) a b
-        → AlikeOutcome (Beside line n n′) (accepted (after (laid 1 q) w) (drawing chip (laid 1 q) w a)) (accepted (after (laid 0 q) w) (drawing chip (laid 0 q) w b))
+        → AlikeOutcome (Beside line n n′) (accepted (recordAfter (laid 1 q) w) (drawing chip (laid 1 q) w a)) (accepted (recordAfter (laid 0 q) w) (drawing chip (laid 0 q) w b))
     quiet-alike line none dry same =
         subst
-        (λ (p : Picture). AlikeOutcome (Beside line n n′) (accepted (after (laid 1 q) w) p) (accepted (after (laid 0 q) w) (drawing chip (laid 0 q) w b)))
+        (λ (p : Picture). AlikeOutcome (Beside line n n′) (accepted (recordAfter (laid 1 q) w) p) (accepted (recordAfter (laid 0 q) w) (drawing chip (laid 0 q) w b)))
         (sym (quiet 1 a none dry))
         (subst
-        (λ (p : Picture). AlikeOutcome (Beside line n n′) (accepted (after (laid 1 q) w) (picture (a .i) (a .z) 0)) (accepted (after (laid 0 q) w) p))
+        (λ (p : Picture). AlikeOutcome (Beside line n n′) (accepted (recordAfter (laid 1 q) w) (picture (a .i) (a .z) 0)) (accepted (recordAfter (laid 0 q) w) p))
         (sym (quiet 0 b none dry))
         (record { refusal = refl; passed = refl; state = record { tiled = after-tiled; plain = after-plain; even = ea; even′ = eb; picture = same } }))
 
@@ -216,10 +216,10 @@ module _ (q : Registers) (n n′ : ℕ) (a b : Memories) (ea : Even n a) (eb : E
           (λ x y h. sym (inside-laid (q .frame .line) (plainRows (q .frame .line) n′) x y) ∙ h) os (picture (a .i) (a .z) 0) (picture (b .i) (b .z) 0) (sized a) (sized b) held-offers pixels refl
           ∙ sym (filled-passed (penOf (laid 0 q)) ss _)
 
-      drawn-alike : AlikeOutcome (Beside (q .frame .line) n n′) (accepted (after (laid 1 q) w) (drawing chip (laid 1 q) w a)) (accepted (after (laid 0 q) w) (drawing chip (laid 0 q) w b))
+      drawn-alike : AlikeOutcome (Beside (q .frame .line) n n′) (accepted (recordAfter (laid 1 q) w) (drawing chip (laid 1 q) w a)) (accepted (recordAfter (laid 0 q) w) (drawing chip (laid 0 q) w b))
       drawn-alike =
           subst
-          (λ (p : Picture). AlikeOutcome (Beside (q .frame .line) n n′) (accepted (after (laid 1 q) w) p) (accepted (after (laid 0 q) w) (drawing chip (laid 0 q) w b)))
+          (λ (p : Picture). AlikeOutcome (Beside (q .frame .line) n n′) (accepted (recordAfter (laid 1 q) w) p) (accepted (recordAfter (laid 0 q) w) (drawing chip (laid 0 q) w b)))
           (sym draws)
           (record {
             refusal = refl;
@@ -278,7 +278,7 @@ module _ (q : Registers) (n n′ : ℕ) (a b : Memories) (ea : Even n a) (eb : E
       (λ is.
       subst
       (λ (l : ℕ). tiledRows l n ≡ plainRows l n′ → SamePicture l (plainRows l n′) a b
-      → AlikeOutcome (Beside l n n′) (accepted (after (laid 1 q) w) (drawing chip (laid 1 q) w a)) (accepted (after (laid 0 q) w) (drawing chip (laid 0 q) w b)))
+      → AlikeOutcome (Beside l n n′) (accepted (recordAfter (laid 1 q) w) (drawing chip (laid 1 q) w a)) (accepted (recordAfter (laid 0 q) w) (drawing chip (laid 0 q) w b)))
       is (λ r s. drawn-alike r s w) rows same) warm))
       (λ e.
       rw (step-refused chip (laid 1 q) w a (λ z. e (sym (word-number w) ∙ z)), step-refused chip (laid 0 q) w b e)

@@ -9,7 +9,7 @@ use Rattle.picture.specs.Place.{frameOf, plainFrame, placeOf, rowsOf, inMemory}
 use Rattle.registers.specs.declared.Registers.{Registers}
 use Rattle.registers.specs.declared.word.Word.{Word}
 use Rattle.registers.specs.Record.{laid, resetAs, resetOf}
-use Rattle.registers.specs.Next.{accepted}
+use Rattle.registers.specs.Next.{recordAfter}
 use Rattle.machine.specs.Run.{ran}
 use Rattle.machine.specs.Along.{Along}
 use Rattle.machine.specs.Machine.{Memories, memories, Even, numberOf, stepOf}
@@ -71,7 +71,7 @@ pub record Starts (line n n′ : ℕ) (a b : Memories) : Type 0 where
 
 -- a word, if it is accepted, leaves that line length; from reset on the first that is accepted is an INIT
 abbrev pub Keeps : ℕ → Registers → Word → Memories → Type 0
-Keeps line r w m = numberOf chip r w m ≡ 0 → accepted r w .frame .line ≡ line
+Keeps line r w m = numberOf chip r w m ≡ 0 → recordAfter r w .frame .line ≡ line
 
 -- so it is with each word of some calls; reads change no line length
 abbrev pub Keeping : ℕ → State Registers Memories → List Call → Type 0

@@ -1,6 +1,6 @@
 -- `step::take` meets its contract: a refused word leaves all as it was, and each kind of word has its arm. Assumes nothing.
 use mathlib.Core.Path.{refl}
-use Rattle.registers.specs.Next.{accepted, completedBy}
+use Rattle.registers.specs.Next.{recordAfter, completedBy}
 use Rattle.chip.specs.Chip.{wordStores}
 use Rattle.chip.proofs.Words.{word-refused, word-drawn, word-quiet, word-stored}
 use borrow.Author.Needs.{needs}
@@ -94,21 +94,21 @@ quiet-requires-9 : tie.Need-quiet-requires-9
 quiet-requires-9 c κs = search needs
 
 returns-2 : tie.Need-returns-2
-unfolding accepted completedBy wordStores
+unfolding recordAfter completedBy wordStores
 returns-2 c =
     let at-if1 = c .before .before .before .before .before in
     let start = at-if1 .before .before .before in
     word-quiet _ _ _ _ refl (start .pre) (at-if1 .if1 .left) (rw (c .before .before .before .word .given .1)) (c .quiet2 .ensures) (rw (c .before .before .before .word .given .1)) (rw (c .before .before .before .word .given .1) (c .before .init .ensures))
 
 returns-3 : tie.Need-returns-3
-unfolding accepted completedBy wordStores
+unfolding recordAfter completedBy wordStores
 returns-3 c =
     let at-if1 = c .before .before .before .before .before in
     let start = at-if1 .before .before .before in
     word-quiet _ _ _ _ refl (start .pre) (at-if1 .if1 .left) (rw (c .before .before .before .word2 .given .1)) (c .quiet3 .ensures) (rw (c .before .before .before .word2 .given .1)) (rw (c .before .before .before .word2 .given .1) (c .before .aux .ensures))
 
 returns-4 : tie.Need-returns-4
-unfolding accepted completedBy wordStores
+unfolding recordAfter completedBy wordStores
 returns-4 c =
     let at-if1 = c .before .before .before .before .before in
     let start = at-if1 .before .before .before in
@@ -121,7 +121,7 @@ same-length-2 : tie.Need-same-length-2
 same-length-2 c = search needs
 
 returns-5 : tie.Need-returns-5
-unfolding accepted completedBy wordStores
+unfolding recordAfter completedBy wordStores
 returns-5 c =
     let at-draw = c .before .before .before .before .before in
     let at-completed-by = at-draw .before .before .before in
@@ -131,7 +131,7 @@ returns-5 c =
     word-drawn _ _ _ _ refl (start .pre) (at-if1 .if1 .left) (rw (at-word4 .word4 .given .1)) (rw (at-word4 .word4 .given .1) (at-completed-by .completed-by .ensures)) (at-draw .draw .ensures) (rw (at-word4 .word4 .given .1) (c .coordinate .ensures))
 
 returns-6 : tie.Need-returns-6
-unfolding accepted completedBy wordStores
+unfolding recordAfter completedBy wordStores
 returns-6 c =
     let at-if1 = c .before .before .before .before .before in
     let start = at-if1 .before .before .before in
@@ -144,7 +144,7 @@ same-length-4 : tie.Need-same-length-4
 same-length-4 c = search needs
 
 returns-7 : tie.Need-returns-7
-unfolding accepted completedBy wordStores
+unfolding recordAfter completedBy wordStores
 returns-7 c =
     let at-load = c .before .before .before .before .before .before in
     let at-word6 = at-load .before .before .before .before in
@@ -153,19 +153,19 @@ returns-7 c =
     word-stored _ _ _ _ refl (start .pre) (at-if1 .if1 .left) (c .quiet6 .ensures) (rw (at-word6 .word6 .given .1)) (rw (at-word6 .word6 .given .1) (at-load .load .ensures)) (rw (at-word6 .word6 .given .1) (c .before .transferred .ensures))
 
 returns-8 : tie.Need-returns-8
-unfolding accepted completedBy wordStores
+unfolding recordAfter completedBy wordStores
 returns-8 c =
     let start = c .before .before .before .before .before .before in
     word-quiet _ _ _ _ refl (start .pre) (c .before .before .before .if1 .left) (rw (c .before .enum-told .given .1)) (c .quiet7 .ensures) (rw (c .before .enum-told .given .1)) (rw (c .before .enum-told .given .1))
 
 returns-9 : tie.Need-returns-9
-unfolding accepted completedBy wordStores
+unfolding recordAfter completedBy wordStores
 returns-9 c =
     let start = c .before .before .before .before .before .before in
     word-quiet _ _ _ _ refl (start .pre) (c .before .before .before .if1 .left) (rw (c .before .enum-told2 .given .1)) (c .quiet8 .ensures) (rw (c .before .enum-told2 .given .1)) (rw (c .before .enum-told2 .given .1))
 
 returns-10 : tie.Need-returns-10
-unfolding accepted completedBy wordStores
+unfolding recordAfter completedBy wordStores
 returns-10 c =
     let start = c .before .before .before .before .before .before in
     word-quiet _ _ _ _ refl (start .pre) (c .before .before .before .if1 .left) (rw (c .before .enum-told3 .given .1)) (c .quiet9 .ensures) (rw (c .before .enum-told3 .given .1)) (rw (c .before .enum-told3 .given .1))

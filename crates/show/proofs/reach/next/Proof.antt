@@ -1,6 +1,6 @@
 -- `reach::next` meets its contract: each kind of word has its arm. Assumes nothing.
 use borrow.Author.Needs.{needs}
-use Rattle.registers.specs.Next.{accepted}
+use Rattle.registers.specs.Next.{recordAfter}
 use Rattle.show.proofs.reach.next.Statement.{statement}
 use Rattle.show.proofs.reach.next.Tie as tie
 
@@ -50,39 +50,39 @@ enum-told-3 : tie.Need-enum-told-3
 enum-told-3 c = search needs
 
 returns : tie.Need-returns
-unfolding accepted
+unfolding recordAfter
 returns c = rw (c .before .before .word .given .1) (c .init .ensures)
 
 returns-2 : tie.Need-returns-2
-unfolding accepted
+unfolding recordAfter
 returns-2 c = rw (c .before .before .word2 .given .1) (c .aux .ensures)
 
 returns-3 : tie.Need-returns-3
-unfolding accepted
+unfolding recordAfter
 returns-3 c = rw (c .before .before .word3 .given .1) (c .parm .ensures)
 
 returns-4 : tie.Need-returns-4
-unfolding accepted
+unfolding recordAfter
 returns-4 c = rw (c .before .before .word4 .given .1) (c .coordinate .ensures)
 
 returns-5 : tie.Need-returns-5
-unfolding accepted
+unfolding recordAfter
 returns-5 c = rw (c .before .before .word5 .given .1) (c .img .ensures)
 
 returns-6 : tie.Need-returns-6
-unfolding accepted
+unfolding recordAfter
 returns-6 c = rw (c .before .before .word6 .given .1) (c .transferred .ensures)
 
 returns-7 : tie.Need-returns-7
-unfolding accepted
+unfolding recordAfter
 returns-7 c = rw (c .enum-told .given .1)
 
 returns-8 : tie.Need-returns-8
-unfolding accepted
+unfolding recordAfter
 returns-8 c = rw (c .enum-told2 .given .1)
 
 returns-9 : tie.Need-returns-9
-unfolding accepted
+unfolding recordAfter
 returns-9 c = rw (c .enum-told3 .given .1)
 
 pub next-spec : {M : Type 1} → statement M
