@@ -11,7 +11,7 @@ use Rattle.picture.specs.Cell.{there}
 use Rattle.triangle.specs.Edge.{plusOf, minusOf, closed, inside, covers}
 use Rattle.triangle.specs.Number.{mixed, shade}
 use Rattle.triangle.specs.Offers.{pixelAt, pixelOffers, triangleOffers}
-use Rattle.line.specs.Segment.{larger, smaller, xLeads, sideAt, xAt, yAt, numberAt, shadeOffers, segmentOffers}
+use Rattle.line.specs.Segment.{modeOf, larger, smaller, xLeads, sideAt, xAt, yAt, numberAt, shadeOffers, segmentOffers}
 use Rattle.registers.specs.Lines.{lineOf}
 use Rattle.registers.specs.Record.{settings, resetOf}
 use Rattle.registers.specs.Subcommand.{subcommandOf}
@@ -22,7 +22,7 @@ use Rattle.registers.specs.Allowed.{initAllowed}
 use Rattle.registers.specs.Bounds.{frameFits, modesFit, windowFits, vertexFits, figureFits, parkedFits, regionFits, inBounds}
 use Rattle.registers.specs.Refusal.{refusalOf}
 use Rattle.machine.specs.Offers.{nextIn, offersIn, offersAt, eachIn}
-use Rattle.chip.specs.Chip.{modeOf, wholeOffers, isCut, figureOffers}
+use Rattle.chip.specs.Chip.{wholeOffers, isCut, figureOffers}
 use Rattle.belief.specs.Belief.{offersOf, isAllOn, isSupposed, supposed}
 use Rattle.belief.specs.Worked.{scene, outline}
 use Rattle.belief.specs.WorkedOrder.{farFirst, wideFaces, tiedLast, tiedFirst, farthestFace, farthestEdge}

@@ -15,7 +15,7 @@ use Rattle.registers.specs.Record.{resetAs}
 use Rattle.registers.specs.Word.{wordOf}
 use Rattle.registers.specs.Next.{completedBy}
 use Rattle.registers.specs.Refusal.{isPtrn}
-use Rattle.registers.proofs.Truth.{both, chosen}
+use Rattle.ground.proofs.Truth.{both, either}
 use Rattle.machine.specs.Run.{Outcome, Ran}
 use Rattle.machine.specs.Machine.{Memories, memories, stepOf}
 use Rattle.machine.specs.Touched.{cellIn}
@@ -53,7 +53,7 @@ stream-took r bytes m =
 taken-narrow : (r : Registers) (ni nz : ℕ) (bytes : List ℕ) (w : Word) → List·Memᴰ w (wordsTaken r ni nz bytes) → Narrow w
 unfolding wordsTaken
 taken-narrow r ni nz bytes w =
-    chosen (λ (ws : List Word). List·Memᴰ w ws → Narrow w) (eqb (flawIn bytes ni nz) 0) _ _
+    either (λ (ws : List Word). List·Memᴰ w ws → Narrow w) (eqb (flawIn bytes ni nz) 0)
     (λ t u. words-narrow (unpackOf bytes) w (taken-member chip ni nz (wordsOf bytes) r w u)) (λ t u. absurd (List·Memᴰ·not-nil u))
 
 -- each outcome has the memories that those words leave

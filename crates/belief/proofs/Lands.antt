@@ -11,21 +11,21 @@ use Rattle.picture.specs.declared.Vertex.{Vertex}
 use Rattle.picture.specs.Offer.{Offer}
 use Rattle.picture.specs.Picture.{isDeep, passes, newI, newZ}
 use Rattle.picture.specs.Cell.{Cell, offerLeaves}
-use Rattle.picture.proofs.Places.{both}
+use Rattle.ground.proofs.Truth.{both}
 use Rattle.picture.proofs.Rows.{in-all-planes}
 use Rattle.picture.proofs.Members.{Numbers}
 use Rattle.triangle.specs.Offers.{kindOf as triangleKind}
 use Rattle.triangle.proofs.Members.{triangle-member}
 use Rattle.line.specs.declared.Mode.the-variants.{Two}
 use Rattle.line.specs.declared.Style.{Style}
-use Rattle.line.specs.Segment.{segmentOffers}
+use Rattle.line.specs.Segment.{modeOf, segmentOffers}
 use Rattle.line.proofs.Members.{segment-member}
 use Rattle.registers.specs.declared.Registers.{Registers}
 use Rattle.registers.specs.declared.shape.Completed.{Completed}
 use Rattle.registers.specs.declared.shape.Completed.the-variants.{Nothing, Triangle, Segment}
 use Rattle.registers.specs.Next.{penOf}
 use Rattle.registers.proofs.Completing.{AllVertices}
-use Rattle.chip.specs.Chip.{modeOf, isConstant, styleOf, wholeOffers, figureOffers}
+use Rattle.chip.specs.Chip.{isConstant, styleOf, wholeOffers, figureOffers}
 use Rattle.chip.proofs.Figures.{offers-held}
 use Rattle.belief.specs.Belief.{isAllOn, isSupposed}
 use Rattle.belief.proofs.Ends.{lands}

@@ -25,7 +25,7 @@ use Rattle.registers.specs.Word.{commands, decode, wordOf}
 use Rattle.registers.specs.Figure.{shapeOf, vertexOf, isPair, grownOf, figureAfter}
 use Rattle.registers.specs.Next.{parmOf, coordinateOf, recordAfter, completedBy}
 use Rattle.registers.specs.Refusal.{refusalOf}
-use Rattle.registers.proofs.Truth.{chosen}
+use Rattle.ground.proofs.Truth.{either}
 use Rattle.registers.proofs.Table.{everywhere}
 use Rattle.registers.proofs.Effects.{parm-leaves}
 use Rattle.registers.proofs.Completing.{AllVertices, completed-has}
@@ -84,9 +84,9 @@ reset-small layout = settings-small 0 (frameOf 256 layout)
 grown-kept : (shape : Shape) (end dashed : Bool) (f : Figure) (v : Vertex) → Kept f → Numbers 65535 v → Kept (grownOf shape end dashed f v)
 unfolding grownOf
 grown-kept Closed end dashed f v k n = k
-grown-kept Strip end dashed f v k n = chosen Kept (isPair f) _ _ (λ t. record { first = k .second; second = n }) (λ t. record { first = k .first; second = n })
+grown-kept Strip end dashed f v k n = either Kept (isPair f) (λ t. record { first = k .second; second = n }) (λ t. record { first = k .first; second = n })
 grown-kept Fan end dashed f v k n = record { first = k .first; second = n }
-grown-kept Line end dashed f v k n = chosen Kept end _ _ (λ t. record { first = no-numbers; second = no-numbers }) (λ t. record { first = n; second = no-numbers })
+grown-kept Line end dashed f v k n = either Kept end (λ t. record { first = no-numbers; second = no-numbers }) (λ t. record { first = n; second = no-numbers })
 
 module _ (r : Registers) (s : Small r) where
   -- a vertex takes the registers' numbers

@@ -15,7 +15,7 @@ use Rattle.registers.specs.Record.{resetOf}
 use Rattle.registers.specs.Word.{wordOf}
 use Rattle.machine.specs.Machine.{Memories}
 use Rattle.machine.specs.Touched.{cellIn}
-use Rattle.picture.proofs.Places.{both}
+use Rattle.ground.proofs.Truth.{both}
 use Rattle.belief.specs.Belief.{supposed, least, earliest, lastLine, unlined, intensity}
 use Rattle.belief.specs.Order.{SameThere, numbersOf, offeredAt, Apart, Reordered}
 use Rattle.belief.specs.Worked.{scene, blank, Owned}

@@ -1,16 +1,14 @@
 -- What the entries of the benchmark draw with, and how they tell what a codec's call came to.
 use Prim.Native.Nat.{ℕ}
 use mathlib.Core.Path.{_≡_}
-use mathlib.Core.Bool.{true, false, cond}
+use mathlib.Core.Bool.{true, false}
 use mathlib.Core.List.{List}
-use lib.Dec.{eqb}
 use Rattle.picture.specs.declared.Pen.{Pen}
 use Rattle.picture.specs.declared.Vertex.{Vertex}
 use Rattle.picture.specs.Limits.{largestBorder}
 use Rattle.picture.specs.Place.{frameOf}
-use Rattle.line.specs.declared.Mode.{Mode}
-use Rattle.line.specs.declared.Mode.the-variants.{Zero, One, Two}
 use Rattle.line.specs.declared.Style.{Style}
+use Rattle.line.specs.Segment.{modeOf}
 use Rattle.stream.specs.Calls.{Outcome}
 
 -- depth test on, both enables, all planes, the widest window, a transparency pattern that keeps everything
@@ -31,10 +29,6 @@ penOf line layout =
 
 abbrev pub vertexOf : ℕ → ℕ → ℕ → ℕ → Vertex
 vertexOf x y i z = record { x = x; y = y; i = i; z = z }
-
--- the line mode of a number: 0, 1, and 2 for every other
-unfoldable pub modeOf : ℕ → Mode
-modeOf n = cond (eqb n 0) Zero (cond (eqb n 1) One Two)
 
 abbrev pub styleOf : ℕ → ℕ → ℕ → ℕ → Style
 styleOf mode pattern foreground background = record { mode = modeOf mode; pattern = pattern; foreground = foreground; background = background; steps = 0; joined = false }

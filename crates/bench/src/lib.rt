@@ -5,10 +5,10 @@ ghost use Rattle.line.specs.Segment.{segmentOffers};
 ghost use Rattle.picture.specs.Picture.{picture};
 ghost use Rattle.stream.specs.Calls.{sizeOf, packing, unpacking};
 ghost use Rattle.triangle.specs.Offers.{triangleOffers};
-ghost use Rattle.bench.specs.Bench.{penOf, modeOf, styleOf, vertexOf, Wrote};
+ghost use Rattle.bench.specs.Bench.{penOf, styleOf, vertexOf, Wrote};
 ghost use Rattle.picture.specs.Lent.{Draws};
-use line::Mode;
 use line::Style;
+use line::mode_of;
 use picture::Frame;
 use picture::Pen;
 use picture::Vertex;
@@ -78,19 +78,6 @@ pub extern "C" fn dextolumen_bench_triangle(
     triangle::draw::triangle(pen_of(line, layout), constant, a, b, c, im, zm)
 }
 
-// The line mode of a number.
-fn mode_of(mode: u8) -> Mode
-    ensures { λ r. ⌜ r ≡ modeOf mode ⌝ }
-{
-    if mode == 0 {
-        return Mode::Zero;
-    }
-    if mode == 1 {
-        return Mode::One;
-    }
-    Mode::Two
-}
-
 // Draws a segment.
 #[no_mangle]
 pub extern "C" fn dextolumen_bench_segment(
@@ -125,7 +112,7 @@ pub extern "C" fn dextolumen_bench_segment(
         i: bi,
         z: bz,
     };
-    let m = mode_of(mode);
+    let m = mode_of(mode as u16);
     let style = Style {
         mode: m,
         pattern,

@@ -16,7 +16,7 @@ use Rattle.registers.specs.Record.{laid}
 use Rattle.registers.specs.Allowed.{initAllowed}
 use Rattle.registers.specs.Bounds.{inBounds}
 use Rattle.registers.specs.Refusal.{isUnknown, isCold, refusalOf}
-use Rattle.registers.proofs.Truth.{both}
+use Rattle.ground.proofs.Truth.{both}
 use Rattle.machine.specs.Run.{Outcome}
 use Rattle.machine.specs.Machine.{Memories}
 use Rattle.machine.proofs.Steps.{step-number}

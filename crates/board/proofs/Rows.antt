@@ -26,9 +26,10 @@ parted ways line n some whole =
     ∙ div-div-eq-div-mul (n * ways) ways (line / ways)
     ∙ ap (λ (a : ℕ). n * ways / a) (mul-comm ways (line / ways) ∙ sym whole)
 
-either : (b : Bool) (x : ℕ) → cond (not b && true && true) x 0 ≡ cond (not b) x 0
-either true x = refl
-either false x = refl
+-- tests that hold fall away
+held-away : (b : Bool) (x : ℕ) → cond (not b && true && true) x 0 ≡ cond (not b) x 0
+held-away true x = refl
+held-away false x = refl
 
 -- of two units
 rows-two : (line n : ℕ) → line % lineUnit ≡ 0 → rowsOf (frameOf line 2) n n ≡ rowsOf (plainFrame line) (n * 2) (n * 2)
@@ -36,7 +37,7 @@ unfolding rowsOf isWhole rowsIn layoutOf
 rows-two line n h =
     let even : line % 2 ≡ 0 = omega arith in
     let whole : line ≡ line / 2 * 2 = omega arith in
-    rw (eq-eqb (line % 2) 0 even, same-min n, same-min (n * 2), parted 2 line n (omega arith) whole) (either (eqb line 0) (min (n * 2 / line) mostRows))
+    rw (eq-eqb (line % 2) 0 even, same-min n, same-min (n * 2), parted 2 line n (omega arith) whole) (held-away (eqb line 0) (min (n * 2 / line) mostRows))
 
 -- of four
 rows-four : (line n : ℕ) → line % lineUnit ≡ 0 → rowsOf (frameOf line 4) n n ≡ rowsOf (plainFrame line) (n * 4) (n * 4)
@@ -44,7 +45,7 @@ unfolding rowsOf isWhole rowsIn layoutOf
 rows-four line n h =
     let even : line % 4 ≡ 0 = omega arith in
     let whole : line ≡ line / 4 * 4 = omega arith in
-    rw (eq-eqb (line % 4) 0 even, same-min n, same-min (n * 4), parted 4 line n (omega arith) whole) (either (eqb line 0) (min (n * 4 / line) mostRows))
+    rw (eq-eqb (line % 4) 0 even, same-min n, same-min (n * 4), parted 4 line n (omega arith) whole) (held-away (eqb line 0) (min (n * 4 / line) mostRows))
 
 -- whatever the line length is that a record may have
 pub rows-natural : (units n : ℕ) → Ways units → (r : Registers) → r .frame .line % lineUnit ≡ 0 → SameRows units n (n * units) r

@@ -12,7 +12,7 @@ use Rattle.picture.specs.Place.{rowsOf}
 use Rattle.picture.specs.Offer.{Offer}
 use Rattle.line.specs.declared.Mode.the-variants.{Zero, One}
 use Rattle.line.specs.declared.Style.{Style}
-use Rattle.line.specs.Segment.{segmentOffers}
+use Rattle.line.specs.Segment.{modeOf, segmentOffers}
 use Rattle.line.specs.Polyline.{Leg, styled, segmentsOffers}
 use Rattle.line.proofs.Polylines.{line-whole}
 use Rattle.registers.specs.declared.Registers.{Registers}
@@ -29,14 +29,14 @@ use Rattle.registers.specs.Figure.{shapeOf, vertexOf, isDashed, advanced, grown
 use Rattle.registers.specs.Next.{coordinateOf, coordinateCompletes, recordAfter, completedBy, penOf}
 use Rattle.registers.specs.Allowed.{xFits, pxFits, fits}
 use Rattle.registers.specs.Refusal.{refusalOf}
-use Rattle.registers.proofs.Truth.{both}
+use Rattle.ground.proofs.Truth.{both}
 use Rattle.registers.proofs.Refusals.{accepted-when}
 use Rattle.registers.proofs.Effects.{parm-leaves}
 use Rattle.registers.proofs.Begun.{end-closes}
 use Rattle.machine.specs.Offers.{nextIn, eachIn}
 use Rattle.machine.proofs.Runs.{zero-or-not}
 use Rattle.machine.proofs.Offers.{next-accepted, offers-accepted, next-refused, offers-refused}
-use Rattle.chip.specs.Chip.{modeOf, styleOf, wholeOffers, isCut, figureOffers, chip}
+use Rattle.chip.specs.Chip.{styleOf, wholeOffers, isCut, figureOffers, chip}
 use Rattle.chip.specs.Dashes.{offersAlong, legOf, legsIn, legsAlong, coordinateDashes, isDashing, InLine, Begun, Advanced, Closes, RunsOn, Dashes}
 
 -- ---- a segment

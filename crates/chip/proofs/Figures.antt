@@ -17,14 +17,14 @@ use Rattle.registers.specs.declared.Registers.{Registers}
 use Rattle.registers.specs.declared.shape.Completed.{Completed}
 use Rattle.registers.specs.declared.shape.Completed.the-variants.{Nothing, Triangle, Segment}
 use Rattle.registers.specs.Next.{penOf}
-use Rattle.registers.proofs.Truth.{chosen}
+use Rattle.ground.proofs.Truth.{either}
 use Rattle.chip.specs.Chip.{isConstant, styleOf, wholeOffers, isCut, figureOffers}
 
 -- what a figure offers is among what it holds
 pub offers-held : (rows : ℕ) (r : Registers) (f : Completed) (o : Offer) → List·Memᴰ o (figureOffers rows r f) → List·Memᴰ o (wholeOffers rows r f)
 unfolding figureOffers
 offers-held rows r f o =
-    chosen (λ (os : List Offer). List·Memᴰ o os → List·Memᴰ o (wholeOffers rows r f)) (isCut r f) [] (wholeOffers rows r f) (λ t u. absurd (List·Memᴰ·not-nil u)) (λ t u. u)
+    either (λ (os : List Offer). List·Memᴰ o os → List·Memᴰ o (wholeOffers rows r f)) (isCut r f) {x = []} {y = wholeOffers rows r f} (λ t u. absurd (List·Memᴰ·not-nil u)) (λ t u. u)
 
 module _ (r : Registers) (i z : List ℕ) where
   -- the picture after a figure, and after a figure that nothing cuts

@@ -23,7 +23,7 @@ use Rattle.triangle.specs.Offers.{kindOf as triangleKind, cornersOf}
 use Rattle.triangle.specs.Loops.{Large}
 use Rattle.triangle.proofs.Members.{triangle-member, triangle-counts}
 use Rattle.triangle.proofs.Sizes.{Below, never-large}
-use Rattle.line.specs.Segment.{kindOf, larger}
+use Rattle.line.specs.Segment.{modeOf, kindOf, larger}
 use Rattle.line.proofs.Members.{segment-member, segment-counts}
 use Rattle.registers.specs.declared.Registers.{Registers}
 use Rattle.registers.specs.declared.word.Word.{Word}
@@ -38,7 +38,7 @@ use Rattle.registers.specs.Next.{awaited, recordAfter, completedBy, penOf}
 use Rattle.registers.specs.Lines.{shortestLine, longestLine, lineUnit}
 use Rattle.registers.specs.Bounds.{largestLayout, frameFits, inBounds}
 use Rattle.registers.specs.Refusal.{isInit, isParm, isPtrn, refusalOf}
-use Rattle.registers.proofs.Truth.{both, chosen}
+use Rattle.ground.proofs.Truth.{both, either}
 use Rattle.registers.proofs.Kept.{parts, reset-kept-as, after-kept}
 use Rattle.registers.proofs.Refusals.{accepted-when}
 use Rattle.registers.proofs.Enables.{hcontrol-alone, hcontrol-init}
@@ -52,7 +52,7 @@ use Rattle.machine.proofs.Steps.{step-either}
 use Rattle.machine.specs.Touched.{cellIn}
 use Rattle.machine.proofs.Touched.{step-above, run-above}
 use Rattle.machine.proofs.Kept.{step-shallow, run-off, run-invariant}
-use Rattle.chip.specs.Chip.{modeOf, isConstant, styleOf, wholeOffers, isCut, figureOffers, wordStores, chip}
+use Rattle.chip.specs.Chip.{isConstant, styleOf, wholeOffers, isCut, figureOffers, wordStores, chip}
 use Rattle.chip.proofs.Figures.{offers-held}
 
 -- ---- bounds
@@ -157,7 +157,7 @@ pub line-completes : (P : Completed → Type 0) (r : Registers) → shapeOf (r .
 unfolding completes
 line-completes P r line none some =
     let segment : (n : ℕ) → P (vertexCompletes r n) = λ n.
-    rw line (chosen P (isOn invBit (r .modes .lstatus)) Nothing (Segment (r .figure .first) (vertexOf r n)) (λ t. none) (λ t. some _ _)) in
+    rw line (either P (isOn invBit (r .modes .lstatus)) {x = Nothing} {y = Segment (r .figure .first) (vertexOf r n)} (λ t. none) (λ t. some _ _)) in
     only-x-and-px (λ w f. P (f r)) (λ w. none) segment segment
 
 -- the modes 0 and 1 have no depth
@@ -252,7 +252,7 @@ pub figure-counts : (rows : ℕ) (r : Registers) (f : Completed) (p : Picture) �
     → drawn (penOf r) (figureOffers rows r f) p .passed ≤ p .passed + mostRows * longestLine
 unfolding figureOffers
 figure-counts rows r f p near h k =
-    chosen (λ (os : List Offer). drawn (penOf r) os p .passed ≤ p .passed + mostRows * longestLine) (isCut r f) [] (wholeOffers rows r f)
+    either (λ (os : List Offer). drawn (penOf r) os p .passed ≤ p .passed + mostRows * longestLine) (isCut r f) {x = []} {y = wholeOffers rows r f}
     (λ t. rw (drawn-nil (penOf r) p) (omega arith)) (λ t. whole-counts rows r f p near h k)
 
 -- the count of one word is below 2 ^ 32

@@ -8,7 +8,7 @@ use lib.Dec.{ltb}
 use Rattle.picture.specs.declared.Kind.{Kind}
 use Rattle.picture.specs.declared.Vertex.{Vertex}
 use Rattle.picture.specs.Place.{Layout, frameOf, layoutOf, mine, inMemory}
-use Rattle.picture.specs.Offer.{Offer, offer, isMasked, inWindow, shows, offered, keep}
+use Rattle.picture.specs.Offer.{Offer, offer, letsThrough, inWindow, shows, offered, keep}
 use Rattle.picture.specs.Picture.{passes, newI, newZ}
 use Rattle.picture.specs.Draw.{spans}
 use Rattle.picture.specs.Cell.{offerLeaves as cellAfter}
@@ -52,7 +52,7 @@ module _ (k rows : ℕ) (r : Registers) where
   offered-laid : (o : Offer) → offered (penOf (laid k r)) rows o ≡ offered (penOf (laid 0 r)) rows o && mine own (o .x)
   unfolding offered inMemory inWindow shows
   offered-laid o =
-      go (inWindow (penOf r) (o .x) (o .y)) (ltb (o .x) (r .frame .line) && ltb (o .y) rows) (mine own (o .x)) (not (isMasked (o .kind)) || shows (penOf r) (o .x) (o .y))
+      go (inWindow (penOf r) (o .x) (o .y)) (ltb (o .x) (r .frame .line) && ltb (o .y) rows) (mine own (o .x)) (letsThrough (penOf r) (o .kind) (o .x) (o .y))
       (mine (layoutOf (frameOf (r .frame .line) 0)) (o .x)) (rows-mine (o .x))
     where
       go : (w t m s every : Bool) → every ≡ true → w && (t && m) && s ≡ w && (t && every) && s && m

@@ -18,7 +18,7 @@ use Rattle.registers.specs.Record.{isOn, sectionBit, invBit}
 use Rattle.registers.specs.Figure.{shapeOf, vertexOf, isPair, completes, vertexCompletes}
 use Rattle.registers.specs.Next.{completedBy, penOf}
 use Rattle.registers.specs.Refusal.{isPtrn}
-use Rattle.registers.proofs.Truth.{chosen}
+use Rattle.ground.proofs.Truth.{either}
 use Rattle.registers.proofs.Completing.{only-x-and-px}
 use Rattle.machine.specs.Machine.{Memories, rowsIn, stepOf}
 use Rattle.machine.proofs.Steps.{step-accepted, step-refused, step-either}
@@ -61,9 +61,9 @@ module _ (r : Registers) where
     completes-near : (shape : Shape) (inv : Bool) (n : ℕ) → isCut r (completes shape inv (r .figure) (vertexOf r n)) ≡ false
     unfolding completes isCut
     completes-near Closed inv n = refl
-    completes-near Strip inv n = chosen (λ (f : Completed). isCut r f ≡ false) (isPair (r .figure)) _ _ (λ t. triangle-near (r .figure .first) (r .figure .second) n) (λ t. refl)
-    completes-near Fan inv n = chosen (λ (f : Completed). isCut r f ≡ false) (isPair (r .figure)) _ _ (λ t. triangle-near (r .figure .first) (r .figure .second) n) (λ t. refl)
-    completes-near Line inv n = chosen (λ (f : Completed). isCut r f ≡ false) inv _ _ (λ t. refl) (λ t. refl)
+    completes-near Strip inv n = either (λ (f : Completed). isCut r f ≡ false) (isPair (r .figure)) (λ t. triangle-near (r .figure .first) (r .figure .second) n) (λ t. refl)
+    completes-near Fan inv n = either (λ (f : Completed). isCut r f ≡ false) (isPair (r .figure)) (λ t. triangle-near (r .figure .first) (r .figure .second) n) (λ t. refl)
+    completes-near Line inv n = either (λ (f : Completed). isCut r f ≡ false) inv (λ t. refl) (λ t. refl)
 
     -- where the Z register is not greater than the section depth, none that a word completes
     near-uncut : (w : Word) → isCut r (completedBy r w) ≡ false

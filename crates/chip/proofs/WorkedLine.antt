@@ -3,7 +3,7 @@ use mathlib.Core.Path.{refl}
 use Rattle.picture.specs.Place.{layoutOf, isWhole, rowsIn, rowsOf, mine, inMemory}
 use Rattle.picture.specs.Offer.{inWindow, shows, offered, keep}
 use Rattle.picture.specs.Draw.{spans}
-use Rattle.line.specs.Segment.{larger, smaller, xLeads, sideAt, xAt, yAt, isSet, firstOf, from, dashOffers, segmentOffers}
+use Rattle.line.specs.Segment.{modeOf, larger, smaller, xLeads, sideAt, xAt, yAt, isSet, firstOf, from, dashOffers, segmentOffers}
 use Rattle.registers.specs.Lines.{lineOf}
 use Rattle.registers.specs.Record.{settings}
 use Rattle.registers.specs.Subcommand.{subcommandOf}
@@ -14,7 +14,7 @@ use Rattle.registers.specs.Allowed.{initAllowed}
 use Rattle.registers.specs.Bounds.{frameFits, modesFit, windowFits, vertexFits, figureFits, parkedFits, regionFits, inBounds}
 use Rattle.registers.specs.Refusal.{refusalOf}
 use Rattle.machine.specs.Offers.{nextIn, offersIn, registersIn, eachIn}
-use Rattle.chip.specs.Chip.{modeOf, wholeOffers, isCut, figureOffers}
+use Rattle.chip.specs.Chip.{wholeOffers, isCut, figureOffers}
 use Rattle.chip.specs.Dashes.{offersAlong}
 use Rattle.chip.specs.WorkedLine.{begun, WorkedLine}
 

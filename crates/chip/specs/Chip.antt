@@ -3,15 +3,12 @@
 use Prim.Native.Nat.{ℕ, _+_, _*_}
 use mathlib.Core.Bool.{Bool, false, cond, _&&_}
 use mathlib.Core.List.{List, [], _∷_}
-use lib.ListN.{getD}
 use lib.Dec.{ltb, eqb}
 use Rattle.picture.specs.Offer.{Offer}
 use Rattle.picture.specs.Store.{Store, pixelFor, storable}
 use Rattle.triangle.specs.Offers.{triangleOffers}
-use Rattle.line.specs.declared.Mode.{Mode}
-use Rattle.line.specs.declared.Mode.the-variants.{Zero, One, Two}
 use Rattle.line.specs.declared.Style.{Style}
-use Rattle.line.specs.Segment.{segmentOffers}
+use Rattle.line.specs.Segment.{modeOf, segmentOffers}
 use Rattle.registers.specs.declared.Registers.{Registers}
 use Rattle.registers.specs.declared.word.Word.{Word}
 use Rattle.registers.specs.declared.word.Word.the-variants.{Init, Aux, Parm, At, Img, Ptrn, Reserved, Unmodelled, Unknown}
@@ -21,10 +18,6 @@ use Rattle.registers.specs.Record.{isOn, sectionBit}
 use Rattle.registers.specs.Next.{recordAfter, completedBy, penOf, isDeepPicture}
 use Rattle.registers.specs.Refusal.{refusalOf}
 use Rattle.machine.specs.Machine.{Machine}
-
--- the line mode that LMODE's word names
-unfoldable pub modeOf : ℕ → Mode
-modeOf n = getD (Zero ∷ One ∷ []) n Two
 
 -- PMODE 1: constant triangles
 abbrev pub isConstant : Registers → Bool

@@ -3,26 +3,15 @@ ghost use mathlib.Core.Path.{_≡_};
 ghost use Prim.Native.Nat.{_+_, _*_};
 ghost use Rattle.picture.specs.Picture.{drawn};
 ghost use Rattle.registers.specs.Next.{penOf};
-ghost use Rattle.chip.specs.Chip.{modeOf, styleOf, wholeOffers, isCut, figureOffers};
+ghost use Rattle.chip.specs.Chip.{styleOf, wholeOffers, isCut, figureOffers};
 ghost use Rattle.picture.specs.Lent.{Draws};
-use line::Mode;
 use line::Style;
+use line::mode_of;
 use line::segment;
 use registers::Registers;
 use registers::SECTIONING;
 use registers::shape::Completed;
 use triangle::draw::triangle;
-
-// The line mode that LMODE's word names.
-fn mode_of(lmode: u16) -> Mode
-    ensures { λ r. ⌜ r ≡ modeOf lmode ⌝ }
-{
-    match lmode {
-        0 => Mode::Zero,
-        1 => Mode::One,
-        _ => Mode::Two,
-    }
-}
 
 // The line pattern of two words, bits 31 to 16 first.
 fn pattern_of(high: u16, low: u16) -> u32

@@ -17,7 +17,7 @@ use Rattle.picture.specs.declared.Vertex.{Vertex}
 use Rattle.picture.specs.Place.{layoutOf, mine, inMemory}
 use Rattle.picture.specs.Offer.{Offer, hasBit, patternBit, shows, inWindow, offered, keep}
 use Rattle.picture.specs.Draw.{spans}
-use Rattle.picture.proofs.Places.{both, same-test}
+use Rattle.ground.proofs.Truth.{both, same-test}
 use Rattle.picture.proofs.Rows.{every, each}
 use Rattle.line.specs.Segment.{larger, smaller, xLeads, sideAt, xAt, yAt, numberAt, shadeOffers, segmentOffers}
 use Rattle.triangle.specs.Edge.{plusOf, minusOf, edgeAt, closed, inside, covers}

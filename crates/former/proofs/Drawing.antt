@@ -12,10 +12,10 @@ use Rattle.picture.specs.declared.Vertex.{Vertex}
 use Rattle.picture.specs.declared.Kind.{Kind}
 use Rattle.picture.specs.declared.Kind.the-variants.{Line0, Line1, Line2}
 use Rattle.picture.specs.Place.{layoutOf, mine, inMemory}
-use Rattle.picture.specs.Offer.{Offer, offer, isMasked, inWindow, shows, offered, keep}
+use Rattle.picture.specs.Offer.{Offer, offer, letsThrough, inWindow, shows, offered, keep}
 use Rattle.picture.specs.Picture.{Picture, picture, passes, newI, newZ, stepAt, drawOne, drawn}
 use Rattle.picture.specs.Store.{Store, pixelFor, storedI, storedZ, stored, filled, storable}
-use Rattle.picture.proofs.Places.{same-test}
+use Rattle.ground.proofs.Truth.{same-test}
 use Rattle.picture.proofs.Offers.{window-in}
 use Rattle.picture.proofs.Spans.{spans-same, spans-stop}
 use Rattle.triangle.specs.Edge.{edgeAt, covers}
@@ -70,7 +70,7 @@ module _ (r : Registers) (v : Window) (h : Widened (r .window) v) where
   keep-same : (rows : ℕ) (o : Offer) → o .x ≤ formerCoordinate → o .y ≤ formerCoordinate → keep (penOf (withWindow r v)) rows o ≡ keep (penOf r) (wasRows rows) o
   unfolding keep offered inMemory shows
   keep-same rows o hx hy =
-      ap₂ (λ (a b : Bool). cond (a && (ltb (o .x) (r .frame .line) && b && mine (layoutOf (r .frame)) (o .x)) && (not (isMasked (o .kind)) || shows (penOf r) (o .x) (o .y))) (o ∷ []) [])
+      ap₂ (λ (a b : Bool). cond (a && (ltb (o .x) (r .frame .line) && b && mine (layoutOf (r .frame)) (o .x)) && letsThrough (penOf r) (o .kind) (o .x) (o .y)) (o ∷ []) [])
       (window-same (o .x) (o .y) hx hy) (row-same rows (o .y) hy)
 
   -- ---- a triangle

@@ -31,7 +31,8 @@ use Rattle.registers.specs.Region.{toward, moved, nextPixel}
 use Rattle.registers.specs.Subcommand.{subcommandOf, wants}
 use Rattle.registers.specs.Figure.{shapeOf, vertexOf, isPair, grownOf}
 use Rattle.registers.specs.Next.{value, awaited, effectOf, parmOf, coordinateOf, transferredOf, recordAfter}
-use Rattle.registers.proofs.Truth.{and-both, All, chain-all, all-chain, chosen}
+use Rattle.ground.proofs.Truth.{and-both, either}
+use Rattle.registers.proofs.Chains.{All, chain-all, all-chain}
 use Rattle.registers.proofs.Parking.{came-each, came-more}
 use Rattle.former.specs.Former.{formerCoordinate, formerWindow, wasCoordinate, wasBorder, wasValue, wasNumber, wasWord, wasWindow, wasVertex, wasParked, wasRegion, wasRecord, wasAfter}
 
@@ -139,7 +140,7 @@ parm-in r v s a =
     let test : ℕ → ℕ → Bool = λ k. wasValue (awaited r) in
     let l = set (r .parked .values) (r .parked .came) v in
     let q = came-more test (r .parked .values) (r .parked .came) v (zero-was (awaited r)) a (s .parked) in
-    chosen Inside (ltb (r .parked .came + 1) (wants (awaited r))) _ _ (λ t. in-parked s _ q)
+    either Inside (ltb (r .parked .came + 1) (wants (awaited r))) (λ t. in-parked s _ q)
     (λ t.
     let last = ltb-false (r .parked .came + 1) (wants (awaited r)) t in
     in-parked (effect-in r (awaited r) l s (λ k h. came-each test l (r .parked .came + 1) q k (omega (arith, h, last)))) nothingAwaited refl)
@@ -161,9 +162,9 @@ module _ (r : Registers) (s : Inside r) where
   grown-was : (shape : Shape) (end dashed : Bool) (v : Vertex) → wasVertex v ≡ true → Both (grownOf shape end dashed (r .figure) v)
   unfolding grownOf
   grown-was Closed end dashed v k = (s .first, s .second)
-  grown-was Strip end dashed v k = chosen Both (isPair (r .figure)) _ _ (λ t. (s .second, k)) (λ t. (s .first, k))
+  grown-was Strip end dashed v k = either Both (isPair (r .figure)) (λ t. (s .second, k)) (λ t. (s .first, k))
   grown-was Fan end dashed v k = (s .first, k)
-  grown-was Line end dashed v k = chosen Both end _ _ (λ t. (no-vertex, no-vertex)) (λ t. (k, no-vertex))
+  grown-was Line end dashed v k = either Both end (λ t. (no-vertex, no-vertex)) (λ t. (k, no-vertex))
 
   coordinate-in : (c : Coordinate) (n : ℕ) → wasNumber c n ≡ true → Inside (coordinateOf r c n)
   unfolding coordinateOf
@@ -183,7 +184,7 @@ unfolding toward
 toward-was a b h k =
     let p : a ≤ formerCoordinate = leb-true a formerCoordinate h in
     let q : b ≤ formerCoordinate = leb-true b formerCoordinate k in
-    chosen (λ (n : ℕ). wasCoordinate n ≡ true) (ltb a b) (a + 1) (a - 1)
+    either (λ (n : ℕ). wasCoordinate n ≡ true) (ltb a b) {x = a + 1} {y = a - 1}
     (λ t. let l : a + 1 ≤ formerCoordinate = omega (arith, ltb-true a b t, q) in le-leb _ _ l) (λ t. let l : a - 1 ≤ formerCoordinate = omega (arith, p) in le-leb _ _ l)
 
 abbrev region-tests : Region → List Bool
@@ -200,8 +201,8 @@ pixel-was g h =
     let q = region-each g h in
     let away : (x y : ℕ) → wasCoordinate x ≡ true → wasCoordinate y ≡ true → wasRegion (moved g x y) ≡ true = λ x y k l.
     all-chain (wasCoordinate (g .x0)) (region-tests (moved g x y)) (q .0, (q .1 .0, (q .1 .1 .0, (k, (l, tt))))) in
-    chosen (λ (k : Region). wasRegion k ≡ true) (eqb (g .x) (g .x1)) _ _
-    (λ t. chosen (λ (k : Region). wasRegion k ≡ true) (eqb (g .y) (g .y1)) _ _ (λ u. refl)
+    either (λ (k : Region). wasRegion k ≡ true) (eqb (g .x) (g .x1))
+    (λ t. either (λ (k : Region). wasRegion k ≡ true) (eqb (g .y) (g .y1)) (λ u. refl)
     (λ u. away (g .x0) (toward (g .y) (g .y1)) (q .0) (toward-was (g .y) (g .y1) (q .1 .1 .1 .1 .0) (q .1 .1 .0))))
     (λ t. away (toward (g .x) (g .x1)) (g .y) (toward-was (g .x) (g .x1) (q .1 .1 .1 .0) (q .1 .0)) (q .1 .1 .1 .1 .0))
 

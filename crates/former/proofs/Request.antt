@@ -17,7 +17,7 @@ use Rattle.registers.specs.declared.word.Word.{Word}
 use Rattle.registers.specs.Record.{settings, resetOf, withWindow}
 use Rattle.registers.specs.Figure.{vertexCompletes}
 use Rattle.registers.specs.Next.{isDeepPicture, transferredOf, completedBy, penOf}
-use Rattle.registers.proofs.Truth.{both}
+use Rattle.ground.proofs.Truth.{both}
 use Rattle.registers.proofs.Completing.{only-x-and-px, AllVertices, vertex-has}
 use Rattle.machine.specs.Run.{Outcome, Ran, ran, advance, runFrom, runOf}
 use Rattle.machine.specs.Machine.{Memories, memories, rowsIn, drawing, accepted, numberOf, stepOf}

@@ -19,7 +19,7 @@ use Rattle.registers.specs.Next.{awaited, joinedOf, counted, effectOf, parmOf, 
 use Rattle.registers.specs.Allowed.{allowed, fits}
 use Rattle.registers.specs.Bounds.{windowFits}
 use Rattle.registers.specs.Refusal.{tableOf, table, isUnfit, refusalOf, readTable, readRefusalOf}
-use Rattle.registers.proofs.Truth.{neither}
+use Rattle.ground.proofs.Truth.{neither}
 use Rattle.registers.proofs.Effects.{effect-has}
 use Rattle.registers.proofs.Refusals.{accepted-when, read-when, lowest-none}
 use Rattle.registers.proofs.Kept.{parts, whole, sound-window}

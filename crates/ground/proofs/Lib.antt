@@ -1,2 +1,3 @@
 pub mod Truth
 pub mod Settled
+pub mod Keys

@@ -6,7 +6,14 @@ ghost use Prim.Native.Nat.{min, max};
 pub fn least(a: usize, b: usize) -> usize
     ensures { λ r. ⌜ r ≡ min a b ⌝ }
 {
-    if a < b { a } else { b }
+    if b < a { b } else { a }
+}
+
+// The greatest of two lengths.
+pub fn most(a: usize, b: usize) -> usize
+    ensures { λ r. ⌜ r ≡ max a b ⌝ }
+{
+    if b < a { a } else { b }
 }
 
 // The smaller of two numbers.

@@ -14,7 +14,7 @@ use borrow.Author.Tests.{eq-eqb, ne-eqb, eqb-true, not-false, lt-ltb, le-ltb, lt
 use Rattle.stream.specs.Format.{bits, number, joined, whole}
 use Rattle.stream.proofs.Bits.{Fits, fits-append, fits-drop, bits-fit, length-bits, bits-number, number-bits}
 use Rattle.registers.specs.declared.Registers.{Registers}
-use Rattle.registers.proofs.Truth.{neither}
+use Rattle.ground.proofs.Truth.{neither}
 use Rattle.machine.specs.Run.{Ran}
 use Rattle.machine.specs.Machine.{Memories}
 use Rattle.machine.proofs.Runs.{zero-or-not}

@@ -14,7 +14,7 @@ use lib.Seq.{drop-drop, take-at, drop-at}
 use borrow.Author.Tests.{lt-ltb, ltb-true, eqb-true}
 use Rattle.stream.specs.Format.{bits, number, cut, whole}
 use Rattle.stream.proofs.Bits.{length-bits, bits-split, bits-low, number-bits}
-use Rattle.registers.proofs.Truth.{both}
+use Rattle.ground.proofs.Truth.{both}
 use Rattle.instalments.specs.Instalments.{bitsFit}
 
 -- ---- bits that are held

@@ -14,7 +14,7 @@ use Rattle.stream.proofs.Bits.{Fits, fits-append, fits-drop, fits-take, bits-fi
 use Rattle.registers.specs.declared.Registers.{Registers}
 use Rattle.registers.specs.Record.{settings}
 use Rattle.registers.specs.Bounds.{inBounds}
-use Rattle.registers.proofs.Truth.{both, and-both}
+use Rattle.ground.proofs.Truth.{both, and-both}
 use Rattle.registers.proofs.Kept.{reset-kept}
 use Rattle.machine.specs.Run.{Ran}
 use Rattle.machine.specs.Machine.{Memories}

@@ -14,7 +14,7 @@ use Rattle.registers.specs.declared.Registers.{Registers}
 use Rattle.registers.specs.Word.{wordOf}
 use Rattle.registers.specs.Bounds.{inBounds}
 use Rattle.registers.specs.Refusal.{isUnknown, isCold, refusalOf}
-use Rattle.registers.proofs.Truth.{both, and-both}
+use Rattle.ground.proofs.Truth.{both, and-both}
 use Rattle.registers.proofs.Commands.{decode-unknown}
 use Rattle.registers.proofs.Refusals.{given-1, given-11, given-12, given-13, given-most}
 use Rattle.registers.proofs.Begun.{accepted-begun}

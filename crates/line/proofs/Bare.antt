@@ -11,7 +11,7 @@ use borrow.Author.Tests.{leb-true, leb-false, ltb-true, ltb-false, eqb-true}
 use Rattle.picture.specs.declared.Pen.{Pen}
 use Rattle.picture.specs.declared.Kind.{Kind}
 use Rattle.picture.specs.Picture.{isDeep, isEdge, comparedOf, wins, passes, newI, newZ, picture, stepAt}
-use Rattle.picture.proofs.Places.{both}
+use Rattle.ground.proofs.Truth.{both}
 use Rattle.picture.proofs.Offers.{compared-nearer, compared-equal, compared-farther, passes-free, store-i, keep-z}
 use Rattle.picture.proofs.Rows.{in-all-planes}
 use Rattle.line.specs.declared.Mode.{Mode}

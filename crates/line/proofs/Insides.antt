@@ -11,8 +11,9 @@ use Rattle.picture.specs.declared.Pen.{Pen}
 use Rattle.picture.specs.declared.Vertex.{Vertex}
 use Rattle.picture.specs.declared.Kind.{Kind}
 use Rattle.picture.specs.Place.{liesPlain, liesTiled, layoutOf, rowsOf, isWhole, mine, inMemory}
-use Rattle.picture.specs.Offer.{offer, inWindow, offered, isMasked, shows}
-use Rattle.picture.proofs.Places.{both, rows-whole, plain-mine, tiled-mine}
+use Rattle.picture.specs.Offer.{offer, inWindow, offered, letsThrough, isMasked, shows}
+use Rattle.ground.proofs.Truth.{both}
+use Rattle.picture.proofs.Places.{rows-whole, plain-mine, tiled-mine}
 use Rattle.picture.proofs.Offers.{window-in, window-of}
 use Rattle.picture.proofs.Rows.{shows-all}
 use Rattle.line.specs.declared.field.Field.{Field}
@@ -49,7 +50,7 @@ step-low a b k h =
 -- ---- a field where nothing but the window and the memory is asked
 
 -- where the transparency pattern hides nothing it shows each pixel
-open-shown : (pen : Pen) (kind : Kind) → isOpen pen kind ≡ true → (x y : ℕ) → (not (isMasked kind) || shows pen x y) ≡ true
+open-shown : (pen : Pen) (kind : Kind) → isOpen pen kind ≡ true → (x y : ℕ) → letsThrough pen kind x y ≡ true
 open-shown pen kind h x y = go (not (isMasked kind)) h
   where
     go : (m : Bool) → m || eqb (pen .transparency) 65535 ≡ true → m || shows pen x y ≡ true

@@ -11,7 +11,8 @@ use lib.Dec.{ltb, eqb}
 use borrow.Author.Tests.{ltb-true, ltb-false, eqb-true, ne-eqb}
 use Rattle.picture.specs.declared.Frame.{Frame}
 use Rattle.picture.specs.Place.{liesPlain, liesTiled, waysOf, share, layoutOf, isWhole, placeOf, mine}
-use Rattle.picture.proofs.Places.{both, or-none, lies-shared, ways-low, place-shared}
+use Rattle.ground.proofs.Truth.{both, neither}
+use Rattle.picture.proofs.Places.{lies-shared, ways-low, place-shared}
 use Rattle.line.specs.Part.{part, partOf, hasPlace}
 
 -- ---- places of the whole picture, by a number that divides the line length
@@ -41,7 +42,7 @@ part-shift frame = go (ltb (frame .layout) 4)
 
 module _ (frame : Frame) (e : liesPlain frame ≡ false) (f : liesTiled frame ≡ false) where
   high : frame .layout ≤ 7
-  high = ltb-false 7 (frame .layout) (or-none (eqb (frame .layout) 0) (ltb 7 (frame .layout)) e .1)
+  high = ltb-false 7 (frame .layout) (neither (eqb (frame .layout) 0) (ltb 7 (frame .layout)) e .1)
 
   even : isWhole (layoutOf frame) (frame .line) ≡ true → frame .line % waysOf frame ≡ 0
   unfolding isWhole

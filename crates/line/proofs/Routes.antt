@@ -12,7 +12,7 @@ use Rattle.picture.specs.declared.Frame.{Frame}
 use Rattle.picture.specs.declared.Pen.{Pen}
 use Rattle.picture.specs.declared.Vertex.{Vertex}
 use Rattle.picture.specs.Place.{liesPlain, liesTiled, layoutOf, rowsOf, mine}
-use Rattle.picture.proofs.Places.{both}
+use Rattle.ground.proofs.Truth.{both}
 use Rattle.line.specs.declared.Style.{Style}
 use Rattle.line.specs.declared.part.Part.{Part}
 use Rattle.line.specs.declared.slope.Slope.{Slope}

@@ -2,7 +2,8 @@
 -- and document 02, [2]).
 use Prim.Native.Nat.{ℕ, _+_, _-_, _*_, _/_, _%_, min, max}
 use mathlib.Core.Bool.{Bool, true, false, cond}
-use mathlib.Core.List.{List, []}
+use mathlib.Core.List.{List, [], _∷_}
+use lib.ListN.{getD}
 use lib.Dec.{leb, ltb, eqb}
 use Rattle.picture.specs.declared.Pen.{Pen}
 use Rattle.picture.specs.declared.Vertex.{Vertex}
@@ -48,6 +49,10 @@ unfoldable pub yAt : Vertex → Vertex → ℕ → ℕ
 yAt a b k = towards (a .y) (b .y) (cond (xLeads a b) (sideAt (larger a b) (smaller a b) k) k)
 
 -- ---- what a step offers
+
+-- the line mode that a number names: 0, 1, and 2 for every other
+unfoldable pub modeOf : ℕ → Mode
+modeOf n = getD (Zero ∷ One ∷ []) n Two
 
 -- the kind of a line's pixels
 abbrev pub kindOf : Mode → Kind

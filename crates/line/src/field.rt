@@ -8,6 +8,7 @@ use picture::Frame;
 use picture::Kind;
 use picture::Pen;
 use picture::Vertex;
+use picture::pixel::is_in_window;
 use picture::place::TILED;
 use picture::place::lies_plain;
 use picture::place::rows_of;
@@ -63,7 +64,7 @@ pub(crate) fn is_within(pen: Pen, rows: usize, x: u16, y: u16) -> bool
     ensures { λ r. ⌜ r ≡ inField pen rows x y ⌝ }
 {
     let frame = pen.frame;
-    let window = (pen.left <= x) & (x <= pen.right) & (pen.bottom <= y) & (y <= pen.top);
+    let window = is_in_window(pen, x, y);
     let memory = (x < frame.line) & ((y as usize) < rows);
     window & memory
 }

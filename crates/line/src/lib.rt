@@ -1,7 +1,7 @@
 // Line segments. specs/Segment.antt says which pixels a segment has and what is offered of them.
 ghost use mathlib.Core.Path.{_≡_};
 ghost use Rattle.picture.specs.Picture.{picture};
-ghost use Rattle.line.specs.Segment.{larger, segmentOffers};
+ghost use Rattle.line.specs.Segment.{modeOf, larger, segmentOffers};
 ghost use Rattle.picture.specs.Lent.{Draws};
 use crate::anywhere::drawn_anywhere;
 use crate::field::has_ends;
@@ -27,6 +27,17 @@ pub enum Mode {
     Zero,
     One,
     Two,
+}
+
+// The line mode that a number names.
+pub fn mode_of(number: u16) -> Mode
+    ensures { λ r. ⌜ r ≡ modeOf number ⌝ }
+{
+    match number {
+        0 => Mode::Zero,
+        1 => Mode::One,
+        _ => Mode::Two,
+    }
 }
 
 // What the modes say of lines, and what the line says of its next segment: how many steps it has made, and whether the segment leaves out its

@@ -16,7 +16,8 @@ use Rattle.picture.specs.Store.{Store, site, afterStore, storesAt}
 use Rattle.picture.proofs.Stores.{filled-cell}
 use Rattle.picture.proofs.Fold.{drawn-i, drawn-z}
 use Rattle.picture.specs.Cell.{Cell, offerLeaves, there}
-use Rattle.picture.proofs.Places.{both, place-below}
+use Rattle.ground.proofs.Truth.{both}
+use Rattle.picture.proofs.Places.{place-below}
 use Rattle.picture.proofs.Cells.{drawn-cell, there-member}
 use Rattle.machine.specs.Run.{Ran, ran, runFrom}
 use Rattle.machine.specs.Machine.{Machine, Memories, rowsIn, numberOf, stepOf}

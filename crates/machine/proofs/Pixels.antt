@@ -15,7 +15,8 @@ use Rattle.picture.specs.Offer.{Offer, onPixel}
 use Rattle.picture.specs.Picture.{passes, newI, newZ, Picture, picture, stepAt, drawOne, drawn}
 use Rattle.picture.specs.Cell.{Cell, cellAt, offerLeaves, there}
 use Rattle.picture.specs.Store.{Store, filled, afterStore, storesAt}
-use Rattle.picture.proofs.Places.{both, same-test, place-below, place-apart}
+use Rattle.ground.proofs.Truth.{both, same-test}
+use Rattle.picture.proofs.Places.{place-below, place-apart}
 use Rattle.picture.proofs.Fold.{step-i, step-z, drawn-one}
 use Rattle.picture.proofs.Cells.{drawn-cell}
 use Rattle.picture.proofs.Stores.{filled-cell}

@@ -19,7 +19,7 @@ use Rattle.picture.specs.Draw.{spans}
 use Rattle.picture.specs.Cell.{Cell, cellAt, offerLeaves, there}
 use Rattle.picture.specs.Store.{Store, site, filled, afterStore, storesAt}
 use Rattle.picture.proofs.Layouts.{digits-same}
-use Rattle.picture.proofs.Places.{both, same-test}
+use Rattle.ground.proofs.Truth.{both, same-test}
 use Rattle.picture.proofs.Fold.{drawn-nil, drawn-one, drawn-i, drawn-z}
 use Rattle.picture.proofs.Cells.{drawn-cell}
 use Rattle.picture.proofs.Stores.{filled-cell}

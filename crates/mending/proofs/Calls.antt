@@ -14,7 +14,7 @@ use Rattle.stream.specs.Calls.{over}
 use Rattle.stream.proofs.Stream.{length-unpack, length-pack}
 use Rattle.registers.specs.declared.Registers.{Registers}
 use Rattle.registers.specs.Record.{resetOf}
-use Rattle.registers.proofs.Truth.{neither}
+use Rattle.ground.proofs.Truth.{neither}
 use Rattle.machine.specs.Run.{Ran}
 use Rattle.machine.specs.Machine.{Memories, stepOf}
 use Rattle.machine.specs.Offers.{State, allOf}

@@ -1,6 +1,6 @@
 -- Each layout by itself: its rows end where they should, and a pixel has a place of its own below that end. Assumes nothing.
 use mathlib.Core.Path.{_≡_, refl, sym, ap, ap₂, _∙_}
-use mathlib.Core.Bool.{Bool, true, false, cond, not, _&&_, true≢false}
+use mathlib.Core.Bool.{true, not, _&&_}
 use Prim.Native.Nat.{ℕ, zero, suc, _+_, _*_, _/_, _%_, _≤_, _<_, min}
 use native.Mathlib.Nat.{le-div-iff-mul-le, div-lt-iff-lt-mul, div-add-mod', mul-assoc, suc-mul, zero-mul}
 use native.Mathlib.Numerals.{add-one}
@@ -8,14 +8,10 @@ use native.Mathlib.Omega.{arith}
 use lib.Arith.{digits-lt, digits-div, digits-mod}
 use lib.Dec.{eqb}
 use borrow.Author.Tests.{eqb-true, eqb-false, not-true}
+use Rattle.ground.proofs.Truth.{both}
 use Rattle.picture.specs.Limits.{mostRows}
 use Rattle.picture.specs.Place.{Layout, plain, tiled, share, spotOf, isWhole, widthOf, rowsIn, mine}
 use Rattle.picture.specs.Loops.{bandEnd}
-
--- two tests that hold both
-pub both : (a b : Bool) → a && b ≡ true → (a ≡ true) × (b ≡ true)
-both true b e = (refl, e)
-both false b e = absurd (true≢false (sym e))
 
 -- ---- numbers of two digits
 

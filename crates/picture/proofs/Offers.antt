@@ -14,16 +14,17 @@ use Rattle.picture.specs.declared.Kind.{Kind}
 use Rattle.picture.specs.declared.Kind.the-variants.{Line2}
 use Rattle.picture.specs.declared.Compared.the-variants.{Nearer, Equal, Farther}
 use Rattle.picture.specs.Place.{liesPlain, placeOf, rowsOf, inMemory}
-use Rattle.picture.specs.Offer.{Offer, offer, isMasked, inWindow, shows, offered, keep}
+use Rattle.picture.specs.Offer.{Offer, offer, letsThrough, inWindow, offered, keep}
 use Rattle.picture.specs.Picture.{isDeep, comparedOf, wins, passes, inPlanes, newI, newZ, Picture, picture, stepAt, drawOne, drawn}
 use Rattle.picture.specs.Draw.{placed, shown, seen}
-use Rattle.picture.proofs.Places.{both, inside-parts, inside-of, plain-mine, place-below}
+use Rattle.ground.proofs.Truth.{both}
+use Rattle.picture.proofs.Places.{inside-parts, inside-of, plain-mine, place-below}
 use Rattle.picture.proofs.Fold.{drawn-passed}
 
 -- inside the window, the window asks nothing more
 pub keep-seen : (pen : Pen) (rows : ℕ) (o : Offer) → inWindow pen (o .x) (o .y) ≡ true → keep pen rows o ≡ seen pen rows o
 unfolding keep offered seen shown
-keep-seen pen rows o h = rw h (go (inMemory (pen .frame) rows (o .x) (o .y)) (not (isMasked (o .kind)) || shows pen (o .x) (o .y)))
+keep-seen pen rows o h = rw h (go (inMemory (pen .frame) rows (o .x) (o .y)) (letsThrough pen (o .kind) (o .x) (o .y)))
   where
     go : (m s : Bool) → cond (m && s) (o ∷ []) [] ≡ cond m (cond s (o ∷ []) []) []
     go true s = refl
@@ -66,7 +67,7 @@ module _ (pen : Pen) (rows : ℕ) (kind : Kind) (x y : ℕ) where
   pub offered-inside : offered pen rows (offer kind x y 0 0) ≡ true → inMemory (pen .frame) rows x y ≡ true
   unfolding offered
   offered-inside h =
-      let k = both (inWindow pen x y && inMemory (pen .frame) rows x y) (not (isMasked kind) || shows pen x y) h in
+      let k = both (inWindow pen x y && inMemory (pen .frame) rows x y) (letsThrough pen kind x y) h in
       both (inWindow pen x y) (inMemory (pen .frame) rows x y) (k .0) .1
 
   pub keep-drawn : (i z : ℕ) (p q : Picture) → offered pen rows (offer kind x y 0 0) ≡ true → q ≡ stepAt pen kind (placeOf (pen .frame) x y) i z p
@@ -145,7 +146,7 @@ keep-placed pen ni nz kind x y i z at im zm n li lz h e =
 -- where both ends of a box are inside the window and a memory of rows one after the other, so is every pixel of it
 pub box-offered : (pen : Pen) (rows : ℕ) → liesPlain (pen .frame) ≡ true → (ax ay bx by x y : ℕ) (kind : Kind)
     → offered pen rows (offer Line2 ax ay 0 0) ≡ true → offered pen rows (offer Line2 bx by 0 0) ≡ true
-    → min ax bx ≤ x → x ≤ max ax bx → min ay by ≤ y → y ≤ max ay by → (not (isMasked kind) || shows pen x y) ≡ true
+    → min ax bx ≤ x → x ≤ max ax bx → min ay by ≤ y → y ≤ max ay by → letsThrough pen kind x y ≡ true
     → offered pen rows (offer kind x y 0 0) ≡ true
 unfolding offered
 box-offered pen rows lies ax ay bx by x y kind p q l r b t s =

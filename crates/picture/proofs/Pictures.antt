@@ -6,6 +6,7 @@ use Prim.Native.Nat.{ℕ, _≤_, _<_}
 use native.Mathlib.Omega.{arith}
 use lib.ListN.{length, getD, set}
 use lib.Seq.{getD-set-same, set-getD}
+use Rattle.ground.proofs.Truth.{either}
 use Rattle.picture.specs.declared.Frame.{Frame}
 use Rattle.picture.specs.declared.Pen.{Pen}
 use Rattle.picture.specs.Place.{placeOf, rowsOf, inMemory}
@@ -33,10 +34,6 @@ own-i pen x h k = go (pen .ienable)
     go : (b : Bool) → cond b (inPlanes (pen .planes) x x) x ≡ x
     go true = own-planes (pen .planes) x h k
     go false = refl
-
-either : (b : Bool) (x : ℕ) → cond b x x ≡ x
-either true x = refl
-either false x = refl
 
 module _ (pen : Pen) (i z : List ℕ) (deep : Bool) (x y v : ℕ) where
   abbrev pub inUse : ℕ
@@ -117,7 +114,7 @@ read-stored pen i z deep x y h low = go (inMemory (pen .frame) (rowsOf (pen .fra
         which : (d : Bool) → deep ≡ d → left pen i z deep x y (getD (cond d z i) at 0) ≡ picture i z 0
         which true t =
             sym (store-deep pen i z x y (getD z at 0) {deep = deep} {at = at} refl e t refl)
-            ∙ ap (λ (l : List ℕ). picture i l 0) (ap (set z at) (either (pen .zenable) (getD z at 0)) ∙ set-getD z at 0)
+            ∙ ap (λ (l : List ℕ). picture i l 0) (ap (set z at) (either (λ (n : ℕ). n ≡ getD z at 0) (pen .zenable) (λ t. refl) (λ t. refl)) ∙ set-getD z at 0)
         which false t =
             sym (store-intensity pen i z x y (getD i at 0) {deep = deep} {at = at} refl e t refl)
             ∙ ap (λ (l : List ℕ). picture l z 0) (ap (set i at) (own-i pen (getD i at 0) h (low at)) ∙ set-getD i at 0)

@@ -1,27 +1,17 @@
 -- Where pixels lie: a pixel inside the memory has a place of its own, below the lent lengths. Assumes nothing.
 use mathlib.Core.Path.{_≡_, refl, sym, ap, _∙_}
-use mathlib.Core.Bool.{Bool, true, false, cond, not, _&&_, _||_, true≢false}
+use mathlib.Core.Bool.{Bool, true, false, cond, not, _&&_, _||_}
 use Prim.Native.Nat.{ℕ, _+_, _-_, _*_, _/_, _%_, _≤_, _<_, zero-le, min}
 use native.Mathlib.Nat.{add-assoc, zero-add, min-le-right, mul-le-mul, mul-le-mul-right}
 use native.Mathlib.Omega.{arith}
 use lib.Dec.{ltb, leb, eqb}
 use borrow.Author.Tests.{lt-ltb, ltb-true, le-leb, leb-true, ltb-false, eqb-true, eqb-false, eq-eqb}
+use Rattle.ground.proofs.Truth.{both, neither, same-test}
 use Rattle.picture.specs.declared.Frame.{Frame}
 use Rattle.picture.specs.Limits.{mostRows}
 use Rattle.picture.specs.Place.{Layout, plain, tiled, share, liesPlain, liesTiled, waysOf, layoutOf, spotOf, placeOf, isWhole, widthOf, rowsIn, rowsOf, mine, inMemory}
-use Rattle.picture.proofs.Layouts as layouts
 use Rattle.picture.specs.Loops.{bandEnd, alongTiles}
 use Rattle.picture.proofs.Layouts.{rows-end, rows-hold, band-low, spot-low, spot-apart}
-
--- two tests that hold both
-pub both : (a b : Bool) → a && b ≡ true → (a ≡ true) × (b ≡ true)
-both = layouts.both
-
--- two tests that hold in the same cases
-pub same-test : (a b : Bool) → (a ≡ true → b ≡ true) → (b ≡ true → a ≡ true) → a ≡ b
-same-test true b f g = sym (f refl)
-same-test false true f g = g refl
-same-test false false f g = refl
 
 -- a pixel inside lies in a column of the line that the memory has, and in a row in use
 pub inside-parts : (frame : Frame) (rows x y : ℕ) → inMemory frame rows x y ≡ true → (x < frame .line) × (y < rows) × (mine (layoutOf frame) x ≡ true)
@@ -174,15 +164,10 @@ pub inside-of : (frame : Frame) (rows x y : ℕ) → x < frame .line → y < row
 unfolding inMemory
 inside-of frame rows x y h k m = rw (lt-ltb _ _ h, lt-ltb _ _ k, m)
 
--- of tests neither of which holds
-pub or-none : (a b : Bool) → a || b ≡ false → (a ≡ false) × (b ≡ false)
-or-none true b e = absurd (true≢false e)
-or-none false b e = (refl, e)
-
 -- the number of a unit's layout is no less than the units'
 pub ways-low : (frame : Frame) → liesPlain frame ≡ false → liesTiled frame ≡ false → waysOf frame ≤ frame .layout
 ways-low frame e f =
-    let n = or-none (eqb (frame .layout) 0) (ltb 7 (frame .layout)) e in
+    let n = neither (eqb (frame .layout) 0) (ltb 7 (frame .layout)) e in
     go (ltb (frame .layout) 4) refl (eqb-false (frame .layout) 0 (n .0)) (eqb-false (frame .layout) 1 f)
   where
     go : (b : Bool) → ltb (frame .layout) 4 ≡ b → (frame .layout ≡ 0 → ⊥) → (frame .layout ≡ 1 → ⊥) → cond b 2 4 ≤ frame .layout

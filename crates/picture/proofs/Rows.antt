@@ -19,22 +19,22 @@ use Rattle.picture.specs.declared.Compared.{Compared}
 use Rattle.picture.specs.declared.Compared.the-variants.{Nearer, Equal, Farther}
 use Rattle.picture.specs.declared.Carried.{Carried}
 use Rattle.picture.specs.Place.{layoutOf, placeOf, mine, inMemory}
-use Rattle.picture.specs.Offer.{Offer, offer, isMasked, shows}
+use Rattle.picture.specs.Offer.{Offer, offer, letsThrough, isMasked, shows}
 use Rattle.picture.specs.Picture.{isDeep, comparedOf, isEdge, wins, passes, inPlanes, newI, newZ, Picture, picture, stepAt, drawOne, drawn}
 use Rattle.picture.specs.Draw.{carriedOne, shown, seen, carriedTo, spanPixel, spanOffers, isPlain, nearerPen}
 use Rattle.picture.specs.Loops.{Plain, isNearer, nearerAt}
-use Rattle.picture.proofs.Places.{both}
+use Rattle.ground.proofs.Truth.{both}
 use Rattle.picture.proofs.Fold.{drawn-nil}
 use Rattle.picture.proofs.Spans.{spans-stop, spans-none, spans-alike}
 
 -- ---- one pixel
 
-pub shown-drawn : (pen : Pen) (kind : Kind) (x y i z : ℕ) (p q : Picture) → (not (isMasked kind) || shows pen x y) ≡ true
+pub shown-drawn : (pen : Pen) (kind : Kind) (x y i z : ℕ) (p q : Picture) → letsThrough pen kind x y ≡ true
     → q ≡ stepAt pen kind (placeOf (pen .frame) x y) i z p → q ≡ drawn pen (shown pen (offer kind x y i z)) p
 unfolding shown drawn drawOne
 shown-drawn pen kind x y i z p q h e = rw h e
 
-pub shown-left : (pen : Pen) (kind : Kind) (x y i z : ℕ) (p : Picture) → (not (isMasked kind) || shows pen x y) ≡ false
+pub shown-left : (pen : Pen) (kind : Kind) (x y i z : ℕ) (p : Picture) → letsThrough pen kind x y ≡ false
     → p ≡ drawn pen (shown pen (offer kind x y i z)) p
 unfolding shown drawn
 shown-left pen kind x y i z p h = rw h

@@ -9,7 +9,3 @@ pub settled : {outcome : Picture} {i i′ z z′ : List ℕ} {n n′ : ℕ} → 
 settled p q =
     let same = p ∙ sym q in
     (ap (λ (s : Picture). s .i) same, ap (λ (s : Picture). s .z) same, ap (λ (s : Picture). s .passed) same)
-
--- of a call whose promise is an equation for its answer alone
-pub one-answer : {A : Type 0} {value r r′ : A} → r ≡ value → r′ ≡ value → r ≡ r′
-one-answer p q = p ∙ sym q

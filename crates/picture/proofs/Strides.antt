@@ -18,7 +18,8 @@ use Rattle.picture.specs.Offer.{Offer, offer}
 use Rattle.picture.specs.Picture.{Picture, drawn}
 use Rattle.picture.specs.Draw.{carriedOne, shown, seen, carriedTo, spanPixel, spanOffers}
 use Rattle.picture.specs.Loops.{Shares, untilOwn, ownBelow, stridden, ownOffers}
-use Rattle.picture.proofs.Places.{or-none, lies-shared, ways-low, inside-of}
+use Rattle.ground.proofs.Truth.{neither}
+use Rattle.picture.proofs.Places.{lies-shared, ways-low, inside-of}
 use Rattle.picture.proofs.Spans.{spans-zero, spans-some}
 use Rattle.picture.proofs.Rows.{seen-inside, seen-outside}
 
@@ -34,7 +35,7 @@ few-some = by-few (λ ways. 0 < ways) (omega arith) (omega arith)
 -- a frame that lies neither in rows nor in tiles is a unit's
 pub shares-of : (frame : Frame) → liesPlain frame ≡ false → liesTiled frame ≡ false → Shares frame (waysOf frame)
 shares-of frame e f =
-    let low = ltb-false 7 (frame .layout) (or-none (eqb (frame .layout) 0) (ltb 7 (frame .layout)) e .1) in
+    let low = ltb-false 7 (frame .layout) (neither (eqb (frame .layout) 0) (ltb 7 (frame .layout)) e .1) in
     record { few = few (ltb (frame .layout) 4); least = ways-low frame e f; most = most (ltb (frame .layout) 4) refl low; is = lies-shared frame e f }
   where
     few : (b : Bool) → (cond {A = ℕ} b 2 4 ≡ 2) ⊎ (cond {A = ℕ} b 2 4 ≡ 4)

@@ -10,7 +10,7 @@ use Rattle.picture.specs.declared.Kind.{Kind}
 use Rattle.picture.specs.declared.Carried.{Carried}
 use Rattle.picture.specs.Place.{inMemory}
 use Rattle.picture.specs.Picture.{isDeep, isEdge, Picture, stepAt}
-use Rattle.picture.specs.Offer.{Offer, offer, isMasked, shows}
+use Rattle.picture.specs.Offer.{Offer, offer, letsThrough, isMasked}
 
 -- the offers of f 0, then those of f 1, up to and without f n
 unfoldable pub spans : (ℕ → List Offer) → ℕ → List Offer
@@ -23,7 +23,7 @@ placed pen kind at i z p = cond (ltb at (length (p .i)) && ltb at (length (p .z)
 
 -- a pixel, as the transparency pattern lets it through: itself or nothing
 unfoldable pub shown : Pen → Offer → List Offer
-shown pen o = cond (not (isMasked (o .kind)) || shows pen (o .x) (o .y)) (o ∷ []) []
+shown pen o = cond (letsThrough pen (o .kind) (o .x) (o .y)) (o ∷ []) []
 
 -- a pixel about which the window is not asked
 unfoldable pub seen : Pen → ℕ → Offer → List Offer

@@ -3,7 +3,7 @@ use denote.Ref.{now}
 use Prim.Native.Nat.{ℕ, zero, suc, _+_, _-_, _*_, _/_, _%_, _^_, _≤_, _<_}
 use mathlib.Core.Path.{_≡_}
 use mathlib.Core.Logic.{_⊎_}
-use mathlib.Core.Bool.{Bool, true, false, cond, not, _||_}
+use mathlib.Core.Bool.{Bool, true, false, cond}
 use mathlib.Core.List.{List}
 use lib.ListN.{getD, set}
 use Rattle.picture.specs.declared.Carried.{Carried}
@@ -15,14 +15,14 @@ use Rattle.picture.specs.declared.Kind.the-variants.{Gouraud}
 use Rattle.picture.specs.declared.Compared.{Compared}
 use Rattle.picture.specs.declared.Compared.the-variants.{Nearer, Equal, Farther}
 use Rattle.picture.specs.Place.{Layout, plain, tiled, share, layoutOf, rowsOf}
-use Rattle.picture.specs.Offer.{Offer, offer, isMasked, shows}
+use Rattle.picture.specs.Offer.{Offer, offer, letsThrough}
 use Rattle.picture.specs.Draw.{spans, shown, carriedTo, spanOffers, nearerPen}
 use Rattle.picture.specs.Picture.{isDeep, comparedOf, isEdge, Picture, picture, drawn}
 use Rattle.picture.specs.Lent.{Lent}
 
 -- nothing but a nearer depth decides, and both numbers are stored whole
 pub record Plain (pen : Pen) (kind : Kind) : Type 0 where
-  pub shows-all : (x y : ℕ) → (not (isMasked kind) || shows pen x y) ≡ true
+  pub shows-all : (x y : ℕ) → letsThrough pen kind x y ≡ true
   pub deep : isDeep kind ≡ true
   pub strict : isEdge kind ≡ false
   pub depth : pen .depth ≡ true

@@ -43,10 +43,13 @@ patternBit x y = 4 * (y % 4) + x % 4
 unfoldable pub shows : Pen → ℕ → ℕ → Bool
 shows pen x y = hasBit (pen .transparency) (patternBit x y)
 
--- a pixel is offered: inside the window, inside the memory, and shown where the pattern concerns it
+-- pixel (x, y) of a figure is not hidden by the transparency pattern: the pattern does not concern the kind, or the pixel's bit is set
+abbrev pub letsThrough : Pen → Kind → ℕ → ℕ → Bool
+letsThrough pen kind x y = not (isMasked kind) || shows pen x y
+
+-- a pixel is offered: inside the window, inside the memory, and not hidden by the pattern
 unfoldable pub offered : Pen → ℕ → Offer → Bool
-offered pen rows o =
-    inWindow pen (o .x) (o .y) && inMemory (pen .frame) rows (o .x) (o .y) && (not (isMasked (o .kind)) || shows pen (o .x) (o .y))
+offered pen rows o = inWindow pen (o .x) (o .y) && inMemory (pen .frame) rows (o .x) (o .y) && letsThrough pen (o .kind) (o .x) (o .y)
 
 -- a pixel of a figure, as the list of what is offered of it: itself or nothing
 unfoldable pub keep : Pen → ℕ → Offer → List Offer

@@ -4,7 +4,7 @@ mod carry;
 pub mod draw;
 pub mod limits;
 pub mod nearer;
-mod pixel;
+pub mod pixel;
 pub mod place;
 pub mod transfer;
 

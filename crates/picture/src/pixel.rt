@@ -59,7 +59,7 @@ pub(crate) fn is_shown(pen: Pen, x: u16, y: u16) -> bool
 }
 
 // Whether pixel (x, y) is inside the window.
-fn is_in_window(pen: Pen, x: u16, y: u16) -> bool
+pub fn is_in_window(pen: Pen, x: u16, y: u16) -> bool
     ensures { λ r. ⌜ r ≡ inWindow pen x y ⌝ }
 {
     (pen.left <= x) & (x <= pen.right) & (pen.bottom <= y) & (y <= pen.top)

@@ -1,29 +1,16 @@
 // Where pixels lie in the lent memories.
 ghost use mathlib.Core.Path.{_≡_};
 ghost use mathlib.Core.Bool.{true, cond};
-ghost use Prim.Native.Nat.{_*_, _≤_, _<_, min, max};
+ghost use Prim.Native.Nat.{_*_, _≤_, _<_};
 ghost use lib.Dec.{ltb};
 ghost use Rattle.picture.specs.Place.{tiled, liesPlain, liesTiled, waysOf, layoutOf, spotOf, placeOf, isWhole, widthOf, rowsIn, rowsOf, mine, inMemory};
 ghost use Rattle.picture.specs.Loops.{bandEnd, alongTiles, Shares, untilOwn};
 use crate::Frame;
 use crate::limits::MOST_ROWS;
+use ground::least;
 
 // The layout's number of tiles.
 pub const TILED: u16 = 1;
-
-// The smaller of two numbers.
-pub fn least(a: usize, b: usize) -> usize
-    ensures { λ r. ⌜ r ≡ min a b ⌝ }
-{
-    if a < b { a } else { b }
-}
-
-// The larger of two numbers.
-pub fn most(a: usize, b: usize) -> usize
-    ensures { λ r. ⌜ r ≡ max a b ⌝ }
-{
-    if a < b { b } else { a }
-}
 
 // Whether rows lie one after the other.
 pub fn lies_plain(frame: Frame) -> bool

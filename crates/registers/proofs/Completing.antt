@@ -19,7 +19,7 @@ use Rattle.registers.specs.Next.{coordinateCompletes, completedBy}
 use Rattle.registers.specs.Allowed.{isCoordinate, allowed}
 use Rattle.registers.specs.Bounds.{vertexFits}
 use Rattle.registers.specs.Refusal.{refusalOf}
-use Rattle.registers.proofs.Truth.{both, chosen}
+use Rattle.ground.proofs.Truth.{both, either}
 use Rattle.registers.proofs.Refusals.{accepted-when}
 use Rattle.registers.proofs.Kept.{parts, vertices, vertex-fits}
 
@@ -61,14 +61,14 @@ AllVertices P (Segment a b) = P a × P b
 
 module _ (P : Vertex → Type 0) (r : Registers) (first : P (r .figure .first)) (second : P (r .figure .second)) where
   triangle-has : (v : Vertex) → P v → AllVertices P (cond (isPair (r .figure)) (Triangle (r .figure .first) (r .figure .second) v) None)
-  triangle-has v h = chosen (AllVertices P) (isPair (r .figure)) _ _ (λ t. (first, second, h)) (λ t. tt)
+  triangle-has v h = either (AllVertices P) (isPair (r .figure)) (λ t. (first, second, h)) (λ t. tt)
 
   completes-has : (shape : Shape) (inv : Bool) (v : Vertex) → P v → AllVertices P (completes shape inv (r .figure) v)
   unfolding completes
   completes-has Closed inv v h = tt
   completes-has Strip inv v h = triangle-has v h
   completes-has Fan inv v h = triangle-has v h
-  completes-has Line inv v h = chosen (AllVertices P) inv _ _ (λ t. tt) (λ t. (first, h))
+  completes-has Line inv v h = either (AllVertices P) inv (λ t. tt) (λ t. (first, h))
 
   -- what the open figure's vertices have, and the one that an x makes, the vertices have of what it completes
   pub vertex-has : (n : ℕ) → P (vertexOf r n) → AllVertices P (vertexCompletes r n)

@@ -17,7 +17,7 @@ use Rattle.registers.specs.declared.Registers.{Registers}
 use Rattle.registers.specs.Record.{dash, withPmode, withLmode, withZcontrol, withHcontrol, withLstatus, withTransparency, withPlanes, withSection, withModes, withWindow, withDash, withRegion}
 use Rattle.registers.specs.Subcommand.{wants}
 use Rattle.registers.specs.Next.{value, awaited, effectOf, parmOf, coordinateOf}
-use Rattle.registers.proofs.Truth.{chosen}
+use Rattle.ground.proofs.Truth.{either}
 
 -- P is so of no change, and of each change of one part: of the modes, where HCONTROL alone changes the hardware bits, of the window, of the lines'
 -- colours and pattern, and of the region, which is then open
@@ -70,7 +70,7 @@ effect-leaves r s l =
 pub parm-leaves : (r : Registers) (v : ℕ) → Leaves (awaited r) r (parmOf r v)
 unfolding parmOf
 parm-leaves r v =
-    chosen (Leaves (awaited r) r) (ltb (r .parked .came + 1) (wants (awaited r))) _ _
+    either (Leaves (awaited r) r) (ltb (r .parked .came + 1) (wants (awaited r)))
     (λ t. record { started = refl; latch = refl; figure = refl; hcontrol = λ n. refl })
     (λ t.
     let k = effect-leaves r (awaited r) _ in

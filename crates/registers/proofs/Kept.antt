@@ -37,7 +37,8 @@ use Rattle.registers.specs.Next.{value, awaited, joinedOf, counted, effe
 use Rattle.registers.specs.Allowed.{isCoordinate, isBorder, initAllowed, parameterAllowed, coordinateAllowed, allowed}
 use Rattle.registers.specs.Bounds.{largestLayout, frameFits, modesFit, windowFits, vertexFits, figureFits, eachCame, parkedFits, regionFits, inBounds}
 use Rattle.registers.specs.Refusal.{isUnmodelled, isAbove, table, lowest, isUnfit, refusalOf, next, readRefusalOf}
-use Rattle.registers.proofs.Truth.{and-both, All, chain-all, all-chain, chosen}
+use Rattle.ground.proofs.Truth.{and-both, either}
+use Rattle.registers.proofs.Chains.{All, chain-all, all-chain}
 use Rattle.registers.proofs.Table.{everywhere}
 use Rattle.registers.proofs.Parking.{came-each, came-more}
 use Rattle.registers.proofs.Lengths.{line-fits, frame-laid}
@@ -153,7 +154,7 @@ zero-allowed Lmode k = refl
 zero-allowed Zcontrol k = refl
 zero-allowed Hcontrol k = refl
 zero-allowed Tpattern k = refl
-zero-allowed Win k = chosen (λ (b : Bool). b ≡ true) (ltb k 4) (isBorder 0) (eqb 0 0) (λ t. refl) (λ t. refl)
+zero-allowed Win k = either (λ (b : Bool). b ≡ true) (ltb k 4) {x = isBorder 0} {y = eqb 0 0} (λ t. refl) (λ t. refl)
 zero-allowed Section k = refl
 zero-allowed Color k = refl
 zero-allowed Lpattern k = refl
@@ -260,7 +261,7 @@ module _ (p : Parked) (h : parkedFits p ≡ true) (v : ℕ) (a : parameterAllowe
 parm-sound : (r : Registers) (v : ℕ) → Sound r → allowed r (Parm v) ≡ true → Sound (parmOf r v)
 unfolding parmOf
 parm-sound r v s a =
-    chosen Sound (ltb (r .parked .came + 1) (wants (awaited r))) _ _
+    either Sound (ltb (r .parked .came + 1) (wants (awaited r)))
     (λ t. sound-parked s _ (counted-fits (r .parked) (s .parked) v a (ltb-true _ _ t)))
     (λ t. sound-parked (effect-sound r (awaited r) _ s (last-allowed (r .parked) (s .parked) v a (ltb-false _ _ t))) nothingAwaited nothing-fits)
 
@@ -290,16 +291,16 @@ advanced-fits : (dashed : Bool) (f : Figure) (v : Vertex) → vertexFits v ≡ t
 unfolding figureFits
 advanced-fits dashed f v h =
     let low : advanced dashed f v .steps < patternLength = omega arith in
-    and-both (and-both (and-both (and-both (and-both refl refl) h) no-vertex) (lt-ltb _ _ low)) (chosen (λ (n : ℕ). leb n 1 ≡ true) dashed 1 0 (λ t. refl) (λ t. refl))
+    and-both (and-both (and-both (and-both (and-both refl refl) h) no-vertex) (lt-ltb _ _ low)) (either (λ (n : ℕ). leb n 1 ≡ true) dashed {x = 1} {y = 0} (λ t. refl) (λ t. refl))
 
 grown-fits : (shape : Shape) (end dashed : Bool) (f : Figure) (v : Vertex) → figureFits f ≡ true → vertexFits v ≡ true → figureFits (grownOf shape end dashed f v) ≡ true
 unfolding grownOf
 grown-fits Closed end dashed f v h k = h
 grown-fits Strip end dashed f v h k =
     let q = vertices f h in
-    chosen (λ g. figureFits g ≡ true) (isPair f) _ _ (λ t. two-fit 1 1 (f .second) v refl refl (q .1) k) (λ t. two-fit 1 1 (f .first) v refl refl (q .0) k)
+    either (λ g. figureFits g ≡ true) (isPair f) (λ t. two-fit 1 1 (f .second) v refl refl (q .1) k) (λ t. two-fit 1 1 (f .first) v refl refl (q .0) k)
 grown-fits Fan end dashed f v h k = two-fit 2 1 (f .first) v refl refl (vertices f h .0) k
-grown-fits Line end dashed f v h k = chosen (λ g. figureFits g ≡ true) end _ _ (λ t. open-fits 0 noVertex refl no-vertex) (λ t. advanced-fits dashed f v k)
+grown-fits Line end dashed f v h k = either (λ g. figureFits g ≡ true) end (λ t. open-fits 0 noVertex refl no-vertex) (λ t. advanced-fits dashed f v k)
 
 module _ (r : Registers) (s : Sound r) where
   -- the vertex that an allowed x makes
@@ -329,7 +330,7 @@ unfolding toward
 toward-fits a b h k =
     let p : a ≤ largestCoordinate = leb-true a largestCoordinate h in
     let q : b ≤ largestCoordinate = leb-true b largestCoordinate k in
-    chosen (λ (n : ℕ). isCoordinate n ≡ true) (ltb a b) (a + 1) (a - 1)
+    either (λ (n : ℕ). isCoordinate n ≡ true) (ltb a b) {x = a + 1} {y = a - 1}
     (λ t. let l : a + 1 ≤ largestCoordinate = omega (arith, ltb-true a b t, q) in le-leb _ _ l) (λ t. let l : a - 1 ≤ largestCoordinate = omega (arith, p) in le-leb _ _ l)
 
 region-tests : Region → List Bool
@@ -346,8 +347,8 @@ pixel-fits g h =
     let q = chain-all (leb (g .way) 2) (region-tests g) h in
     let away : (x y : ℕ) → isCoordinate x ≡ true → isCoordinate y ≡ true → regionFits (moved g x y) ≡ true = λ x y k l.
     all-chain (leb (g .way) 2) (region-tests (moved g x y)) (q .0, (q .1 .0, (q .1 .1 .0, (q .1 .1 .1 .0, (k, (l, tt)))))) in
-    chosen (λ (k : Region). regionFits k ≡ true) (eqb (g .x) (g .x1)) _ _
-    (λ t. chosen (λ (k : Region). regionFits k ≡ true) (eqb (g .y) (g .y1)) _ _ (λ u. refl)
+    either (λ (k : Region). regionFits k ≡ true) (eqb (g .x) (g .x1))
+    (λ t. either (λ (k : Region). regionFits k ≡ true) (eqb (g .y) (g .y1)) (λ u. refl)
     (λ u. away (g .x0) (toward (g .y) (g .y1)) (q .1 .0) (toward-fits (g .y) (g .y1) (q .1 .1 .1 .1 .1 .0) (q .1 .1 .1 .0))))
     (λ t. away (toward (g .x) (g .x1)) (g .y) (toward-fits (g .x) (g .x1) (q .1 .1 .1 .1 .0) (q .1 .1 .0)) (q .1 .1 .1 .1 .1 .0))
 
@@ -409,7 +410,7 @@ module _ (ni nz : ℕ) (r : Registers) where
     -- no word makes a record that breaks no bound break one
     pub next-kept : inBounds r ≡ true → inBounds (next ni nz r w) ≡ true
     unfolding next
-    next-kept h = chosen (λ k. inBounds k ≡ true) (eqb (refusalOf ni nz r w) 0) (recordAfter r w) r (λ t. after-kept (eqb-true _ _ t)) (λ t. h)
+    next-kept h = either (λ k. inBounds k ≡ true) (eqb (refusalOf ni nz r w) 0) {x = recordAfter r w} {y = r} (λ t. after-kept (eqb-true _ _ t)) (λ t. h)
 
 -- over memories of one length a record that breaks no bound never gets 2
 pub kept-fit : (n : ℕ) (r : Registers) (w : Word) → inBounds r ≡ true → refusalOf n n r w ≡ 2 → ⊥

@@ -11,7 +11,7 @@ use Rattle.registers.specs.Lines.{shortestLine, longestLine, lineUnit, l
 use Rattle.picture.specs.declared.Frame.{Frame}
 use Rattle.picture.specs.Place.{frameOf, plainFrame}
 use Rattle.registers.specs.Bounds.{largestLayout, frameFits}
-use Rattle.registers.proofs.Truth.{both, and-both}
+use Rattle.ground.proofs.Truth.{both, and-both}
 use Rattle.registers.proofs.Table.{at}
 
 -- the table, as the code has it

@@ -16,7 +16,7 @@ use Rattle.registers.specs.Record.{nothingAwaited, withParked}
 use Rattle.registers.specs.Subcommand.{subcommandOf, wants}
 use Rattle.registers.specs.Next.{value, joinedOf, counted, effectOf, parmOf}
 use Rattle.registers.specs.Bounds.{eachCame}
-use Rattle.registers.proofs.Truth.{both, and-both}
+use Rattle.ground.proofs.Truth.{both, and-both}
 
 parkedWith : Parked → List ℕ → Parked
 parkedWith p l = record { subcommand = p .subcommand; came = p .came; values = l }

@@ -15,7 +15,7 @@ use Rattle.registers.specs.Allowed.{allowed, fits}
 use Rattle.registers.specs.Bounds.{inBounds}
 use Rattle.registers.specs.Refusal.{isInit, isParm, isUnknown, isReserved, isUnmodelled, isAbove, isPtrn, isCold, awaits, table, lowest, isUnfit, refusalOf, readTable, readRefusalOf}
 use Rattle.registers.specs.Region.{isOpen}
-use Rattle.registers.proofs.Truth.{neither}
+use Rattle.ground.proofs.Truth.{neither}
 
 -- ---- the lowest number that applies
 

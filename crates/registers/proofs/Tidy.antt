@@ -26,7 +26,7 @@ use Rattle.registers.specs.Subcommand.{largestAux, subcommandOf, wants}
 use Rattle.registers.specs.Figure.{shapeOf, vertexOf, isPair, paired, advanced, grownOf}
 use Rattle.registers.specs.Next.{value, awaited, joinedOf, counted, effectOf, parmOf, coordinateOf, imgNumber, transferredOf, recordAfter}
 use Rattle.registers.specs.Refusal.{isAbove, isPtrn, refusalOf, next, readRefusalOf}
-use Rattle.registers.proofs.Truth.{chosen}
+use Rattle.ground.proofs.Truth.{either}
 use Rattle.registers.proofs.Table.{everywhere}
 use Rattle.registers.proofs.Effects.{effect-has, effect-leaves}
 use Rattle.registers.proofs.Refusals.{accepted-when, read-when}
@@ -80,9 +80,9 @@ tidy-advanced dashed f v = record { closed = λ e. absurd (omega (arith, e)); si
 tidy-grown : (shape : Shape) (end dashed : Bool) (f : Figure) (v : Vertex) → TidyFigure f → TidyFigure (grownOf shape end dashed f v)
 unfolding grownOf
 tidy-grown Closed end dashed f v t = t
-tidy-grown Strip end dashed f v t = chosen TidyFigure (isPair f) _ _ (λ p. tidy-pair 1 (f .second) v (λ e. omega (arith, e))) (λ p. tidy-pair 1 (f .first) v (λ e. omega (arith, e)))
+tidy-grown Strip end dashed f v t = either TidyFigure (isPair f) (λ p. tidy-pair 1 (f .second) v (λ e. omega (arith, e))) (λ p. tidy-pair 1 (f .first) v (λ e. omega (arith, e)))
 tidy-grown Fan end dashed f v t = tidy-pair 2 (f .first) v (λ e. omega (arith, e))
-tidy-grown Line end dashed f v t = chosen TidyFigure end _ _ (λ p. tidy-none) (λ p. tidy-advanced dashed f v)
+tidy-grown Line end dashed f v t = either TidyFigure end (λ p. tidy-none) (λ p. tidy-advanced dashed f v)
 
 tidy-counted : (p : Parked) (v : ℕ) → p .came + 1 < wants (subcommandOf (p .subcommand)) → TidyParked p → TidyParked (counted (joinedOf p v))
 unfolding subcommandOf
@@ -100,8 +100,8 @@ effect-region r s l t = effect-has (λ u. TidyRegion (u r .region)) s l (record 
 tidy-pixel : (g : Region) → (g .way ≡ 0 → ⊥) → TidyRegion (nextPixel g)
 unfolding nextPixel
 tidy-pixel g ne =
-    chosen TidyRegion (eqb (g .x) (g .x1)) _ _
-    (λ t. chosen TidyRegion (eqb (g .y) (g .y1)) _ _ (λ u. tidy-dropped) (λ u. tidy-begun _ ne)) (λ t. tidy-begun _ ne)
+    either TidyRegion (eqb (g .x) (g .x1))
+    (λ t. either TidyRegion (eqb (g .y) (g .y1)) (λ u. tidy-dropped) (λ u. tidy-begun _ ne)) (λ t. tidy-begun _ ne)
 
 module _ (r : Registers) (t : Tidy r) where
   tidy-coordinate : (c : Coordinate) (n : ℕ) → Tidy (coordinateOf r c n)
@@ -118,7 +118,7 @@ module _ (r : Registers) (t : Tidy r) where
   tidy-parm : (v : ℕ) → Tidy (parmOf r v)
   unfolding parmOf
   tidy-parm v =
-      chosen Tidy (ltb (r .parked .came + 1) (wants (awaited r))) _ _
+      either Tidy (ltb (r .parked .came + 1) (wants (awaited r)))
       (λ e. record { parked = tidy-counted (r .parked) v (ltb-true _ _ e) (t .parked); figure = t .figure; region = t .region })
       (λ e. record { parked = tidy-nothing; figure = subst TidyFigure (sym (effect-leaves r (awaited r) _ .figure)) (t .figure); region = effect-region r (awaited r) _ (t .region) })
 
@@ -142,7 +142,7 @@ module _ (r : Registers) (t : Tidy r) where
   pub next-tidy : (ni nz : ℕ) (w : Word) → Tidy (next ni nz r w)
   unfolding next
   next-tidy ni nz w =
-      chosen Tidy (eqb (refusalOf ni nz r w) 0) (recordAfter r w) r
+      either Tidy (eqb (refusalOf ni nz r w) 0) {x = recordAfter r w} {y = r}
       (λ e. let a = accepted-when ni nz r w .0 (eqb-true _ _ e) in tidy-after w (a .listed) (a .placed)) (λ e. t)
 
   -- and so does the read call

@@ -11,7 +11,7 @@ use borrow.Author.Tests.{ltb-true, ltb-false, eqb-true, eqb-false, eq-eqb, ne-eq
 use Rattle.registers.specs.declared.Region.{Region}
 use Rattle.registers.specs.Record.{noRegion, regionOf}
 use Rattle.registers.specs.Region.{toward, moved, nextPixel}
-use Rattle.registers.proofs.Truth.{chosen}
+use Rattle.ground.proofs.Truth.{either}
 use Rattle.reload.specs.Reload.{Corners, apart, sizeOf, stepped}
 
 -- none are apart
@@ -44,7 +44,7 @@ below a b h ne = omega arith
 nearer-by-one : (a b : ℕ) → (a ≡ b → ⊥) → apart (toward a b) b + 1 ≡ apart a b
 unfolding toward
 nearer-by-one a b ne =
-    chosen (λ (n : ℕ). apart n b + 1 ≡ apart a b) (ltb a b) (a + 1) (a - 1)
+    either (λ (n : ℕ). apart n b + 1 ≡ apart a b) (ltb a b) {x = a + 1} {y = a - 1}
     (λ t. up-one a b (ltb-true a b t)) (λ t. down-one a b (below a b (ltb-false a b t) ne))
 
 row-ends : (w k n : ℕ) → k + 1 ≡ n → w + (w + 1) * k + 1 ≡ (w + 1) * n
@@ -84,16 +84,16 @@ size-remaining way c = row-ends (apart (c .x0) (c .x1)) (apart (c .y0) (c .y1)) 
 module _ (a b : ℕ) where
   -- no step from a coordinate is that coordinate, and as many as it is apart from the other lead there
   stepped-none : stepped a b 0 ≡ a
-  stepped-none = chosen (λ (n : ℕ). n ≡ a) (ltb a b) (a + 0) (a - 0) (λ t. omega arith) (λ t. omega arith)
+  stepped-none = either (λ (n : ℕ). n ≡ a) (ltb a b) {x = a + 0} {y = a - 0} (λ t. omega arith) (λ t. omega arith)
 
   stepped-all : stepped a b (apart a b) ≡ b
   stepped-all =
-      chosen (λ (n : ℕ). n ≡ b) (ltb a b) (a + apart a b) (a - apart a b) (λ t. omega (arith, ltb-true a b t)) (λ t. omega (arith, ltb-false a b t))
+      either (λ (n : ℕ). n ≡ b) (ltb a b) {x = a + apart a b} {y = a - apart a b} (λ t. omega (arith, ltb-true a b t)) (λ t. omega (arith, ltb-false a b t))
 
   -- before that the other is not reached, and one step more goes towards it
   stepped-short : (i : ℕ) → i < apart a b → stepped a b i ≡ b → ⊥
   stepped-short i h =
-      chosen (λ (n : ℕ). n ≡ b → ⊥) (ltb a b) (a + i) (a - i) (λ t e. omega (arith, h, e, ltb-true a b t)) (λ t e. omega (arith, h, e, ltb-false a b t))
+      either (λ (n : ℕ). n ≡ b → ⊥) (ltb a b) {x = a + i} {y = a - i} (λ t e. omega (arith, h, e, ltb-true a b t)) (λ t e. omega (arith, h, e, ltb-false a b t))
 
   stepped-more : (i : ℕ) → i < apart a b → toward (stepped a b i) b ≡ stepped a b (i + 1)
   unfolding toward
@@ -101,10 +101,10 @@ module _ (a b : ℕ) where
     where
       go : (t : Bool) → ltb a b ≡ t → toward (cond t (a + i) (a - i)) b ≡ cond t (a + (i + 1)) (a - (i + 1))
       go true e =
-          chosen (λ (n : ℕ). n ≡ a + (i + 1)) (ltb (a + i) b) (a + i + 1) (a + i - 1)
+          either (λ (n : ℕ). n ≡ a + (i + 1)) (ltb (a + i) b) {x = a + i + 1} {y = a + i - 1}
           (λ t. omega arith) (λ t. absurd (omega (arith, h, ltb-true a b e, ltb-false (a + i) b t)))
       go false e =
-          chosen (λ (n : ℕ). n ≡ a - (i + 1)) (ltb (a - i) b) (a - i + 1) (a - i - 1)
+          either (λ (n : ℕ). n ≡ a - (i + 1)) (ltb (a - i) b) {x = a - i + 1} {y = a - i - 1}
           (λ t. absurd (omega (arith, h, ltb-false a b e, ltb-true (a - i) b t))) (λ t. omega arith)
 
 -- a region after so many transfers

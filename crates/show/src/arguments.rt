@@ -5,7 +5,7 @@ ghost use Prim.Native.Nat.{_+_, _*_, _%_, _≤_, min};
 ghost use Rattle.show.specs.Arguments.{isDigit, digitsOnly, valueOf, placesIf, memoryOf, isLevels, askedFor, sizedOf, scaledOf, askedOf};
 use crate::Asked;
 use crate::Wanted;
-use picture::place::least;
+use ground::least;
 
 // Whether a byte is a digit.
 fn is_digit(byte: u8) -> bool

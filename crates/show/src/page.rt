@@ -5,7 +5,7 @@ ghost use lib.ListN.{length};
 ghost use Rattle.report.specs.Image.{imageHeading, down};
 ghost use Rattle.report.specs.Calls.{Stands};
 ghost use Rattle.show.specs.Show.{rowsHolding, rowsShown, pageRows};
-use picture::place::least;
+use ground::least;
 use report::Written;
 use report::drawn_places;
 use report::image_heading;

@@ -7,7 +7,7 @@ ghost use Rattle.show.specs.Reach.{heightOf, reachOf, isMissed, raised, 
 use crate::Above;
 use crate::Came;
 use chip::figure::completed;
-use picture::place::most;
+use ground::most;
 use picture::place::rows_of;
 use registers::Registers;
 use registers::shape::Completed;

@@ -4,7 +4,7 @@ ghost use Prim.Native.Nat.{_+_, _*_, _≤_, _<_};
 ghost use lib.ListN.{length};
 ghost use Rattle.squares.specs.Squares.{anyIn};
 ghost use Rattle.squares.specs.Change.{runDiffers, differs};
-use picture::place::least;
+use ground::least;
 
 // Whether one of n places from `at` on differs. (No test ends the loop early: eight places are then compared at once.)
 fn run_differs(old: &[u16], new: &[u16], at: usize, n: usize) -> bool

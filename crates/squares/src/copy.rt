@@ -6,7 +6,7 @@ ghost use lib.ListN.{length};
 ghost use Rattle.squares.specs.Squares.{corner, cornerOf};
 ghost use Rattle.squares.specs.Copy.{isAmong, overlay, copySquare, copySquares};
 ghost use Rattle.squares.specs.Calls.{isSquare, areSquares};
-use picture::place::least;
+use ground::least;
 
 // Whether a number tells a square such as is listed for a picture.
 fn is_square(number: u32, width: usize, rows: usize) -> bool

@@ -1,6 +1,6 @@
 -- Numbers and their bits: the two directions, and how a row of bits is taken apart. Assumes nothing.
 use mathlib.Core.Path.{_≡_, refl, sym, ap, ap₂, _∙_}
-use mathlib.Core.Bool.{Bool, true, false, _&&_, true≢false}
+use mathlib.Core.Bool.{Bool, true, false, _&&_}
 use mathlib.Core.List.{List, [], _∷_, _++_}
 use Prim.Native.Nat.{ℕ, zero, suc, _+_, _*_, _/_, _%_, _^_, _≤_, _<_}
 use native.Mathlib.Nat.{mod-one, add-comm, add-mul, mul-assoc, add-assoc, zero-add, zero-mul, suc-add, pow-zero, pow-succ', mod-lt, mod-eq-of-lt, mul-add-div-right, mul-add-mod-self-right}
@@ -13,6 +13,7 @@ use borrow.Author.Tests.{lt-ltb, le-ltb, ltb-true, ltb-false}
 use lib.Dec.{ltb}
 use lib.Bits.{bitOr, or-lt, or-add-and, and-le-l, and-le-r}
 use lib.Pow.{pow-add, pow-pos, shr-shr}
+use Rattle.ground.proofs.Truth.{both}
 use Rattle.stream.specs.Format.{bits, number, fit}
 
 -- k bits are k
@@ -66,10 +67,6 @@ pub fits : (k : ℕ) (ns : List ℕ) → fit k ns ≡ true → Fits k ns
 unfolding fit
 fits k [] e = none
 fits k (n ∷ ns) e = more (ltb-true n (2 ^ k) (both (ltb n (2 ^ k)) (fit k ns) e .0)) (fits k ns (both (ltb n (2 ^ k)) (fit k ns) e .1))
-  where
-    both : (a b : Bool) → a && b ≡ true → (a ≡ true) × (b ≡ true)
-    both true b e = (refl, e)
-    both false b e = absurd (true≢false (sym e))
 
 pub fits-test : {k : ℕ} {ns : List ℕ} → Fits k ns → fit k ns ≡ true
 unfolding fit

@@ -1,7 +1,7 @@
 -- The round trips, over the definitions: bits that are cut into numbers and joined again are the same bits, and numbers that are
 -- joined and cut the same numbers (proofs/Cut), so what is left is where a stream ends. Assumes nothing.
 use mathlib.Core.Path.{_≡_, refl, sym, ap, ap₂, _∙_}
-use mathlib.Core.Bool.{Bool, true, false, not, _&&_, _||_, true≢false}
+use mathlib.Core.Bool.{Bool, true, false, not, _&&_, _||_}
 use mathlib.Core.Logic.{_⊎_, inl, inr, ⊎-elim}
 use mathlib.Core.List.{List, [], _∷_, _++_, append-nil}
 use Prim.Native.Nat.{ℕ, zero, suc, _+_, _-_, _*_, _/_, _%_, _^_, _≤_, _<_}
@@ -12,6 +12,7 @@ use lib.Dec.{eqb}
 use lib.ListN.{length, getD, take, drop, take-append-drop, length-drop, length-take, drop-of-length-le}
 use lib.Pow.{pow-mono}
 use lib.Seq.{take-all, drop-drop, getD-drop}
+use Rattle.ground.proofs.Truth.{neither}
 use Rattle.stream.specs.Format.{bits, number, joined, cut, whole, closing, unpackOf, packOf, wordAt}
 use Rattle.stream.specs.Calls.{badLength, badTail, checked}
 use Rattle.stream.proofs.Bits.{Fits, none, more, fits-at, fits-append, fits-drop, fits-take, number-lt, bits-low}
@@ -71,10 +72,6 @@ length-good s e = go (eqb n 3) refl
   where
     n : ℕ
     n = length s % 5
-
-    neither : (a b : Bool) → a || b ≡ false → (a ≡ false) × (b ≡ false)
-    neither true b e = absurd (true≢false e)
-    neither false b e = (refl, e)
 
     go : (b : Bool) → eqb n 3 ≡ b → (n ≡ 0) ⊎ (n ≡ 3)
     go true t = inr (eqb-true n 3 t)

@@ -43,10 +43,6 @@ answer-settled p q =
     let same = p ∙ sym q in
     (ap (λ (a : Answer). a .told) same, ap (λ (a : Answer). a .left) same)
 
--- of a call whose promise is an equation for its answer alone: `flaw`, `held`, `word` and the other entries for C
-pub one-answer : {value r r′ : ℕ} → r ≡ value → r′ ≡ value → r ≡ r′
-one-answer p q = p ∙ sym q
-
 -- ---- the round trips, as the two calls make them
 
 take-over : (new old : List ℕ) → take (length new) (over new old) ≡ new

@@ -21,7 +21,7 @@ use Rattle.picture.specs.declared.Vertex.{Vertex}
 use Rattle.line.specs.declared.Mode.{Mode}
 use Rattle.line.specs.declared.Mode.the-variants.{Zero, One, Two}
 use Rattle.line.specs.declared.Style.{Style}
-use Rattle.line.specs.Segment.{larger, from, dashOffers, shadeOffers, stepOffers, segmentOffers}
+use Rattle.line.specs.Segment.{modeOf, larger, from, dashOffers, shadeOffers, stepOffers, segmentOffers}
 use Rattle.registers.specs.declared.Registers.{Registers}
 use Rattle.registers.specs.declared.word.Word.{Word}
 use Rattle.registers.specs.declared.shape.Completed.{Completed}
@@ -31,7 +31,7 @@ use Rattle.registers.specs.Next.{completedBy, penOf}
 use Rattle.registers.proofs.Refusals.{accepted-when}
 use Rattle.registers.proofs.Completing.{completed-near}
 use Rattle.machine.specs.Machine.{Memories, rowsIn, numberOf}
-use Rattle.chip.specs.Chip.{modeOf, isConstant, styleOf, wholeOffers, isCut, figureOffers, chip}
+use Rattle.chip.specs.Chip.{isConstant, styleOf, wholeOffers, isCut, figureOffers, chip}
 use Rattle.chip.proofs.Laws.{figure-counts, line-low}
 use Rattle.tally.specs.declared.Count.{Count}
 use Rattle.tally.specs.Hidden.{offeredOf}

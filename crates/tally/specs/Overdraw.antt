@@ -14,6 +14,7 @@ use Rattle.picture.specs.Picture.{Picture, picture, drawn}
 use Rattle.triangle.specs.Offers.{kindOf as triangleKind}
 use Rattle.line.specs.declared.Mode.{Mode}
 use Rattle.line.specs.declared.Mode.the-variants.{Zero, One, Two}
+use Rattle.line.specs.Segment.{modeOf}
 use Rattle.registers.specs.declared.Registers.{Registers}
 use Rattle.registers.specs.declared.word.Word.{Word}
 use Rattle.registers.specs.declared.word.Word.the-variants.{At}
@@ -26,7 +27,7 @@ use Rattle.registers.specs.Figure.{shapeOf}
 use Rattle.registers.specs.Next.{completedBy, penOf}
 use Rattle.machine.specs.Machine.{Memories, rowsIn, numberOf, stepOf}
 use Rattle.machine.specs.Run.{runOf}
-use Rattle.chip.specs.Chip.{modeOf, isConstant, chip}
+use Rattle.chip.specs.Chip.{isConstant, chip}
 use Rattle.chip.specs.Fresh.{fresh}
 use Rattle.chip.specs.Stream.{wordsOf, flawOf, running}
 use Rattle.tally.specs.declared.Count.{Count}

@@ -4,7 +4,7 @@ ghost use mathlib.Core.Bool.{cond};
 ghost use Prim.Native.Nat.{_-_, _≤_};
 ghost use lib.Dec.{eqb};
 ghost use Rattle.triangle.specs.Offers.{kindOf};
-ghost use Rattle.chip.specs.Chip.{modeOf};
+ghost use Rattle.line.specs.Segment.{modeOf};
 ghost use Rattle.tally.specs.Lent.{Offered};
 ghost use Rattle.tally.specs.Tally.{count, noTally};
 ghost use Rattle.tally.specs.Overdraw.{lineKind, figureTally, mutedOf};

@@ -4,7 +4,7 @@ ghost use mathlib.Core.List.{foldl};
 ghost use Prim.Native.Nat.{_≤_};
 ghost use Rattle.trace.specs.Arguments.{isDigit, withDigit, coordinateOf, askedOf};
 use crate::Asked;
-use picture::place::least;
+use ground::least;
 
 // Whether a byte is a digit.
 fn is_digit(byte: u8) -> bool

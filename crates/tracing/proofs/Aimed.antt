@@ -12,7 +12,7 @@ use Rattle.picture.specs.declared.Vertex.{Vertex}
 use Rattle.picture.specs.Place.{rowsOf, inMemory}
 use Rattle.picture.specs.declared.Kind.{Kind}
 use Rattle.picture.specs.declared.Kind.the-variants.{Line0, Line1, Line2}
-use Rattle.picture.specs.Offer.{Offer, offer, isMasked, inWindow, shows, offered, keep, onPixel}
+use Rattle.picture.specs.Offer.{Offer, offer, letsThrough, inWindow, shows, offered, keep, onPixel}
 use Rattle.picture.specs.Picture.{Picture, picture, drawn}
 use Rattle.picture.specs.Draw.{spans}
 use Rattle.picture.proofs.Offers.{window-in, window-of}
@@ -104,7 +104,7 @@ module _ (x y : ℕ) where
       keep-aimed o =
           rw (window-aimed (o .x) (o .y))
           (kept-there o (inWindow (penOf r) (o .x) (o .y)) (eqb (o .x) x && eqb (o .y) y) (inMemory (r .frame) rows (o .x) (o .y))
-          (not (isMasked (o .kind)) || shows (penOf r) (o .x) (o .y)) refl)
+          (letsThrough (penOf r) (o .kind) (o .x) (o .y)) refl)
 
       -- ---- triangles
 

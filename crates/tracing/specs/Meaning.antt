@@ -3,6 +3,7 @@ use Prim.Native.Nat.{ℕ, _+_, min}
 use mathlib.Core.Bool.{cond}
 use Rattle.line.specs.declared.Mode.{Mode}
 use Rattle.line.specs.declared.Mode.the-variants.{Zero, One, Two}
+use Rattle.line.specs.Segment.{modeOf}
 use Rattle.registers.specs.declared.Registers.{Registers}
 use Rattle.registers.specs.declared.word.Word.{Word}
 use Rattle.registers.specs.declared.word.Word.the-variants.{Init, Aux, Parm, At, Img, Ptrn, Reserved, Unmodelled, Unknown}
@@ -12,7 +13,7 @@ use Rattle.registers.specs.declared.shape.Completed.{Completed}
 use Rattle.registers.specs.declared.shape.Completed.the-variants.{Nothing, Triangle, Segment}
 use Rattle.registers.specs.Subcommand.{subcommandOf, wants}
 use Rattle.registers.specs.Next.{imgNumber, isDeepPicture, coordinateCompletes}
-use Rattle.chip.specs.Chip.{modeOf, isConstant}
+use Rattle.chip.specs.Chip.{isConstant}
 use Rattle.listing.specs.declared.trace.Meaning.{Meaning}
 
 -- a row without parameters

@@ -2,8 +2,9 @@
 ghost use mathlib.Core.Path.{_≡_};
 ghost use mathlib.Core.Bool.{cond};
 ghost use Prim.Native.Nat.{min};
+ghost use Rattle.line.specs.Segment.{modeOf};
 ghost use Rattle.registers.specs.Next.{isDeepPicture};
-ghost use Rattle.chip.specs.Chip.{modeOf, isConstant};
+ghost use Rattle.chip.specs.Chip.{isConstant};
 ghost use Rattle.tracing.specs.Meaning.{plainly, subject, lineRow, completedMeaning, coordinateMeaning, meaningOf};
 use listing::trace::Meaning;
 use registers::Registers;

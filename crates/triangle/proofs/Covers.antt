@@ -7,7 +7,7 @@ use borrow.Author.Tests.{ltb-true, ltb-false, eqb-true, lt-ltb, eq-eqb}
 use native.Mathlib.Omega.{arith}
 use lib.Dec.{ltb, eqb}
 use Rattle.picture.specs.declared.Pen.{Pen}
-use Rattle.picture.proofs.Places.{both}
+use Rattle.ground.proofs.Truth.{both}
 use Rattle.triangle.specs.declared.Corners.{Corners}
 use Rattle.triangle.specs.declared.Edge.{Edge}
 use Rattle.triangle.specs.declared.Edges.{Edges}

@@ -9,7 +9,7 @@ use native.Mathlib.Omega.{arith}
 use borrow.Author.Tests.{ltb-true, ltb-false, lt-ltb, le-ltb, eq-eqb, ne-eqb}
 use lib.Dec.{ltb, eqb}
 use Rattle.picture.specs.declared.Vertex.{Vertex}
-use Rattle.picture.proofs.Places.{both}
+use Rattle.ground.proofs.Truth.{both}
 use Rattle.triangle.specs.declared.Corners.{Corners}
 use Rattle.triangle.specs.Edge.{plusOf, minusOf, edgeAt, closed, inside, passesEdge, covers}
 use Rattle.triangle.specs.Offers.{cornersOf}
@@ -31,8 +31,8 @@ unfolding plusOf minusOf
 swap-minus ax ay bx by x y = omega (arith, mul-comm ax by)
 
 -- m < n, or they are equal and o holds: of this and of the same from n to m just one holds, if of o and s just one does
-either : (m n : ℕ) (o s : Bool) → (m ≡ n → s ≡ not o) → ltb n m || (eqb n m && s) ≡ not (ltb m n || (eqb m n && o))
-either m n o s h = go (ltb m n) (ltb n m) refl refl
+other-side : (m n : ℕ) (o s : Bool) → (m ≡ n → s ≡ not o) → ltb n m || (eqb n m && s) ≡ not (ltb m n || (eqb m n && o))
+other-side m n o s h = go (ltb m n) (ltb n m) refl refl
   where
     go : (p q : Bool) → ltb m n ≡ p → ltb n m ≡ q → q || (eqb n m && s) ≡ not (p || (eqb m n && o))
     go true true u v = absurd (omega (arith, ltb-true m n u, ltb-true n m v))
@@ -52,14 +52,14 @@ ltb-other m n h = go (ltb m n) refl
 -- an edge is closed one way
 closed-once : (a b : Vertex) → Apart a b → closed b a ≡ not (closed a b)
 unfolding closed
-closed-once a b h = either (b .y) (a .y) (ltb (a .x) (b .x)) (ltb (b .x) (a .x)) (λ e. ltb-other (a .x) (b .x) (λ d. h .so (d, sym e)))
+closed-once a b h = other-side (b .y) (a .y) (ltb (a .x) (b .x)) (ltb (b .x) (a .x)) (λ e. ltb-other (a .x) (b .x) (λ d. h .so (d, sym e)))
 
 -- of every pixel just one holds: the test of an edge, or the test of the edge the other way round
 pub edge-once : (a b : Vertex) (x y : ℕ) → Apart a b → passesEdge b a x y ≡ not (passesEdge a b x y)
 unfolding inside
 edge-once a b x y h =
     rw (swap-plus (a .x) (a .y) (b .x) (b .y) x y, swap-minus (a .x) (a .y) (b .x) (b .y) x y)
-    (either (edgeAt a b x y .minus) (edgeAt a b x y .plus) (closed a b) (closed b a) (λ e. closed-once a b h))
+    (other-side (edgeAt a b x y .minus) (edgeAt a b x y .plus) (closed a b) (closed b a) (λ e. closed-once a b h))
 
 -- ---- the corners, named from an edge on
 

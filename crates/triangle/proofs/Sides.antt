@@ -81,8 +81,8 @@ module _ (a b : Vertex) (y : ℕ) where
 -- ---- the number of a side
 
 module _ (a b : Vertex) (y : ℕ) (s : Side) (k : Stands a b y s) where
-  either : {A : Type 0} → (b .y < a .y → A) → (a .y ≤ b .y → A) → A
-  either {A} f g = go (ltb (b .y) (a .y)) refl
+  falls-or-rises : {A : Type 0} → (b .y < a .y → A) → (a .y ≤ b .y → A) → A
+  falls-or-rises {A} f g = go (ltb (b .y) (a .y)) refl
     where
       go : (c : Bool) → ltb (b .y) (a .y) ≡ c → A
       go true q = f (ltb-true (b .y) (a .y) q)
@@ -90,12 +90,12 @@ module _ (a b : Vertex) (y : ℕ) (s : Side) (k : Stands a b y s) where
 
   -- below the middle it bounds nothing, or leaves nothing
   pub bound-low : s .at < middle → Bounds a b y 0
-  bound-low l = either (λ h. fall-all a b y h (omega (arith, k .falls h .0))) (λ h. rise-none a b y h (omega (arith, k .rises h .0)))
+  bound-low l = falls-or-rises (λ h. fall-all a b y h (omega (arith, k .falls h .0))) (λ h. rise-none a b y h (omega (arith, k .rises h .0)))
 
   -- above it a quotient tells
   pub bound-at : (r : ℕ) → middle ≤ s .at → s .at - middle < 65536 * s .height .tall → r ≡ (s .at - middle) / s .height .tall + 1 → Bounds a b y r
   bound-at r l near e =
-      either
+      falls-or-rises
       (λ h.
       let is = k .falls h .0 in
       let v : s .at - middle ≡ m a b y - p a b y - 1 = omega (arith, is) in
@@ -110,7 +110,7 @@ module _ (a b : Vertex) (y : ℕ) (s : Side) (k : Stands a b y s) where
   -- far above it no column is bounded, or none is left
   pub bound-far : middle ≤ s .at → 65536 * s .height .tall ≤ s .at - middle → Bounds a b y 65536
   bound-far l far =
-      either
+      falls-or-rises
       (λ h. fall-none a b y h (omega (arith, k .falls h .0)) (omega (arith, k .falls h .0, k .height .is)))
       (λ h. rise-all a b y h (omega (arith, k .rises h .0)) (omega (arith, k .rises h .0, k .height .is)))
 
@@ -137,7 +137,7 @@ module _ (a b : Vertex) (y : ℕ) (s : Side) (k : Stands a b y s) where
     -- the number is far from both ends of its type
     pub side-room : (s .at ≤ 137438953472) × (65536 ≤ s .at)
     side-room =
-        either
+        falls-or-rises
         (λ h. (omega (arith, k .falls h .0, short-low), omega (arith, k .falls h .0)))
         (λ h. (omega (arith, k .rises h .0), omega (arith, k .rises h .0, short-low)))
       where

@@ -29,6 +29,8 @@ use crate::number::summed_up;
 use crate::row::raised;
 use crate::row::side_of;
 use crate::row::spanned;
+use ground::least;
+use ground::most;
 use picture::Carried;
 use picture::Kind;
 use picture::Pen;
@@ -37,8 +39,6 @@ use picture::draw::put;
 use picture::draw::span;
 use picture::nearer::is_plain;
 use picture::nearer::span_nearer;
-use picture::place::least;
-use picture::place::most;
 use picture::place::rows_of;
 
 // A number that stays the same along a row.

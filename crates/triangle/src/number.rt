@@ -16,7 +16,7 @@ use crate::Slopes;
 use crate::Sum;
 use crate::cover::edge_at;
 use crate::cover::times;
-use picture::place::least;
+use ground::least;
 
 // The sum of the corner numbers p, q, r at a covered pixel.
 fn mass(t: Corners, d: usize, e: Edges, p: u16, q: u16, r: u16) -> usize

@@ -14,10 +14,10 @@ use crate::Span;
 use crate::cover::edge_at;
 use crate::cover::gap;
 use crate::cover::is_closed;
+use ground::least;
+use ground::most;
 use picture::Pen;
 use picture::Vertex;
-use picture::place::least;
-use picture::place::most;
 
 // The number of a side whose edge just keeps column 0, so large that none falls below 0.
 const MIDDLE: usize = 68719476736;

@@ -28,13 +28,31 @@ put-numbers-requires c κs =
     omega (arith, roomy (length (start .args .out .now)) 76 (start .args .at) (at-has-room .has-room .ensures) (at-if1 .if1 .left), length-traced (start .args .t))
 
 put-numbers-requires-2 : tie.Need-put-numbers-requires-2
-put-numbers-requires-2 c κs = omega (arith, roomy (length (c .before .before .before .before .before .before .before .before .before .before .before .before .args .out .now)) 76 (c .before .before .before .before .before .before .before .before .before .before .before .before .args .at) (c .before .before .before .before .before .before .before .before .before .before .has-room .ensures) (c .before .before .before .before .before .before .before .before .before .if1 .left), length-traced (c .before .before .before .before .before .before .before .before .before .before .before .before .args .t), length-numbers (c .before .before .before .before .before .before .before .before .before .before .before .before .args .before))
+put-numbers-requires-2 c κs =
+    let at-put-numbers = c .before .before .before in
+    let at-put-traced = at-put-numbers .before .before .before .before in
+    let at-if1 = at-put-traced .before .before in
+    let at-has-room = at-if1 .before in
+    let start = at-has-room .before .before in
+    let room = roomy (length (start .args .out .now)) 76 (start .args .at) (at-has-room .has-room .ensures) (at-if1 .if1 .left) in
+    omega (arith, room, at-put-traced .put-traced .ensures, length-traced (start .args .t), at-put-numbers .put-numbers .ensures, length-numbers (start .args .before))
 
 slice-aggregate-put-part : tie.Need-slice-aggregate-put-part
 slice-aggregate-put-part c = search needs
 
 put-part-requires : tie.Need-put-part-requires
-put-part-requires c κs = (omega arith, omega (arith, roomy (length (c .before .before .before .before .before .before .before .before .before .before .before .before .before .before .before .before .before .args .out .now)) 76 (c .before .before .before .before .before .before .before .before .before .before .before .before .before .before .before .before .before .args .at) (c .before .before .before .before .before .before .before .before .before .before .before .before .before .before .before .has-room .ensures) (c .before .before .before .before .before .before .before .before .before .before .before .before .before .before .if1 .left), length-traced (c .before .before .before .before .before .before .before .before .before .before .before .before .before .before .before .before .before .args .t), length-numbers (c .before .before .before .before .before .before .before .before .before .before .before .before .before .before .before .before .before .args .before), length-numbers (c .before .before .before .before .before .before .before .before .before .before .before .before .before .before .before .before .before .args .after)))
+put-part-requires c κs =
+    let at-put-numbers2 = c .before .before .before .before in
+    let at-put-numbers = at-put-numbers2 .before .before .before .before in
+    let at-put-traced = at-put-numbers .before .before .before .before in
+    let at-if1 = at-put-traced .before .before in
+    let at-has-room = at-if1 .before in
+    let start = at-has-room .before .before in
+    let room = roomy (length (start .args .out .now)) 76 (start .args .at) (at-has-room .has-room .ensures) (at-if1 .if1 .left) in
+    let traced = at-put-traced .put-traced .ensures in
+    let first = at-put-numbers .put-numbers .ensures in
+    let second = at-put-numbers2 .put-numbers2 .ensures in
+    (omega arith, omega (arith, room, traced, length-traced (start .args .t), first, length-numbers (start .args .before), second, length-numbers (start .args .after)))
 
 same-length : tie.Need-same-length
 same-length c = search needs

@@ -1,7 +1,7 @@
 -- `draw::fill_row` meets its contract: each loop draws the same. Assumes nothing.
 use mathlib.Core.Path.{sym, ap₂, _∙_}
 use mathlib.Core.Bool.{Bool, _||_}
-use Rattle.picture.proofs.Places.{or-none}
+use Rattle.ground.proofs.Truth.{neither}
 use borrow.Author.Needs.{needs}
 use Rattle.picture.proofs.draw.fill_row.Statement.{statement}
 use Rattle.picture.proofs.draw.fill_row.Tie as tie
@@ -31,7 +31,7 @@ fill-shared-requires : tie.Need-fill-shared-requires
 fill-shared-requires c κs =
     let at-lies-plain = c .before .before .before .before in
     let p = at-lies-plain .before .before .before .before .pre in
-    let none = or-none _ _ (sym (ap₂ (λ (a b : Bool). a || b) (at-lies-plain .lies-plain .ensures) (c .before .before .before .lies-tiled .ensures)) ∙ c .before .before .if1 .left) in
+    let none = neither _ _ (sym (ap₂ (λ (a b : Bool). a || b) (at-lies-plain .lies-plain .ensures) (c .before .before .before .lies-tiled .ensures)) ∙ c .before .before .if1 .left) in
     (p .0, p .1, p .2, none .0, none .1)
 
 same-length-3 : tie.Need-same-length-3

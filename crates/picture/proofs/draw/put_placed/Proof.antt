@@ -5,7 +5,7 @@ use lib.ListN.{length}
 use lib.Dec.{ltb}
 use borrow.Author.Tests.{ltb-true}
 use Rattle.picture.specs.Picture.{picture}
-use Rattle.picture.proofs.Places.{both}
+use Rattle.ground.proofs.Truth.{both}
 use Rattle.picture.proofs.Offers.{placed-in, placed-out}
 use borrow.Author.Needs.{needs}
 use Rattle.picture.proofs.draw.put_placed.Statement.{statement}

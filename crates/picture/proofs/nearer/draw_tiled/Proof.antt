@@ -6,7 +6,7 @@ use native.Mathlib.Omega.{arith}
 use lib.Dec.{eqb, leb}
 use borrow.Author.Tests.{eqb-true, leb-true}
 use Rattle.picture.specs.Loops.{alongTiles}
-use Rattle.picture.proofs.Places.{both}
+use Rattle.ground.proofs.Truth.{both}
 use Rattle.picture.proofs.Rows.{carry, carried-start, carried-next, carried-four, carried-on, carried-at}
 use Rattle.picture.proofs.Runs.{Ran, ran-start, ran-turn, ran-more, ran-i, ran-z}
 use borrow.Author.Needs.{needs}

@@ -2,7 +2,7 @@
 use mathlib.Core.Path.{sym, ap}
 use Rattle.registers.specs.Figure.{shapes, shapeOf}
 use Rattle.registers.specs.declared.shape.Shape.the-variants.{Closed}
-use Rattle.registers.proofs.Keys.{default}
+use Rattle.ground.proofs.Keys.{default}
 use Rattle.registers.proofs.shape.shape_of.Statement.{statement}
 use Rattle.registers.proofs.shape.shape_of.Tie as tie
 

@@ -2,7 +2,7 @@
 use mathlib.Core.Path.{sym, ap}
 use Rattle.registers.specs.Subcommand.{subcommands, subcommandOf}
 use Rattle.registers.specs.declared.subcommand.Subcommand.the-variants.{Nothing}
-use Rattle.registers.proofs.Keys.{default}
+use Rattle.ground.proofs.Keys.{default}
 use Rattle.registers.proofs.subcommand.subcommand_of.Statement.{statement}
 use Rattle.registers.proofs.subcommand.subcommand_of.Tie as tie
 

@@ -3,7 +3,7 @@ use mathlib.Core.Path.{sym, ap}
 use Prim.Native.Nat.{ℕ}
 use Rattle.registers.specs.Word.{commands, decode}
 use Rattle.registers.specs.declared.word.Word.the-variants.{Unknown}
-use Rattle.registers.proofs.Keys.{default}
+use Rattle.ground.proofs.Keys.{default}
 use Rattle.registers.proofs.word.decoded.Statement.{statement}
 use Rattle.registers.proofs.word.decoded.Tie as tie
 

@@ -2,8 +2,8 @@
 use mathlib.Core.Path.{sym, ap}
 use mathlib.Core.List.{[], _∷_}
 use Rattle.line.specs.declared.Mode.the-variants.{Zero, One, Two}
-use Rattle.registers.proofs.Keys.{default}
-use Rattle.chip.specs.Chip.{modeOf}
+use Rattle.ground.proofs.Keys.{default}
+use Rattle.line.specs.Segment.{modeOf}
 use Rattle.tally.specs.Overdraw.{lineKind}
 use Rattle.tally.proofs.figure.line_kind.Statement.{statement}
 use Rattle.tally.proofs.figure.line_kind.Tie as tie

@@ -2,8 +2,8 @@
 use mathlib.Core.Path.{sym, ap}
 use mathlib.Core.List.{[], _∷_}
 use Rattle.line.specs.declared.Mode.the-variants.{Zero, One, Two}
-use Rattle.registers.proofs.Keys.{default}
-use Rattle.chip.specs.Chip.{modeOf}
+use Rattle.ground.proofs.Keys.{default}
+use Rattle.line.specs.Segment.{modeOf}
 use Rattle.tracing.specs.Meaning.{lineRow}
 use Rattle.tracing.proofs.meaning.line_row.Statement.{statement}
 use Rattle.tracing.proofs.meaning.line_row.Tie as tie
