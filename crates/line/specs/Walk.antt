@@ -22,7 +22,7 @@ pub record Carries (a b : Vertex) (s : Slope) (w : Walk) : Type 0 where
   pub i : Tells (s .n) (a .i) (b .i) (w .i)
   pub z : Tells (s .n) (a .z) (b .z) (w .z)
 
--- what is carried at a step is what each step adds, so many times
+-- what is carried at a step is the first number and what each step adds, so many times, modulo 2 ^ 64
 pub record Stands (w : Walk) (p : Step) : Type 0 where
   pub side : p .side ≡ (w .side .first + p .k * w .side .add) % 2 ^ 64
   pub i : p .i ≡ (w .i .first + p .k * w .i .add) % 2 ^ 64

@@ -9,7 +9,7 @@ use Rattle.picture.specs.Store.{Store}
 use Rattle.picture.specs.Picture.{isDeep}
 use Rattle.machine.specs.Machine.{Machine, Memories, rowsIn}
 
--- every pixel that a machine offers lies inside the memory
+-- every pixel that a machine offers or stores lies inside the memory
 pub record StaysInside (M : Machine) : Type 0 where
   pub at : (rows : ℕ) (r : M .Registers) (w : M .Word) (o : Offer) → List·Memᴰ o (M .offers rows r w) → inMemory (M .pen r .frame) rows (o .x) (o .y) ≡ true
   pub stores : (rows : ℕ) (r : M .Registers) (w : M .Word) (s : Store) → List·Memᴰ s (M .stores rows r w) → inMemory (M .pen r .frame) rows (s .x) (s .y) ≡ true

@@ -33,7 +33,7 @@ seen pen rows o = cond (inMemory (pen .frame) rows (o .x) (o .y)) (shown pen o) 
 abbrev pub carriedOne : ℕ
 carriedOne = 2 ^ 48
 
--- a carried number, so many pixels on
+-- the number that is carried, so many pixels on: the sum modulo 2 ^ 64, without its part
 unfoldable pub carriedTo : Carried → ℕ → ℕ
 carriedTo c j = (c .first + j * c .add) % 2 ^ 64 / carriedOne
 
@@ -45,7 +45,7 @@ spanPixel kind lo y i z j = offer kind (lo + j) y (carriedTo i j) (carriedTo z j
 unfoldable pub spanOffers : Pen → ℕ → Kind → ℕ → ℕ → ℕ → Carried → Carried → List Offer
 spanOffers pen rows kind lo hi y i z = spans (λ j. seen pen rows (spanPixel kind lo y i z j)) (hi - lo)
 
--- nothing but a nearer depth decides of a figure's pixels, and both numbers are stored whole
+-- of a figure's pixels that are in the window and the memory nothing but a nearer depth decides, and both numbers are stored whole
 abbrev pub isPlain : Pen → Kind → Bool
 isPlain pen kind =
     (not (isMasked kind) || eqb (pen .transparency) 65535) && isDeep kind && not (isEdge kind) && pen .depth && pen .ienable && pen .zenable

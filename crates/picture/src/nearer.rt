@@ -1,4 +1,4 @@
-// Runs of pixels of which nothing but a nearer depth decides: what most triangles are drawn with. The loops know no pen and no column.
+// Runs of pixels of which nothing but a nearer depth decides: what most triangles are drawn with. The loops know no pen, and that of rows and units no column.
 ghost use mathlib.Core.Path.{_≡_};
 ghost use mathlib.Core.Bool.{false, cond};
 ghost use Prim.Native.Nat.{_+_, _-_, _/_, _^_, _≤_, _<_};

@@ -48,7 +48,7 @@ imgBits = 0x0005
 unfoldable pub initAllowed : ℕ → Bool
 initAllowed d = eqb (chipsIn d) 0 && eqb (unitIn d) 0 && leb (pageIn d) largestPage && not (eqb (lineOf (codeIn d)) 0)
 
--- a parameter of a subcommand of which k have come before it
+-- what is allowed of a subcommand's parameter before which k have come
 abbrev pub parameterAllowed : Subcommand → ℕ → ℕ → Bool
 parameterAllowed Nothing k v = true
 parameterAllowed Pmode k v = leb v 1

@@ -35,7 +35,7 @@ modesFit m =
     && parameterAllowed Hcontrol 0 (m .hcontrol)
     && parameterAllowed Lstatus 0 (m .lstatus)
 
--- the window has borders; it may be empty
+-- each number of the window is a border; it may be empty
 unfoldable pub windowFits : Window → Bool
 windowFits w = isBorder (w .left) && isBorder (w .top) && isBorder (w .right) && isBorder (w .bottom)
 
@@ -43,7 +43,8 @@ windowFits w = isBorder (w .left) && isBorder (w .top) && isBorder (w .right) &&
 unfoldable pub vertexFits : Vertex → Bool
 vertexFits v = isCoordinate (v .x) && isCoordinate (v .y)
 
--- the shape is closed or one of three, and both vertices have coordinates, also where they are not in use
+-- the shape is closed or one of three, `pair` and `dashed` are 0 or 1, the steps are fewer than the pattern has bits, and both vertices have coordinates, also
+-- where they are not in use
 unfoldable pub figureFits : Figure → Bool
 figureFits f = leb (f .shape) 3 && leb (f .pair) 1 && vertexFits (f .first) && vertexFits (f .second) && ltb (f .steps) patternLength && leb (f .dashed) 1
 
@@ -52,14 +53,14 @@ abbrev pub eachCame : (ℕ → ℕ → Bool) → List ℕ → ℕ → Bool
 eachCame test values zero = true
 eachCame test values (suc k) = eachCame test values k && test k (value values k)
 
--- a number that takes parameters is awaited, or none; fewer have come than it takes, and each is allowed for its place
+-- a number that takes parameters is awaited, or none; fewer have come than it takes, or none where it takes none; and each that has come is allowed for its place
 unfoldable pub parkedFits : Parked → Bool
 parkedFits p =
     (eqb (p .subcommand) noNumber || ltb 0 (wants (subcommandOf (p .subcommand))))
     && leb (p .came) (wants (subcommandOf (p .subcommand)) - 1)
     && eachCame (parameterAllowed (subcommandOf (p .subcommand))) (p .values) (p .came)
 
--- the region's way is 0, 1 or 2, and it has coordinates
+-- the region's way is 0, 1 or 2, and its five other numbers are coordinates, also where none is open
 unfoldable pub regionFits : Region → Bool
 regionFits g = leb (g .way) 2 && isCoordinate (g .x0) && isCoordinate (g .x1) && isCoordinate (g .y1) && isCoordinate (g .x) && isCoordinate (g .y)
 

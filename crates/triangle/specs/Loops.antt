@@ -108,7 +108,7 @@ ahead u v w p q r = p * v + q * w + r * u
 abbrev pub behind : ℕ → ℕ → ℕ → ℕ → ℕ → ℕ → ℕ
 behind u v w p q r = p * w + q * u + r * v
 
--- s is half the sum of the corner numbers p, q, r at column 0 of row y, with what a pixel to the right and a row up change
+-- s is N, the corner numbers p, q, r times their weights, at column 0 of row y, with what a pixel to the right and a row up change
 pub record Sums (t : Corners) (p q r y : ℕ) (s : Sum) : Type 0 where
   pub plus : s .plus ≡ p * edgeAt (t .b) (t .c) 0 y .plus + q * edgeAt (t .c) (t .a) 0 y .plus + r * edgeAt (t .a) (t .b) 0 y .plus
   pub minus : s .minus ≡ p * edgeAt (t .b) (t .c) 0 y .minus + q * edgeAt (t .c) (t .a) 0 y .minus + r * edgeAt (t .a) (t .b) 0 y .minus

@@ -54,13 +54,13 @@ pub(crate) struct Side {
     pub(crate) height: Height,
 }
 
-// What a step adds to half a sum, and takes from it.
+// What a step adds to the weighted sum of three corner numbers, and takes from it.
 pub(crate) struct Change {
     pub(crate) rise: usize,
     pub(crate) fall: usize,
 }
 
-// Half the sum of three corner numbers at column 0 of a row: what is added and what is taken away, and what a pixel to the right and a row up change.
+// The weighted sum N of three corner numbers at column 0 of a row: what is added and what is taken away, and what a pixel to the right and a row up change.
 pub(crate) struct Sum {
     pub(crate) plus: usize,
     pub(crate) minus: usize,
