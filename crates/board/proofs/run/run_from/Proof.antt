@@ -69,12 +69,12 @@ same-length-8 c =
 
 returns-3 : tie.Need-returns-3
 returns-3 c =
-    let at-run-words = c .before .before .before .before .before .before .before .before .before .before .before .before .before .before .before .before in
-    let at-if2 = at-run-words .before .before .before .before .before .before .before .before .before in
-    let at-is-even = at-if2 .before in
-    let at-if1 = at-is-even .before in
-    let at-flaw = at-if1 .before in
-    from-like _ _ _ (at-flaw .flaw .ensures) (at-if1 .if1 .left) (at-is-even .is-even .ensures) (at-run-words .run-words .ensures) (at-if2 .if2 .left)
+    from-like _ _ _
+    (c .before .before .before .before .before .before .before .before .before .before .before .before .before .before .before .before .before .before .before .before .before .before .before .before .before .before .before .before .flaw .ensures)
+    (c .before .before .before .before .before .before .before .before .before .before .before .before .before .before .before .before .before .before .before .before .before .before .before .before .before .before .before .if1 .left)
+    (c .before .before .before .before .before .before .before .before .before .before .before .before .before .before .before .before .before .before .before .before .before .before .before .before .before .before .is-even .ensures)
+    (c .before .before .before .before .before .before .before .before .before .before .before .before .before .before .before .before .run-words .ensures)
+    (c .before .before .before .before .before .before .before .before .before .before .before .before .before .before .before .before .before .before .before .before .before .before .before .before .before .if2 .left)
 
 pub run-from-spec : {M : Type 1} → statement M
 run-from-spec = tie.close (tie.spec flaw-requires stopped-requires returns is-even-requires stopped-requires-2 returns-2 run-words-requires same-length same-length-2 same-length-3 same-length-4 same-length-5 same-length-6 same-length-7 same-length-8 returns-3)

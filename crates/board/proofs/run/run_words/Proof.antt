@@ -101,8 +101,20 @@ loop-again : tie.Need-loop-again Inv-loop μ-loop
 loop-again c =
     let at-step-at = c .before .before .before .before .before .before .before .before .before .before .before .before .before .before .before .before .before .before .before .before in
     let in-loop = at-step-at .before .before .before .before .before .before .before .before .before in
-    let at-loop = in-loop .before in
-    (omega (arith, in-loop .loop-test .taken), at-loop .loop .inv .1, at-step-at .step-at .kept .1 .1 .1 .0 ∙ at-loop .loop .inv .2, at-step-at .step-at .kept .1 .1 .1 .1 .0 ∙ at-loop .loop .inv .3, at-step-at .step-at .kept .1 .1 .1 .1 .1 .0 ∙ at-loop .loop .inv .4, at-step-at .step-at .kept .1 .1 .1 .1 .1 .1 .0 ∙ at-loop .loop .inv .5, at-step-at .step-at .kept .1 .1 .1 .1 .1 .1 .1 .0 ∙ at-loop .loop .inv .6, at-step-at .step-at .kept .1 .1 .1 .1 .1 .1 .1 .1 .0 ∙ at-loop .loop .inv .7, at-step-at .step-at .kept .1 .1 .1 .1 .1 .1 .1 .1 .1 .0 ∙ at-loop .loop .inv .8, at-step-at .step-at .kept .1 .1 .1 .1 .1 .1 .1 .1 .1 .1 .0 ∙ at-loop .loop .inv .9, rw (c .wrapping-add-u64 .ensures) (reached-more _ _ _ (at-loop .loop .inv .10) (rw (at-loop .loop .inv .1) at (in-loop .loop-test .taken)) (at-step-at .step-at .ensures) (c .before .if1 .left)))
+    let at-loop = in-loop .before in (
+      omega (arith, in-loop .loop-test .taken),
+      at-loop .loop .inv .1,
+      at-step-at .step-at .kept .1 .1 .1 .0 ∙ at-loop .loop .inv .2,
+      at-step-at .step-at .kept .1 .1 .1 .1 .0 ∙ at-loop .loop .inv .3,
+      at-step-at .step-at .kept .1 .1 .1 .1 .1 .0 ∙ at-loop .loop .inv .4,
+      at-step-at .step-at .kept .1 .1 .1 .1 .1 .1 .0 ∙ at-loop .loop .inv .5,
+      at-step-at .step-at .kept .1 .1 .1 .1 .1 .1 .1 .0 ∙ at-loop .loop .inv .6,
+      at-step-at .step-at .kept .1 .1 .1 .1 .1 .1 .1 .1 .0 ∙ at-loop .loop .inv .7,
+      at-step-at .step-at .kept .1 .1 .1 .1 .1 .1 .1 .1 .1 .0 ∙ at-loop .loop .inv .8,
+      at-step-at .step-at .kept .1 .1 .1 .1 .1 .1 .1 .1 .1 .1 .0 ∙ at-loop .loop .inv .9,
+      rw (c .wrapping-add-u64 .ensures)
+          (reached-more _ _ _ (at-loop .loop .inv .10) (rw (at-loop .loop .inv .1) at (in-loop .loop-test .taken)) (at-step-at .step-at .ensures) (c .before .if1 .left)),
+    )
 
 same-length-9 : tie.Need-same-length-9 Inv-loop μ-loop
 same-length-9 c = c .before .loop .inv .2
@@ -132,4 +144,9 @@ returns-2 : tie.Need-returns-2 Inv-loop μ-loop
 returns-2 c = reached-end _ _ _ (c .before .loop .inv .10) (rw (c .before .loop .inv .1) at (c .loop-test .left))
 
 pub run-words-spec : {M : Type 1} → statement M
-run-words-spec = tie.close (tie.spec Inv-loop μ-loop held-requires loop-holds step-at-requires same-length same-length-2 same-length-3 same-length-4 same-length-5 same-length-6 same-length-7 same-length-8 returns wrapping-add-u64-requires add-k loop-less loop-again same-length-9 same-length-10 same-length-11 same-length-12 same-length-13 same-length-14 same-length-15 same-length-16 returns-2)
+run-words-spec =
+    tie.close
+    (tie.spec
+    Inv-loop μ-loop held-requires loop-holds step-at-requires same-length same-length-2 same-length-3 same-length-4 same-length-5 same-length-6
+    same-length-7 same-length-8 returns wrapping-add-u64-requires add-k loop-less loop-again same-length-9 same-length-10 same-length-11
+    same-length-12 same-length-13 same-length-14 same-length-15 same-length-16 returns-2)

@@ -75,13 +75,18 @@ same-length-8 c =
 
 returns-2 : tie.Need-returns-2
 returns-2 c =
-    let at-units-step = c .before .before .before .before .before .before .before .before .before .before .before .before .before .before .before .before in
-    let at-data-of = at-units-step .before .before .before .before .before .before .before .before .before in
-    let at-command-of = at-data-of .before in
-    let at-if1 = at-command-of .before in
-    let at-is-whole = at-if1 .before in
-    let at-is-even = at-is-whole .before in
-    step-whole _ _ (at-is-even .is-even .ensures) (at-is-whole .is-whole .ensures) _ _ (at-if1 .if1 .left) (at-command-of .command-of .ensures) (at-data-of .data-of .ensures) (at-units-step .units-step .ensures)
+    step-whole _ _
+    (c .before .before .before .before .before .before .before .before .before .before .before .before .before .before .before .before .before .before .before .before .before .before .before .before .before .before .before .before .before .is-even .ensures)
+    (c .before .before .before .before .before .before .before .before .before .before .before .before .before .before .before .before .before .before .before .before .before .before .before .before .before .before .before .before .is-whole .ensures)
+    _ _
+    (c .before .before .before .before .before .before .before .before .before .before .before .before .before .before .before .before .before .before .before .before .before .before .before .before .before .before .before .if1 .left)
+    (c .before .before .before .before .before .before .before .before .before .before .before .before .before .before .before .before .before .before .before .before .before .before .before .before .before .before .command-of .ensures)
+    (c .before .before .before .before .before .before .before .before .before .before .before .before .before .before .before .before .before .before .before .before .before .before .before .before .before .data-of .ensures)
+    (c .before .before .before .before .before .before .before .before .before .before .before .before .before .before .before .before .units-step .ensures)
 
 pub dextolumen-board-step-spec : {M : Type 1} → statement M
-dextolumen-board-step-spec = tie.close (tie.spec is-even-requires is-whole-requires unfit-number-requires refused-requires returns command-of-requires data-of-requires units-step-requires same-length same-length-2 same-length-3 same-length-4 same-length-5 same-length-6 same-length-7 same-length-8 returns-2)
+dextolumen-board-step-spec =
+    tie.close
+    (tie.spec
+    is-even-requires is-whole-requires unfit-number-requires refused-requires returns command-of-requires data-of-requires units-step-requires
+    same-length same-length-2 same-length-3 same-length-4 same-length-5 same-length-6 same-length-7 same-length-8 returns-2)

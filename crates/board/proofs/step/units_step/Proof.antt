@@ -118,4 +118,9 @@ returns-2 c =
     units-accepted _ _ _ (at-part-of .part-of .ensures) (at-part-of2 .part-of2 .ensures) (at-part-of3 .part-of3 .ensures) (at-part-of4 .part-of4 .ensures) (at-if1 .if1 .left) (at-in-layout .in-layout .ensures)
 
 pub units-step-spec : {M : Type 1} → statement M
-units-step-spec = tie.close (tie.spec part-of-requires refused-requires same-length same-length-2 returns part-of-requires-2 part-of-requires-3 part-of-requires-4 in-layout-requires add-t37 add-t38 add-t39 same-length-3 same-length-4 same-length-5 same-length-6 same-length-7 same-length-8 same-length-9 same-length-10 returns-2)
+units-step-spec =
+    tie.close
+    (tie.spec
+    part-of-requires refused-requires same-length same-length-2 returns part-of-requires-2 part-of-requires-3 part-of-requires-4 in-layout-requires
+    add-t37 add-t38 add-t39 same-length-3 same-length-4 same-length-5 same-length-6 same-length-7 same-length-8 same-length-9 same-length-10
+    returns-2)
