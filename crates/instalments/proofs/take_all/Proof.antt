@@ -52,8 +52,13 @@ loop-less c = search needs
 
 loop-again : tie.Need-loop-again Inv-loop μ-loop
 loop-again c =
-    let at-shared-slice-known = c .before .before .before .before .before .before in
-    (omega (arith, c .before .before .loop-test .taken), c .before .before .before .loop .inv .1, c .before .before .before .loop .inv .2, turned-short (c .before .before .before .loop .inv .3) (c .before .before .loop-test .taken) (at-shared-slice-known .shared-slice-known .given (c .before .before .before .loop .k) .fits) (c .if1 .taken))
+    let at-shared-slice-known = c .before .before .before .before .before .before in (
+      omega (arith, c .before .before .loop-test .taken),
+      c .before .before .before .loop .inv .1,
+      c .before .before .before .loop .inv .2,
+      turned-short (c .before .before .before .loop .inv .3) (c .before .before .loop-test .taken)
+          (at-shared-slice-known .shared-slice-known .given (c .before .before .before .loop .k) .fits) (c .if1 .taken),
+    )
 
 shr-run-word : tie.Need-shr-run-word Inv-loop μ-loop
 shr-run-word c = let h = c .before .before .before .loop .inv .3 in omega (arith, h .few)

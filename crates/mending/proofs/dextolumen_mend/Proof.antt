@@ -43,12 +43,14 @@ refusing-requires-2 c κs = search needs
 returns-2 : tie.Need-returns-2
 returns-2 c =
     let h = c .before .before in
-    mend-short _ _ _ _ (memories (now (h .before .before .before .before .before .before .before .before .before .args .im)) (now (h .before .before .before .before .before .before .before .before .before .args .zm))) (h .before .before .if1 .left) (h .before .kept .ensures) (h .held .ensures) (c .refusing2 .ensures) (c .before .if2 .taken)
+    let a = h .before .before .before .before .before .before .before .before .before .args in
+    mend-short _ _ _ _ (memories (now (a .im)) (now (a .zm))) (h .before .before .if1 .left) (h .before .kept .ensures) (h .held .ensures) (c .refusing2 .ensures) (c .before .if2 .taken)
 
 -- past the tests there is room for all
-room : (e : tie.Else2) → Room (now (e .before .before .before .before .before .before .before .before .before .before .args .bytes)) (now (e .before .before .before .before .before .before .before .before .before .before .args .out)) (now (e .before .before .before .before .before .before .before .before .before .before .args .indices)) (now (e .before .before .before .before .before .before .before .before .before .before .args .numbers))
+room : (e : tie.Else2) → let a = e .before .before .before .before .before .before .before .before .before .before .args in Room (now (a .bytes)) (now (a .out)) (now (a .indices)) (now (a .numbers))
 room e =
-    room-told _ _ _ _ (memories (now (e .before .before .before .before .before .before .before .before .before .before .args .im)) (now (e .before .before .before .before .before .before .before .before .before .before .args .zm))) (e .before .before .before .if1 .left) (e .before .before .kept .ensures)
+    let a = e .before .before .before .before .before .before .before .before .before .before .args in
+    room-told _ _ _ _ (memories (now (a .im)) (now (a .zm))) (e .before .before .before .if1 .left) (e .before .before .kept .ensures)
     (e .before .held .ensures) (e .if2 .left)
 
 sort-requires : tie.Need-sort-requires

@@ -35,8 +35,13 @@ loop-again : tie.Need-loop-again Inv-loop μ-loop
 loop-again c =
     let in-loop = c .before .before .before .before .before in
     let at-loop = in-loop .before in
-    let start = at-loop .before .before .before in
-    (omega (arith, in-loop .loop-test .taken), c .before .before .take .kept .1 .1 .0 ∙ at-loop .loop .inv .1, ap (λ (s : Reading). readOn s (drop (at-loop .loop .k + 1) (start .args .text .now))) (c .before .before .take .ensures) ∙ sym (turn (start .args .text .now) (at-loop .loop .k) (in-loop .loop-test .taken) (reading (at-loop .loop .reader) (at-loop .loop .words))) ∙ at-loop .loop .inv .2)
+    let start = at-loop .before .before .before in (
+      omega (arith, in-loop .loop-test .taken),
+      c .before .before .take .kept .1 .1 .0 ∙ at-loop .loop .inv .1,
+      ap (λ (s : Reading). readOn s (drop (at-loop .loop .k + 1) (start .args .text .now))) (c .before .before .take .ensures)
+          ∙ sym (turn (start .args .text .now) (at-loop .loop .k) (in-loop .loop-test .taken) (reading (at-loop .loop .reader) (at-loop .loop .words)))
+          ∙ at-loop .loop .inv .2,
+    )
 
 same-length : tie.Need-same-length Inv-loop μ-loop
 same-length c = c .before .loop .inv .1

@@ -29,7 +29,9 @@ put-meaning-requires : tie.Need-put-meaning-requires
 put-meaning-requires c κs = let t = c .before .before .before .before .before .before .before .before .before .before .before .before .before .before .before .before .before .args .t in omega (arith, length-placed (t .index) (t .word), length-name (t .word), length-digits 16 4 (t .word))
 
 put-answer-requires : tie.Need-put-answer-requires
-put-answer-requires c κs = let t = c .before .before .before .before .before .before .before .before .before .before .before .before .before .before .before .before .before .before .before .before .before .args .t in omega (arith, length-placed (t .index) (t .word), length-name (t .word), length-digits 16 4 (t .word), length-meaning (t .meaning))
+put-answer-requires c κs =
+    let t = c .before .before .before .before .before .before .before .before .before .before .before .before .before .before .before .before .before .before .before .before .before .args .t in
+    omega (arith, length-placed (t .index) (t .word), length-name (t .word), length-digits 16 4 (t .word), length-meaning (t .meaning))
 
 same-length : tie.Need-same-length
 same-length c = search needs

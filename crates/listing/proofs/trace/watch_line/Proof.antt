@@ -66,7 +66,9 @@ returns-2 c =
     let at-if1 = at-put-traced .before .before in
     let at-has-room = at-if1 .before in
     let a = at-has-room .before .before .args in
-    laid-put _ _ _ (length-watch (a .t) (a .before) (a .after)) (at-has-room .has-room .ensures) (at-if1 .if1 .left) (put-append (put-append (put-append (at-put-traced .put-traced .ensures) (at-put-numbers .put-numbers .ensures)) (at-put-numbers2 .put-numbers2 .ensures)) (c .before .before .put-part .ensures))
+    let first = put-append (at-put-traced .put-traced .ensures) (at-put-numbers .put-numbers .ensures) in
+    let all = put-append (put-append first (at-put-numbers2 .put-numbers2 .ensures)) (c .before .before .put-part .ensures) in
+    laid-put _ _ _ (length-watch (a .t) (a .before) (a .after)) (at-has-room .has-room .ensures) (at-if1 .if1 .left) all
 
 pub watch-line-spec : {M : Type 1} → statement M
 watch-line-spec =

@@ -68,8 +68,15 @@ loop-again c =
     let at-if1 = c .before .before .before .before .before in
     let t = at-if1 .before .before .before in
     let s = t .before .before .before in
-    let i = s .loop .inv in
-    (omega (arith, t .before .before .loop-test .taken), i .1, search needs, search needs, search needs, sorted-kept _ _ _ _ (s .before .before .before .before .before .before .before .pre) (i .5) (rw (i .1) at (t .before .before .loop-test .taken)) (t .before .word .ensures) (t .tried .ensures) (at-if1 .if1 .taken) (c .before .before .put-waiting .ensures))
+    let i = s .loop .inv in (
+      omega (arith, t .before .before .loop-test .taken),
+      i .1,
+      search needs,
+      search needs,
+      search needs,
+      sorted-kept _ _ _ _ (s .before .before .before .before .before .before .before .pre) (i .5) (rw (i .1) at (t .before .before .loop-test .taken))
+          (t .before .word .ensures) (t .tried .ensures) (at-if1 .if1 .taken) (c .before .before .put-waiting .ensures),
+    )
 
 put-dropped-requires : tie.Need-put-dropped-requires Inv-loop μ-loop
 put-dropped-requires c κs =
@@ -91,8 +98,15 @@ loop-again-2 c =
     let at-if1 = at-put-dropped .before .before .before in
     let t = at-if1 .before .before .before in
     let s = t .before .before .before in
-    let i = s .loop .inv in
-    (omega (arith, t .before .before .loop-test .taken), i .1, search needs, search needs, search needs, sorted-dropped _ _ _ _ (s .before .before .before .before .before .before .before .pre) (i .5) (rw (i .1) at (t .before .before .loop-test .taken)) (t .before .word .ensures) (t .tried .ensures) (at-if1 .if1 .left) (at-put-dropped .put-dropped .ensures .0) (at-put-dropped .put-dropped .ensures .1))
+    let i = s .loop .inv in (
+      omega (arith, t .before .before .loop-test .taken),
+      i .1,
+      search needs,
+      search needs,
+      search needs,
+      sorted-dropped _ _ _ _ (s .before .before .before .before .before .before .before .pre) (i .5) (rw (i .1) at (t .before .before .loop-test .taken))
+          (t .before .word .ensures) (t .tried .ensures) (at-if1 .if1 .left) (at-put-dropped .put-dropped .ensures .0) (at-put-dropped .put-dropped .ensures .1),
+    )
 
 slice-aggregate-put-waiting-2 : tie.Need-slice-aggregate-put-waiting-2 Inv-loop μ-loop
 slice-aggregate-put-waiting-2 c = refl
