@@ -80,15 +80,15 @@ loop-less c =
 
 loop-again : tie.Need-loop-again Inv-loop μ-loop
 loop-again c =
-    let at-take-at = c .before .before .before .before .before .before .before .before .before in
-    let in-loop = at-take-at .before .before .before in
-    let l = in-loop .before .loop in (
-      omega (arith, in-loop .loop-test .taken),
+    let l = c .before .before .before .before .before .before .before .before .before .before .before .before .before .loop in (
+      omega (arith, c .before .before .before .before .before .before .before .before .before .before .before .before .loop-test .taken),
       l .inv .1,
       l .inv .2,
       search needs,
       search needs,
-      reached-more _ _ (l .inv .5) (rw (l .inv .1) at (in-loop .loop-test .taken)) (at-take-at .take-at .ensures .0) (c .before .before .before .if1 .left) (omega (arith, l .inv .0, l .inv .2)) (at-take-at .take-at .ensures .1) (c .with .ensures),
+      reached-more _ _ (l .inv .5) (rw (l .inv .1) at (c .before .before .before .before .before .before .before .before .before .before .before .before .loop-test .taken))
+          (c .before .before .before .before .before .before .before .before .before .take-at .ensures .0) (c .before .before .before .if1 .left) (omega (arith, l .inv .0, l .inv .2))
+          (c .before .before .before .before .before .before .before .before .before .take-at .ensures .1) (c .with .ensures),
     )
 
 entered-requires-2 : tie.Need-entered-requires-2 Inv-loop μ-loop
