@@ -1,5 +1,5 @@
--- Half the sum of three corner numbers, as what is added and what is taken away at column 0 of a row: it is carried from row to row, and from column 0 a product
--- leads to any covered pixel. Assumes nothing.
+-- Document 01's N, the sum of the corner numbers times the edges opposite, as what is added and what is taken away at column 0 of a row: it is carried from row to
+-- row, and from column 0 a product leads to any covered pixel. Assumes nothing.
 use mathlib.Core.Path.{_≡_, sym, ap, _∙_}
 use Prim.Native.Nat.{ℕ, _+_, _*_, _-_, _≤_}
 use native.Mathlib.Nat.{mul-comm, mul-left-comm, mul-add, mul-le-mul}
@@ -114,7 +114,7 @@ module _ (t : Corners) (p q r y : ℕ) (s : Sum) (k : Sums t p q r y s) where
         up-fall = k .up-fall;
       })
 
-  -- at a covered pixel what is added and what is taken away leave half the sum
+  -- at a covered pixel what is added and what is taken away leave N
   module _ (x : ℕ) (h : covers t x y ≡ true) where
     balance : p * amount (edgeAt (t .b) (t .c) x y) + q * amount (edgeAt (t .c) (t .a) x y) + r * amount (edgeAt (t .a) (t .b) x y) + (s .minus + x * s .right .fall)
         ≡ s .plus + x * s .right .rise
