@@ -2,10 +2,11 @@
 use mathlib.Core.Path.{_≡_, refl, sym, ap₂, _∙_}
 use mathlib.Core.Bool.{Bool, true, false, cond, not, _&&_, _||_}
 use mathlib.Core.List.{List}
-use Prim.Native.Nat.{ℕ, _+_, _≤_, _<_}
+use Prim.Native.Nat.{ℕ, _+_, _/_, _%_, _^_, _≤_, _<_}
 use native.Mathlib.Omega.{arith}
 use lib.ListN.{getD, set}
 use lib.Seq.{set-getD}
+use lib.Bits.{bitAnd, and-zero-r, and-mask}
 use lib.Dec.{leb, ltb, eqb}
 use borrow.Author.Tests.{leb-true, leb-false, ltb-true, ltb-false, eqb-true}
 use Rattle.picture.specs.declared.Pen.{Pen}
@@ -38,6 +39,22 @@ edge-wins kind z old e h = go (ltb z old) refl
 
 edge-loses : (kind : Kind) (z old : ℕ) → old < z → wins kind (comparedOf z old) ≡ false
 edge-loses kind z old h = rw (compared-farther z old (omega arith) (λ e. absurd (omega arith)))
+
+-- what is reckoned in the place of a choice: d is the difference of the depths modulo 2 ^ 64, whose upper bits are all 0 where z is no farther and all 1
+-- where it is; s is what i lacks of the number that stood, modulo 2 ^ 16
+pub picked-near : (z old i stood d s : ℕ) → z ≤ 65535 → old ≤ 65535 → i ≤ 65535 → stood ≤ 65535 → d < 2 ^ 64 → s < 2 ^ 16 → (d + z) % 2 ^ 64 ≡ old
+    → (s + i) % 2 ^ 16 ≡ stood → (i + bitAnd s (d / 2 ^ 48)) % 2 ^ 16 ≡ cond (leb z old) i stood
+picked-near z old i stood d s hz ho hi hs hd hn e f = go (leb z old) refl
+  where
+    go : (t : Bool) → leb z old ≡ t → (i + bitAnd s (d / 2 ^ 48)) % 2 ^ 16 ≡ cond t i stood
+    go true t =
+        let l = leb-true z old t in
+        let none : d / 2 ^ 48 ≡ 0 = omega (arith, l, e, ho, hd) in
+        rw (none, and-zero-r s) (omega (arith, hi))
+    go false t =
+        let l = leb-false z old t in
+        let all : d / 2 ^ 48 ≡ 65535 = omega (arith, l, e, hz, hd) in
+        rw (all, and-mask s 16) (omega (arith, f, hn))
 
 module _ (pen : Pen) (kind : Kind) (bare : isBare pen kind ≡ true) where
   -- numbers are stored whole

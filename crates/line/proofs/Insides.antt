@@ -133,14 +133,6 @@ module _ (pen : Pen) (rows : ℕ) (kind : Kind) (a b : Vertex) where
       → offered pen rows (offer kind (xAt a b k) (yAt a b k) 0 0) ≡ mine (layoutOf (pen .frame)) (xAt a b k)
   step-offered s k h i = open-offered pen rows kind (xAt a b k) (yAt a b k) (i .clear) ∙ rw (step-within s k h i)
 
-  -- by the tests that were made
-  pub inside-of-tests : {t o r : Bool} → t ≡ endsWithin pen rows a b → o ≡ isOpen pen kind → r ≡ isBare pen kind → t && o && r ≡ true
-      → AllOffered pen rows kind a b × (isBare pen kind ≡ true)
-  inside-of-tests {t} {o} {r} e f g h =
-      let u = both (t && o) r h in
-      let v = both t o (u .0) in
-      (record { ends = sym e ∙ v .0; clear = sym f ∙ v .1 }, sym g ∙ u .1)
-
 -- its line length suits the layout
 pub inside-whole : (pen : Pen) (ni nz : ℕ) (kind : Kind) (a b : Vertex) → AllOffered pen (rowsOf (pen .frame) ni nz) kind a b
     → isWhole (layoutOf (pen .frame)) (pen .frame .line) ≡ true

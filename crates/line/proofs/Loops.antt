@@ -28,7 +28,7 @@ use Rattle.line.specs.declared.slope.Pixel.{Pixel}
 use Rattle.line.specs.Segment.{larger, numberAt, xAt, yAt, isSet, firstOf, from, dashOffers, shadeOffers, stepOffers, kindOf}
 use Rattle.line.specs.Step.{slopeOf, stepPixel, OnStep}
 use Rattle.line.specs.Ink.{ink, hasGround, inkOf, joinedIn}
-use Rattle.line.specs.Walk.{Carries, Stands, startOf, nextOf, OnWalk}
+use Rattle.line.specs.Walk.{Carries, Stands, startOf, nextOf, OnWalk, Numbers, Reaches}
 use Rattle.line.proofs.Segments.{smaller-le}
 use Rattle.line.proofs.Rounding.{number-side}
 
@@ -47,16 +47,23 @@ stands-next w p e h =
       z = carried-next (w .z .first) (w .z .add) (p .k) _ (p .z) (h .z) refl;
     })
 
--- where a walk stands, it tells the side and the numbers
-pub on-walk : {a b : Vertex} {s : Slope} {w : Walk} {p : Step} → OnStep a b s (p .k) → Carries a b s w → Stands w p → OnWalk a b s p
-on-walk {a} {b} {s} {w} {p} on c h =
-    let m : s .m ≤ s .n = rw (on .slope) (smaller-le a b) in
-    record {
-      on = on;
-      side = carried-at (w .side) (p .k) (p .side) (h .side) ∙ c .side .told (p .k) (on .step) ∙ number-side (s .n) (s .m) (p .k) (on .step) m;
-      i = carried-at (w .i) (p .k) (p .i) (h .i) ∙ c .i .told (p .k) (on .step);
-      z = carried-at (w .z) (p .k) (p .z) (h .z) ∙ c .z .told (p .k) (on .step);
-    }
+-- where a walk stands, it tells the side
+module _ {deep : Bool} {a b : Vertex} {s : Slope} {w : Walk} {p : Step} (on : OnStep a b s (p .k)) (c : Carries deep a b s w) (h : Stands w p) where
+  pub on-walk : OnWalk a b s p
+  on-walk =
+      let m : s .m ≤ s .n = rw (on .slope) (smaller-le a b) in
+      record {
+        on = on;
+        side = carried-at (w .side) (p .k) (p .side) (h .side) ∙ c .side .told (p .k) (on .step) ∙ number-side (s .n) (s .m) (p .k) (on .step) m;
+      }
+
+  -- and the numbers
+  pub on-numbers : Numbers deep a b s p
+  on-numbers =
+      record {
+        i = λ d. carried-at (w .i) (p .k) (p .i) (h .i) ∙ c .i d .told (p .k) (on .step);
+        z = λ d. carried-at (w .z) (p .k) (p .z) (h .z) ∙ c .z d .told (p .k) (on .step);
+      }
 
 -- ---- the loop
 
@@ -64,19 +71,19 @@ on-walk {a} {b} {s} {w} {p} on c h =
 abbrev rows : Pen → List ℕ → List ℕ → ℕ
 rows pen i z = rowsOf (pen .frame) (length i) (length z)
 
-pub record Walked (pen : Pen) (f : ℕ → ℕ → List Offer) (first : ℕ) (a b : Vertex) (s : Slope) (w : Walk) (n : ℕ) (i₀ z₀ i z : List ℕ) (p : Step) (passed : ℕ) : Type 0 where
+pub record Walked (pen : Pen) (f : ℕ → ℕ → List Offer) (first : ℕ) (deep : Bool) (a b : Vertex) (s : Slope) (w : Walk) (n : ℕ) (i₀ z₀ i z : List ℕ) (p : Step) (passed : ℕ) : Type 0 where
   pub so-far : Reached pen (f (rows pen i₀ z₀)) i₀ z₀ i z passed (min (p .k) (n + 1))
   pub slope : s ≡ slopeOf a b
   pub last : n ≡ s .n
   pub small : n ≤ 65535
   pub count : passed ≤ p .k
   pub begun : first ≤ p .k
-  pub carries : Carries a b s w
+  pub carries : Carries deep a b s w
   pub stands : Stands w p
 
-module _ {pen : Pen} {f : ℕ → ℕ → List Offer} {first : ℕ} {a b : Vertex} {s : Slope} {w : Walk} {n : ℕ} {i₀ z₀ : List ℕ} where
+module _ {pen : Pen} {f : ℕ → ℕ → List Offer} {first : ℕ} {deep : Bool} {a b : Vertex} {s : Slope} {w : Walk} {n : ℕ} {i₀ z₀ : List ℕ} where
   pub walked-start : {p : Step} → ((j : ℕ) → j < first → f (rows pen i₀ z₀) j ≡ []) → first ≤ 1 → s ≡ slopeOf a b → n ≡ s .n → n ≤ 65535
-      → Carries a b s w → Stands w p × (p .k ≡ first) → Walked pen f first a b s w n i₀ z₀ i₀ z₀ p 0
+      → Carries deep a b s w → Stands w p × (p .k ≡ first) → Walked pen f first deep a b s w n i₀ z₀ i₀ z₀ p 0
   walked-start {p} q u e l h c t =
       record {
         so-far = reached-start (λ j b. q j (omega (arith, t .1)));
@@ -89,9 +96,16 @@ module _ {pen : Pen} {f : ℕ → ℕ → List Offer} {first : ℕ} {a b : Verte
         stands = t .0;
       }
 
-  module _ {i z : List ℕ} {p : Step} {passed : ℕ} (h : Walked pen f first a b s w n i₀ z₀ i z p passed) where
+  module _ {i z : List ℕ} {p : Step} {passed : ℕ} (h : Walked pen f first deep a b s w n i₀ z₀ i z p passed) where
+    walked-step-on : p .k ≤ n → OnStep a b s (p .k)
+    walked-step-on l = record { slope = h .slope; step = rw (h .last) at l }
+
     pub walked-on : p .k ≤ n → OnWalk a b s p
-    walked-on l = on-walk (record { slope = h .slope; step = rw (h .last) at l }) (h .carries) (h .stands)
+    walked-on l = on-walk (walked-step-on l) (h .carries) (h .stands)
+
+    pub walked-reaches : {style : Style} → first ≡ firstOf (joinedIn style (style .mode)) → p .k ≤ n → Reaches style deep s a b p
+    walked-reaches e l =
+        record { walk = walked-on l; numbers = on-numbers (walked-step-on l) (h .carries) (h .stands); begun = rw e at (h .begun) }
 
     -- a loop keeps the rows in use
     pub walked-rows : rows pen i z ≡ rows pen i₀ z₀
@@ -100,7 +114,7 @@ module _ {pen : Pen} {f : ℕ → ℕ → List Offer} {first : ℕ} {a b : Verte
     -- from a step that is drawn to another, with nothing offered between the two
     pub walked-next : {j q : List ℕ} {m : ℕ} {r : Step} → p .k ≤ n → picture j q m ≡ drawn pen (f (rows pen i z) (p .k)) (picture i z 0) → m ≤ 1
         → Stands w r → p .k < r .k → ((k : ℕ) → p .k < k → k < r .k → k ≤ n → f (rows pen i₀ z₀) k ≡ [])
-        → Walked pen f first a b s w n i₀ z₀ j q r (passed + m)
+        → Walked pen f first deep a b s w n i₀ z₀ j q r (passed + m)
     walked-next {r = r} l d c t u v =
         let e : min (p .k) (n + 1) ≡ p .k = omega arith in
         record {
@@ -119,7 +133,7 @@ module _ {pen : Pen} {f : ℕ → ℕ → List Offer} {first : ℕ} {a b : Verte
 
     -- to the next step
     pub walked-step : {j q : List ℕ} {m : ℕ} {r : Step} → p .k ≤ n → picture j q m ≡ drawn pen (f (rows pen i z) (p .k)) (picture i z 0) → m ≤ 1
-        → r ≡ nextOf w p → Walked pen f first a b s w n i₀ z₀ j q r (passed + m)
+        → r ≡ nextOf w p → Walked pen f first deep a b s w n i₀ z₀ j q r (passed + m)
     walked-step l d c e =
         rw e
         (walked-next l d c (stands-next w p (h .carries .single) (h .stands)) (omega (arith, h .carries .single)) (λ k x y g. absurd (omega (arith, x, y, h .carries .single))))
@@ -196,7 +210,8 @@ module _ (pen : Pen) (rows : ℕ) (style : Style) (a b : Vertex) where
     at-one colour = keep pen rows (offer (kindOf One) (xAt a b k) (yAt a b k) colour 0)
 
     -- a step with ink offers its pixel
-    pub ink-drawn : (m : Mode) → firstOf (joinedIn style m) ≤ k → i ≡ numberAt (larger a b) k (a .i) (b .i) → z ≡ numberAt (larger a b) k (a .z) (b .z)
+    pub ink-drawn : (m : Mode) → firstOf (joinedIn style m) ≤ k
+        → (isDeep (kindOf m) ≡ true → i ≡ numberAt (larger a b) k (a .i) (b .i)) → (isDeep (kindOf m) ≡ true → z ≡ numberAt (larger a b) k (a .z) (b .z))
         → inkOf style m set i z .drawn ≡ true
         → keep pen rows (offer (kindOf m) (xAt a b k) (yAt a b k) (inkOf style m set i z .i) (inkOf style m set i z .z)) ≡ stepOffers pen rows style m a b k
     unfolding dashOffers shadeOffers
@@ -210,7 +225,7 @@ module _ (pen : Pen) (rows : ℕ) (style : Style) (a b : Vertex) where
         go : (set : Bool) → set ≡ true → at-one (cond set (style .foreground) (style .background)) ≡ cond set (at-one (style .foreground)) []
         go true h = refl
         go false h = absurd (true≢false (sym h))
-    ink-drawn Two l hi hz d = rw (hi, hz)
+    ink-drawn Two l hi hz d = rw (hi refl, hz refl)
 
     -- and one without nothing
     pub ink-none : (m : Mode) → firstOf (joinedIn style m) ≤ k → inkOf style m set i z .drawn ≡ false → stepOffers pen rows style m a b k ≡ []
@@ -221,14 +236,14 @@ module _ (pen : Pen) (rows : ℕ) (style : Style) (a b : Vertex) where
 
   -- by the pixel, the kind and the ink that were computed
   module _ (s : Slope) (p : Step) (q : Pixel) (kind : Kind) (ink : Ink) where
-    pub inked-step : OnWalk a b s p → q ≡ stepPixel a b (p .k) → kind ≡ kindOf (style .mode) → firstOf (joinedIn style (style .mode)) ≤ p .k
+    pub inked-step : Reaches style (isDeep (kindOf (style .mode))) s a b p → q ≡ stepPixel a b (p .k) → kind ≡ kindOf (style .mode)
         → ink ≡ inkOf style (style .mode) (isSet style (p .k)) (p .i / carriedOne) (p .z / carriedOne) → ink .drawn ≡ true
         → keep pen rows (offer kind (q .x) (q .y) (ink .i) (ink .z)) ≡ stepOffers pen rows style (style .mode) a b (p .k)
-    inked-step on eq ek t ei d =
+    inked-step on eq ek ei d =
         rw (eq, ek, ei)
-        (ink-drawn (p .k) (isSet style (p .k)) (p .i / carriedOne) (p .z / carriedOne) refl (style .mode) t
-        (on .i ∙ ap (λ (s : Slope). numberAt (s .n) (p .k) (a .i) (b .i)) (on .on .slope))
-        (on .z ∙ ap (λ (s : Slope). numberAt (s .n) (p .k) (a .z) (b .z)) (on .on .slope))
+        (ink-drawn (p .k) (isSet style (p .k)) (p .i / carriedOne) (p .z / carriedOne) refl (style .mode) (on .begun)
+        (λ t. on .numbers .i t ∙ ap (λ (s : Slope). numberAt (s .n) (p .k) (a .i) (b .i)) (on .walk .on .slope))
+        (λ t. on .numbers .z t ∙ ap (λ (s : Slope). numberAt (s .n) (p .k) (a .z) (b .z)) (on .walk .on .slope))
         (sym (ap (λ (i : Ink). i .drawn) ei) ∙ d))
 
   pub blank-step : (p : Step) (ink : Ink) → firstOf (joinedIn style (style .mode)) ≤ p .k

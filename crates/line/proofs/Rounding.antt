@@ -2,7 +2,8 @@
 -- Assumes nothing.
 use mathlib.Core.Path.{_≡_, refl, sym, ap, _∙_}
 use Prim.Native.Nat.{ℕ, zero, suc, _+_, _-_, _*_, _/_, _≤_, _<_, zero-le, min, max}
-use native.Mathlib.Nat.{le-of-suc-le-suc, div-lt-iff-lt-mul, le-div-iff-mul-le, le-antisymm, mul-le-mul-left, mul-le-mul-right, mul-comm, mul-left-comm, suc-mul, add-mul, zero-lt-suc, zero-mul, sub-add-cancel, sub-self, sub-zero, mul-zero, le-max-left, le-max-right, min-le-left, min-le-right, le-refl}
+use native.Mathlib.Nat.{le-of-suc-le-suc, div-lt-iff-lt-mul, le-div-iff-mul-le, le-antisymm, mul-le-mul-left, mul-le-mul-right, mul-comm, mul-left-comm}
+use native.Mathlib.Nat.{suc-mul, add-mul, zero-lt-suc, zero-mul, sub-add-cancel, sub-self, sub-zero, mul-zero, le-max-left, le-max-right, min-le-left, min-le-right, le-refl}
 use native.Mathlib.Omega.{arith}
 use borrow.Author.Tests.{ne-eqb}
 use Rattle.line.specs.Segment.{sideAt, numberAt}

@@ -1,17 +1,21 @@
--- How a walk goes on along its route: a walk of several steps at once stands where the single steps would, and what it leaves out is none of the
--- unit's. Assumes nothing.
-use mathlib.Core.Path.{_≡_, refl, sym, ap, _∙_}
-use mathlib.Core.Bool.{Bool, true, false, cond, not, _&&_, _||_, true≢false}
+-- How a walk goes on along its route: what a way asks of a spot is whether its pixel is offered, and where it is, the place of the spot is the pixel's; a walk
+-- of several steps at once stands where the single steps would, and what it leaves out is none of the unit's. Assumes nothing.
+use mathlib.Core.Path.{_≡_, refl, sym, ap, ap₂, _∙_}
+use mathlib.Core.Logic.{_⊎_, inl, inr}
+use mathlib.Core.Bool.{Bool, true, false, cond, _&&_, _||_, true≢false}
 use mathlib.Core.List.{[]}
-use Prim.Native.Nat.{ℕ, _+_, _-_, _%_, _^_, _≤_, _<_}
+use Prim.Native.Nat.{ℕ, _+_, _-_, _*_, _/_, _%_, _^_, _≤_, _<_}
 use native.Mathlib.Nat.{add-assoc, mod-add-mod, add-mod-mod}
 use native.Mathlib.Omega.{arith}
 use lib.Dec.{ltb, eqb}
-use borrow.Author.Tests.{eqb-true, eqb-false}
+use borrow.Author.Tests.{eqb-true}
 use Rattle.picture.specs.declared.Frame.{Frame}
 use Rattle.picture.specs.declared.Pen.{Pen}
 use Rattle.picture.specs.declared.Vertex.{Vertex}
-use Rattle.picture.specs.Place.{liesPlain, liesTiled, layoutOf, rowsOf, mine}
+use Rattle.picture.specs.Place.{liesPlain, liesTiled, layoutOf, rowsOf, placeOf, mine}
+use Rattle.picture.specs.Offer.{offer, offered}
+use Rattle.picture.specs.Picture.{isDeep}
+use Rattle.picture.proofs.Places.{plain-mine, tiled-mine, place-plain, place-tiled}
 use Rattle.ground.proofs.Truth.{both}
 use Rattle.line.specs.declared.Style.{Style}
 use Rattle.line.specs.declared.part.Part.{Part}
@@ -24,63 +28,78 @@ use Rattle.line.specs.Step.{OnStep}
 use Rattle.line.specs.Course.{spotAt}
 use Rattle.line.specs.Part.{part, partOf, hasPlace}
 use Rattle.line.specs.Walk.{Stands, twiceOf, nextOf}
-use Rattle.line.specs.Field.{liesWhole}
-use Rattle.line.specs.Route.{liesOf, farOf, onwardOf, Traces}
+use Rattle.line.specs.Field.{inField, endsWithin, AllOffered, isOpen, isBare}
+use Rattle.line.specs.Route.{liesOf, wayOf, widthOf, columnOf, rowOf, isHere, placedAt, farOf, OnRoute, onwardOf, Begins, Goes, Sets, Traces}
 use Rattle.line.proofs.Steps.{steps-apart}
-use Rattle.line.proofs.Insides.{whole-mine, step-offered, inside-whole}
-use Rattle.line.proofs.Parts.{part-mine, part-between}
+use Rattle.line.proofs.Insides.{step-offered, step-low, direct-offered, inside-whole}
+use Rattle.line.proofs.Parts.{part-mine, part-place, part-between}
 use Rattle.line.proofs.Loops.{stands-next, hidden-step}
 
--- ---- how pixels lie, by its number
+-- ---- the ways, by their numbers
 
-pub lies-rows : (frame : Frame) → liesPlain frame ≡ true → liesOf frame ≡ 0
-unfolding liesOf
-lies-rows frame e = rw e
+-- each of the four, with what it says of the layout and of the ends
+pub data Way (frame : Frame) (inside : Bool) (way : ℕ) : Type 0 where
+  in-rows : way ≡ 0 → inside ≡ true → liesPlain frame ≡ true → Way frame inside way
+  in-tiles : way ≡ 1 → inside ≡ true → liesTiled frame ≡ true → Way frame inside way
+  in-shares : way ≡ 2 → inside ≡ true → liesPlain frame ≡ false → liesTiled frame ≡ false → Way frame inside way
+  in-asked : way ≡ 3 → liesPlain frame ≡ true → Way frame inside way
 
-pub lies-tiles : (frame : Frame) → liesPlain frame ≡ false → liesTiled frame ≡ true → liesOf frame ≡ 1
-unfolding liesOf
-lies-tiles frame e f = rw (e, f)
-
-pub lies-shares : (frame : Frame) → liesPlain frame ≡ false → liesTiled frame ≡ false → liesOf frame ≡ 2
-unfolding liesOf
-lies-shares frame e f = rw (e, f)
-
-pub rows-lie : (frame : Frame) → liesOf frame ≡ 0 → liesPlain frame ≡ true
-unfolding liesOf
-rows-lie frame h = go (liesPlain frame) (liesTiled frame) h
+-- a way is one of them
+pub way-known : (pen : Pen) (rows : ℕ) (style : Style) (way : ℕ) (a b : Vertex) → Goes pen rows style way a b → Way (pen .frame) (endsWithin pen rows a b) way
+unfolding wayOf liesOf
+way-known pen rows style way a b h = go (endsWithin pen rows a b) refl (liesPlain (pen .frame)) refl (liesTiled (pen .frame)) refl (h .so)
   where
-    go : (p t : Bool) → cond {A = ℕ} p 0 (cond t 1 2) ≡ 0 → p ≡ true
-    go true t h = refl
-    go false true h = absurd (omega arith)
-    go false false h = absurd (omega arith)
+    go : (i : Bool) → endsWithin pen rows a b ≡ i → (p : Bool) → liesPlain (pen .frame) ≡ p → (t : Bool) → liesTiled (pen .frame) ≡ t
+        → way ≡ cond i (cond p 0 (cond t 1 2)) 3 → Way (pen .frame) (endsWithin pen rows a b) way
+    go true i true p t l e = in-rows e i p
+    go true i false p true t e = in-tiles e i t
+    go true i false p false t e = in-shares e i p t
+    go false i p q t l e = in-asked e (h .plain i)
 
-pub shares-lie : (frame : Frame) → liesOf frame ≡ 2 → (liesPlain frame ≡ false) × (liesTiled frame ≡ false)
-unfolding liesOf
-shares-lie frame h = go (liesPlain frame) (liesTiled frame) h
+-- and none of the first three is the fourth
+pub asked-left : {pen : Pen} {rows : ℕ} {style : Style} {way : ℕ} {a b : Vertex} → Goes pen rows style way a b → (way ≡ 0 → ⊥) → (way ≡ 1 → ⊥) → (way ≡ 2 → ⊥)
+    → way ≡ 3
+asked-left {pen} {rows} {style} {way} {a} {b} h n m l = go (way-known pen rows style way a b h)
   where
-    go : (p t : Bool) → cond {A = ℕ} p 0 (cond t 1 2) ≡ 2 → (p ≡ false) × (t ≡ false)
-    go true t h = absurd (omega arith)
-    go false true h = absurd (omega arith)
-    go false false h = (refl, refl)
+    go : Way (pen .frame) (endsWithin pen rows a b) way → way ≡ 3
+    go (in-rows e i p) = absurd (n e)
+    go (in-tiles e i t) = absurd (m e)
+    go (in-shares e i p t) = absurd (l e)
+    go (in-asked e p) = e
 
-pub rest-lie : (frame : Frame) → (liesOf frame ≡ 0 → ⊥) → (liesOf frame ≡ 1 → ⊥) → liesOf frame ≡ 2
-unfolding liesOf
-rest-lie frame h k = go (liesPlain frame) (liesTiled frame) h k
+-- by the tests that were made
+pub goes-of-tests : {pen : Pen} {rows : ℕ} {style : Style} {way : ℕ} {a b : Vertex} {o r t p : Bool} → o ≡ isOpen pen (kindOf (style .mode)) → r ≡ isBare pen (kindOf (style .mode))
+    → t ≡ endsWithin pen rows a b → p ≡ liesPlain (pen .frame) → way ≡ wayOf (pen .frame) t → o && r && (t || p) ≡ true → Goes pen rows style way a b
+goes-of-tests {pen} {rows} {style} {way} {a} {b} {o} {r} {t} {p} eo er et ep ew h =
+    let u = both (o && r) (t || p) h in
+    let v = both o r (u .0) in
+    record { so = ew ∙ ap (wayOf (pen .frame)) et; plain = λ i. sym ep ∙ right t p (et ∙ i) (u .1); clear = sym eo ∙ v .0; bare = sym er ∙ v .1 }
   where
-    go : (p t : Bool) → (cond {A = ℕ} p 0 (cond t 1 2) ≡ 0 → ⊥) → (cond {A = ℕ} p 0 (cond t 1 2) ≡ 1 → ⊥) → cond {A = ℕ} p 0 (cond t 1 2) ≡ 2
-    go true t h k = absurd (h refl)
-    go false true h k = absurd (k refl)
-    go false false h k = refl
+    right : (t p : Bool) → t ≡ false → t || p ≡ true → p ≡ true
+    right true p e h = absurd (true≢false e)
+    right false p e h = h
 
--- all but a unit's has every column
-pub others-lie : (frame : Frame) → (liesOf frame ≡ 2 → ⊥) → liesWhole frame ≡ true
-unfolding liesOf
-others-lie frame h = go (liesPlain frame) (liesTiled frame) h
-  where
-    go : (p t : Bool) → (cond {A = ℕ} p 0 (cond t 1 2) ≡ 2 → ⊥) → p || t ≡ true
-    go true t h = refl
-    go false true h = refl
-    go false false h = absurd (h refl)
+-- what the loops are given, by what was computed
+pub sets-of : {pen : Pen} {rows used : ℕ} {style : Style} {way w : ℕ} {deep : Bool} {r : Route} {a b : Vertex} {p : Step} → rows ≡ used → way ≡ w
+    → deep ≡ isDeep (kindOf (style .mode)) → Goes pen rows style way a b → OnRoute (pen .frame) rows way deep a b r → Begins style r p → Sets pen used style w r a b p
+sets-of e f d g o b = record { goes = rw (e, f) at g; route = rw (e, f, d) at o; begins = b }
+
+-- the width of spots, where they are places of rows, and where column and row are read from them
+width-line : (frame : Frame) {way : ℕ} → (way ≡ 0) ⊎ (way ≡ 2) → widthOf way frame ≡ frame .line
+unfolding widthOf
+width-line frame (inl e) = rw e
+width-line frame (inr e) = rw e
+
+width-read : (frame : Frame) {way : ℕ} → (way ≡ 1) ⊎ (way ≡ 3) → widthOf way frame ≡ 65536
+unfolding widthOf
+width-read frame (inl e) = rw e
+width-read frame (inr e) = rw e
+
+spot-column : (x y : ℕ) → x ≤ 65535 → columnOf (y * 65536 + x) ≡ x
+spot-column x y h = omega (arith, h)
+
+spot-row : (x y : ℕ) → x ≤ 65535 → y ≤ 65535 → rowOf (y * 65536 + x) ≡ y
+spot-row x y h k = omega (arith, h, k)
 
 -- ---- several steps at once
 
@@ -136,78 +155,139 @@ pub record Onward (near : Walk) (p r : Step) (none : ℕ → Type 0) : Type 0 wh
   pub further : p .k < r .k
   pub between : (j : ℕ) → p .k < j → j < r .k → none j
 
-module _ (pen : Pen) (ni nz : ℕ) (style : Style) (deep ground : Bool) (lies : ℕ) (r : Route) (a b : Vertex) (h : Traces pen (rowsOf (pen .frame) ni nz) style deep ground lies r a b) where
-  abbrev rows : ℕ
-  rows = rowsOf (pen .frame) ni nz
+-- the coordinates of both ends are 16-bit numbers
+pub record Low (a b : Vertex) : Type 0 where
+  pub ax : a .x ≤ 65535
+  pub ay : a .y ≤ 65535
+  pub bx : b .x ≤ 65535
+  pub by : b .y ≤ 65535
+
+module _ (pen : Pen) (ni nz : ℕ) (style : Style) (deep ground : Bool) (way : ℕ) (r : Route) (a b : Vertex) (h : Traces pen (rowsOf (pen .frame) ni nz) style deep ground way r a b) where
+  abbrev rows-in-use : ℕ
+  rows-in-use = rowsOf (pen .frame) ni nz
+
+  abbrev spot : ℕ → ℕ
+  spot k = spotAt (r .width) a b k
+
+  known : Way (pen .frame) (endsWithin pen rows-in-use a b) way
+  known = way-known pen rows-in-use style way a b (h .goes)
+
+  all-offered : endsWithin pen rows-in-use a b ≡ true → AllOffered pen rows-in-use (kindOf (style .mode)) a b
+  all-offered i = record { ends = i; clear = h .goes .clear }
+
+  -- a spot in a picture of rows, and one from which column and row are read
+  spot-line : (k : ℕ) → (way ≡ 0) ⊎ (way ≡ 2) → spot k ≡ yAt a b k * pen .frame .line + xAt a b k
+  spot-line k e = ap (λ (w : ℕ). yAt a b k * w + xAt a b k) (h .route .wide ∙ width-line (pen .frame) e)
+
+  spot-read : (k : ℕ) → OnStep a b (r .slope) k → Low a b → (way ≡ 1) ⊎ (way ≡ 3) → (columnOf (spot k) ≡ xAt a b k) × (rowOf (spot k) ≡ yAt a b k)
+  spot-read k on l e =
+      let low = step-low a b k (rw (on .slope) at (on .step)) in
+      let is = ap (λ (w : ℕ). yAt a b k * w + xAt a b k) (h .route .wide ∙ width-read (pen .frame) e) in
+      let x : xAt a b k ≤ 65535 = omega (arith, low .0, l .ax, l .bx) in
+      let y : yAt a b k ≤ 65535 = omega (arith, low .1, l .ay, l .by) in
+      (ap columnOf is ∙ spot-column (xAt a b k) (yAt a b k) x, ap rowOf is ∙ spot-row (xAt a b k) (yAt a b k) x y)
 
   -- a unit has a step where it has its column
-  pub own-mine : (k : ℕ) → lies ≡ 2 → hasPlace (r .part) (spotAt (pen .frame) a b k) ≡ mine (layoutOf (pen .frame)) (xAt a b k)
-  own-mine k e =
-      let u = shares-lie (pen .frame) (sym (h .layout) ∙ e) in
-      ap (λ (p : Part). hasPlace p (spotAt (pen .frame) a b k)) (h .route .shared)
-      ∙ part-mine (pen .frame) (u .0) (u .1) (xAt a b k) (yAt a b k) (inside-whole pen ni nz (kindOf (style .mode)) a b (h .inside))
+  own-mine : (k : ℕ) → way ≡ 2 → endsWithin pen rows-in-use a b ≡ true → liesPlain (pen .frame) ≡ false → liesTiled (pen .frame) ≡ false
+      → hasPlace (r .part) (spot k) ≡ mine (layoutOf (pen .frame)) (xAt a b k)
+  own-mine k e i p t =
+      ap₂ hasPlace (h .route .shared) (spot-line k (inr e))
+      ∙ part-mine (pen .frame) p t (xAt a b k) (yAt a b k) (inside-whole pen ni nz (kindOf (style .mode)) a b (all-offered i))
 
-  -- every other memory has each step
-  pub all-mine : (k : ℕ) → (lies ≡ 2 → ⊥) → mine (layoutOf (pen .frame)) (xAt a b k) ≡ true
-  all-mine k n = whole-mine (pen .frame) (xAt a b k) (others-lie (pen .frame) (λ e. n (h .layout ∙ e)))
+  -- where both ends are inside, a step is offered whose column the memory has
+  inside-offered : (k : ℕ) → OnStep a b (r .slope) k → endsWithin pen rows-in-use a b ≡ true
+      → offered pen rows-in-use (offer (kindOf (style .mode)) (xAt a b k) (yAt a b k) 0 0) ≡ mine (layoutOf (pen .frame)) (xAt a b k)
+  inside-offered k on i = step-offered pen rows-in-use (kindOf (style .mode)) a b (r .slope) k on (all-offered i)
 
-  -- a step that it does not have offers nothing
-  pub not-mine : (k : ℕ) → OnStep a b (r .slope) k → mine (layoutOf (pen .frame)) (xAt a b k) ≡ false → stepOffers pen rows style (style .mode) a b k ≡ []
-  not-mine k on e = hidden-step pen rows style a b (style .mode) k (step-offered pen rows (kindOf (style .mode)) a b (r .slope) k on (h .inside) ∙ e)
+  -- what a way asks of a step's spot is whether the step is offered
+  pub step-here : (k : ℕ) → OnStep a b (r .slope) k → Low a b
+      → offered pen rows-in-use (offer (kindOf (style .mode)) (xAt a b k) (yAt a b k) 0 0) ≡ isHere pen (r .rows) way (r .part) (spot k)
+  unfolding isHere
+  step-here k on l = go known
+    where
+      go : Way (pen .frame) (endsWithin pen rows-in-use a b) way
+          → offered pen rows-in-use (offer (kindOf (style .mode)) (xAt a b k) (yAt a b k) 0 0)
+          ≡ cond (eqb way 2) (hasPlace (r .part) (spot k)) (cond (eqb way 3) (inField pen (r .rows) (columnOf (spot k)) (rowOf (spot k))) true)
+      go (in-rows e i p) = rw (e, inside-offered k on i) (plain-mine (pen .frame) (xAt a b k) p)
+      go (in-tiles e i t) = rw (e, inside-offered k on i) (tiled-mine (pen .frame) (xAt a b k) t)
+      go (in-shares e i p t) = inside-offered k on i ∙ sym (own-mine k e i p t) ∙ rw e
+      go (in-asked e p) =
+          let at = spot-read k on l (inr e) in
+          direct-offered pen rows-in-use (kindOf (style .mode)) (xAt a b k) (yAt a b k) (rw (p, h .goes .clear)) ∙ rw (e, h .route .limited, at .0, at .1)
 
-  -- by the test that was made: what is left out offers nothing, and what is not is in a column that the memory has
-  module _ (k : ℕ) {t : Bool} (own : t ≡ hasPlace (r .part) (spotAt (pen .frame) a b k)) where
-    pub left-out : OnStep a b (r .slope) k → (eqb lies 2 && not t) ≡ true → stepOffers pen rows style (style .mode) a b k ≡ []
-    left-out on e =
-        let u = both (eqb lies 2) (not t) e in
-        not-mine k on (sym (own-mine k (eqb-true lies 2 (u .0))) ∙ sym own ∙ off t (u .1))
-      where
-        off : (t : Bool) → not t ≡ true → t ≡ false
-        off true e = sym e
-        off false e = refl
+  -- and its place is the pixel's
+  pub step-placed : (k : ℕ) → OnStep a b (r .slope) k → Low a b → placedAt (pen .frame) way (r .part) (spot k) ≡ placeOf (pen .frame) (xAt a b k) (yAt a b k)
+  unfolding placedAt
+  step-placed k on l = go known
+    where
+      go : Way (pen .frame) (endsWithin pen rows-in-use a b) way → placedAt (pen .frame) way (r .part) (spot k) ≡ placeOf (pen .frame) (xAt a b k) (yAt a b k)
+      go (in-rows e i p) = rw e (spot-line k (inl e) ∙ sym (place-plain (pen .frame) (xAt a b k) (yAt a b k) p))
+      go (in-tiles e i t) =
+          let at = spot-read k on l (inl e) in
+          rw (e, at .0, at .1) (sym (place-tiled (pen .frame) (xAt a b k) (yAt a b k) t))
+      go (in-shares e i p t) =
+          rw (e, h .route .shared, spot-line k (inr e))
+          (part-place (pen .frame) p t (xAt a b k) (yAt a b k) (inside-whole pen ni nz (kindOf (style .mode)) a b (all-offered i)))
+      go (in-asked e p) =
+          let at = spot-read k on l (inr e) in
+          rw (e, at .0, at .1) (sym (place-plain (pen .frame) (xAt a b k) (yAt a b k) p))
 
-    pub kept-in : (eqb lies 2 && not t) ≡ false → mine (layoutOf (pen .frame)) (xAt a b k) ≡ true
-    kept-in e = go (eqb lies 2) refl t refl e
-      where
-        go : (u : Bool) → eqb lies 2 ≡ u → (v : Bool) → t ≡ v → (u && not v) ≡ false → mine (layoutOf (pen .frame)) (xAt a b k) ≡ true
-        go true l true m e = sym (own-mine k (eqb-true lies 2 l)) ∙ sym own ∙ m
-        go true l false m e = absurd (true≢false e)
-        go false l v m e = all-mine k (eqb-false lies 2 l)
+  -- by what was computed
+  module _ (k : ℕ) (on : OnStep a b (r .slope) k) (l : Low a b) {at : ℕ} (is : at ≡ spot k) where
+    pub here-offered : {t : Bool} → t ≡ isHere pen (r .rows) way (r .part) at
+        → offered pen rows-in-use (offer (kindOf (style .mode)) (xAt a b k) (yAt a b k) 0 0) ≡ t
+    here-offered e = step-here k on l ∙ sym (e ∙ ap (isHere pen (r .rows) way (r .part)) is)
+
+    pub here-placed : {p : ℕ} → p ≡ placedAt (pen .frame) way (r .part) at → p ≡ placeOf (pen .frame) (xAt a b k) (yAt a b k)
+    here-placed e = e ∙ ap (placedAt (pen .frame) way (r .part)) is ∙ step-placed k on l
+
+  -- a step that the memory does not have offers nothing
+  pub not-here : (k : ℕ) → offered pen rows-in-use (offer (kindOf (style .mode)) (xAt a b k) (yAt a b k) 0 0) ≡ false
+      → stepOffers pen rows-in-use style (style .mode) a b k ≡ []
+  not-here k e = hidden-step pen rows-in-use style a b (style .mode) k e
 
   -- from its column to the next, where x leads
-  skipped : (k j : ℕ) → OnStep a b (r .slope) k → OnStep a b (r .slope) j → lies ≡ 2 → r .slope .level ≡ true
-      → mine (layoutOf (pen .frame)) (xAt a b k) ≡ true → k < j → j < k + 2 ^ partOf (pen .frame) .shift → stepOffers pen rows style (style .mode) a b j ≡ []
-  skipped k j onk onj e t m l u =
-      let f = shares-lie (pen .frame) (sym (h .layout) ∙ e) in
-      not-mine j onj (part-between (pen .frame) (f .0) (f .1) (xAt a b k) (xAt a b j) (j - k) (omega arith) (omega arith) (steps-apart a b (r .slope) k j onk onj t l) m)
+  skipped : (k j : ℕ) → OnStep a b (r .slope) k → OnStep a b (r .slope) j → endsWithin pen rows-in-use a b ≡ true → liesPlain (pen .frame) ≡ false
+      → liesTiled (pen .frame) ≡ false → r .slope .level ≡ true → mine (layoutOf (pen .frame)) (xAt a b k) ≡ true → k < j
+      → j < k + 2 ^ partOf (pen .frame) .shift → stepOffers pen rows-in-use style (style .mode) a b j ≡ []
+  skipped k j onk onj i p t v m l u =
+      not-here j
+      (inside-offered j onj i ∙ part-between (pen .frame) p t (xAt a b k) (xAt a b j) (j - k) (omega arith) (omega arith) (steps-apart a b (r .slope) k j onk onj v l) m)
 
-  pub goes-on : {p q : Step} → Stands (r .near) p → OnStep a b (r .slope) (p .k) → q ≡ onwardOf lies r (spotAt (pen .frame) a b (p .k)) p
-      → Onward (r .near) p q (λ j. j ≤ r .slope .n → stepOffers pen rows style (style .mode) a b j ≡ [])
+  pub goes-on : {p q : Step} → Stands (r .near) p → OnStep a b (r .slope) (p .k) → q ≡ onwardOf way r (spot (p .k)) p
+      → Onward (r .near) p q (λ j. j ≤ r .slope .n → stepOffers pen rows-in-use style (style .mode) a b j ≡ [])
   unfolding onwardOf
-  goes-on {p} {q} st on e = rw e (go (eqb lies 2 && hasPlace (r .part) (spotAt (pen .frame) a b (p .k))) refl)
+  goes-on {p} {q} st on e = rw e (go (eqb way 2 && hasPlace (r .part) (spot (p .k))) refl)
     where
       single : r .near .stride ≡ 1
       single = h .route .carries .single
 
-      far-on : lies ≡ 2 → mine (layoutOf (pen .frame)) (xAt a b (p .k)) ≡ true → (t : Bool) → r .slope .level ≡ t → (j : ℕ) → p .k < j
-          → j < p .k + farOf (partOf (pen .frame)) (r .slope) (r .near) .stride → j ≤ r .slope .n → stepOffers pen rows style (style .mode) a b j ≡ []
-      far-on l m true t j u v n = skipped (p .k) j on (record { slope = on .slope; step = n }) l t m u (rw (far-long (r .near) single (pen .frame) (r .slope) t) at v)
-      far-on l m false t j u v n = absurd (omega (arith, u, v, far-short (r .near) single (partOf (pen .frame)) (r .slope) t))
+      far-on : endsWithin pen rows-in-use a b ≡ true → liesPlain (pen .frame) ≡ false → liesTiled (pen .frame) ≡ false
+          → mine (layoutOf (pen .frame)) (xAt a b (p .k)) ≡ true → (t : Bool) → r .slope .level ≡ t → (j : ℕ) → p .k < j
+          → j < p .k + farOf (partOf (pen .frame)) (r .slope) (r .near) .stride → j ≤ r .slope .n → stepOffers pen rows-in-use style (style .mode) a b j ≡ []
+      far-on i f g m true t j u v n =
+          skipped (p .k) j on (record { slope = on .slope; step = n }) i f g t m u (rw (far-long (r .near) single (pen .frame) (r .slope) t) at v)
+      far-on i f g m false t j u v n = absurd (omega (arith, u, v, far-short (r .near) single (partOf (pen .frame)) (r .slope) t))
 
       far-is : r .far ≡ farOf (partOf (pen .frame)) (r .slope) (r .near)
       far-is = h .route .further ∙ ap (λ (part : Part). farOf part (r .slope) (r .near)) (h .route .shared)
 
-      go : (t : Bool) → (eqb lies 2 && hasPlace (r .part) (spotAt (pen .frame) a b (p .k))) ≡ t
-          → Onward (r .near) p (cond t (nextOf (r .far) p) (nextOf (r .near) p)) (λ j. j ≤ r .slope .n → stepOffers pen rows style (style .mode) a b j ≡ [])
+      between : way ≡ 2 → hasPlace (r .part) (spot (p .k)) ≡ true → Way (pen .frame) (endsWithin pen rows-in-use a b) way → (j : ℕ) → p .k < j
+          → j < p .k + farOf (partOf (pen .frame)) (r .slope) (r .near) .stride → j ≤ r .slope .n → stepOffers pen rows-in-use style (style .mode) a b j ≡ []
+      between w o (in-rows x y z) j u v n = absurd (omega (arith, w, x))
+      between w o (in-tiles x y z) j u v n = absurd (omega (arith, w, x))
+      between w o (in-shares x i f g) j u v n = far-on i f g (sym (own-mine (p .k) w i f g) ∙ o) (r .slope .level) refl j u v n
+      between w o (in-asked x y) j u v n = absurd (omega (arith, w, x))
+
+      go : (t : Bool) → (eqb way 2 && hasPlace (r .part) (spot (p .k))) ≡ t
+          → Onward (r .near) p (cond t (nextOf (r .far) p) (nextOf (r .near) p)) (λ j. j ≤ r .slope .n → stepOffers pen rows-in-use style (style .mode) a b j ≡ [])
       go true t =
-          let u = both (eqb lies 2) (hasPlace (r .part) (spotAt (pen .frame) a b (p .k))) t in
-          let l = eqb-true lies 2 (u .0) in
-          let m = sym (own-mine (p .k) l) ∙ u .1 in
+          let u = both (eqb way 2) (hasPlace (r .part) (spot (p .k))) t in
           rw far-is
           (record {
             stands = stands-far (r .near) single (partOf (pen .frame)) (r .slope) p st;
             further = omega (arith, far-few (r .near) single (partOf (pen .frame)) (r .slope) .0);
-            between = λ j u v n. far-on l m (r .slope .level) refl j u v n;
+            between = λ j x y n. between (eqb-true way 2 (u .0)) (u .1) known j x y n;
           })
       go false t =
           record {

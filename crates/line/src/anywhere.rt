@@ -1,12 +1,11 @@
-// Segments wherever they are, in any mode and layout: each step asks whether its pixel is offered.
+// Segments with any pen, wherever they are and in any layout: each step asks whether its pixel is offered. What `trace` draws does not come here.
 ghost use mathlib.Core.Path.{_≡_};
 ghost use Prim.Native.Nat.{_≤_};
 ghost use Rattle.picture.specs.Offer.{offer, keep};
-ghost use Rattle.picture.specs.Picture.{picture, drawn};
-ghost use Rattle.line.specs.Segment.{kindOf, firstOf, stepOffers, segmentOffers};
-ghost use Rattle.line.specs.Ink.{joinedIn};
+ghost use Rattle.picture.specs.Picture.{isDeep, picture, drawn};
+ghost use Rattle.line.specs.Segment.{kindOf, stepOffers, segmentOffers};
 ghost use Rattle.line.specs.Field.{fieldOf};
-ghost use Rattle.line.specs.Walk.{OnWalk};
+ghost use Rattle.line.specs.Walk.{Reaches};
 ghost use Rattle.picture.specs.Lent.{Draws, rowsOver};
 use crate::Style;
 use crate::field::Field;
@@ -71,7 +70,7 @@ fn put_step(
     im: &mut [u16],
     zm: &mut [u16],
 ) -> u64
-    requires { ⌜ OnWalk a b s p × (kind ≡ kindOf (style .mode)) × (firstOf (joinedIn style (style .mode)) ≤ p .k) × (field ≡ fieldOf pen kind (rowsOver (pen .frame) im zm)) ⌝ }
+    requires { ⌜ Reaches style (isDeep kind) s a b p × (kind ≡ kindOf (style .mode)) × (field ≡ fieldOf pen kind (rowsOver (pen .frame) im zm)) ⌝ }
     ensures { λ r. ⌜ (Draws pen (λ rows. stepOffers pen rows style (style .mode) a b (p .k)) im zm 0 r) × (r ≤ 1) ⌝ }
 {
     let mode = style.mode;
@@ -96,8 +95,8 @@ pub(crate) fn drawn_anywhere(
 {
     let s = slope_of(a, b);
     let n = s.n as u64;
-    let w = walk_of(a, b, s);
     let mode = style.mode;
+    let w = walk_of(a, b, s, is_deep(mode));
     let field = field_of(pen, mode, im.len(), zm.len());
     let kind = kind_of(mode);
     let mut p = begin(w, is_joined(style));

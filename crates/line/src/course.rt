@@ -1,21 +1,20 @@
-// The places of a segment's steps in the whole picture, where rows lie one after the other: they are told from the first place and from what a pixel
-// along either axis adds or takes, and no pixel is computed.
+// The spots of a segment's steps: one number tells a pixel, its row times a width and its column. They are told from the first spot and from what a pixel
+// along either axis adds or takes, and no pixel is computed. Where the width is the line length, a spot is the place in a picture of rows.
 ghost use mathlib.Core.Path.{_≡_};
 ghost use Prim.Native.Nat.{_*_, _≤_};
 ghost use Rattle.line.specs.Segment.{sideAt};
 ghost use Rattle.line.specs.Step.{OnStep};
 ghost use Rattle.line.specs.Course.{moveOf, OnCourse, spotAt};
 use crate::slope::Slope;
-use picture::Frame;
 use picture::Vertex;
 
-// What a pixel along an axis adds to the place, and what it takes from it: one of them is 0.
+// What a pixel along an axis adds to the spot, and what it takes from it: one of them is 0.
 pub(crate) struct Move {
-    pub(crate) up: u16,
-    pub(crate) down: u16,
+    pub(crate) up: u32,
+    pub(crate) down: u32,
 }
 
-// The first place, and the moves along the axis that leads and along the other.
+// The first spot, and the moves along the axis that leads and along the other.
 pub(crate) struct Course {
     pub(crate) first: u32,
     pub(crate) ahead: Move,
@@ -23,7 +22,7 @@ pub(crate) struct Course {
 }
 
 // The move from one number towards another.
-fn move_of(from: u16, to: u16, width: u16) -> Move
+fn move_of(from: u16, to: u16, width: u32) -> Move
     ensures { λ r. ⌜ r ≡ moveOf from to width ⌝ }
 {
     if from <= to {
@@ -33,19 +32,20 @@ fn move_of(from: u16, to: u16, width: u16) -> Move
 }
 
 // So many pixels of a width.
-fn times(far: u16, width: u16) -> usize
-    ensures { λ r. ⌜ (r ≡ far * width) × (r ≤ 4294967295) ⌝ }
+fn times(far: u16, width: u32) -> usize
+    ensures { λ r. ⌜ (r ≡ far * width) × (r ≤ 281470681677825) ⌝ }
 {
     (far as usize) * (width as usize)
 }
 
 // The course of the segment from a to b.
-pub(crate) fn course_of(frame: Frame, a: Vertex, b: Vertex, s: Slope) -> Course
-    ensures { λ r. ⌜ OnCourse frame a b s r ⌝ }
+pub(crate) fn course_of(width: u32, a: Vertex, b: Vertex, s: Slope) -> Course
+    requires { ⌜ width ≤ 65536 ⌝ }
+    ensures { λ r. ⌜ OnCourse width a b s r ⌝ }
 {
-    let first = (times(a.y, frame.line) + (a.x as usize)) as u32;
+    let first = (times(a.y, width) + (a.x as usize)) as u32;
     let x = move_of(a.x, b.x, 1);
-    let y = move_of(a.y, b.y, frame.line);
+    let y = move_of(a.y, b.y, width);
     if s.level {
         return Course {
             first,
@@ -60,9 +60,9 @@ pub(crate) fn course_of(frame: Frame, a: Vertex, b: Vertex, s: Slope) -> Course
     }
 }
 
-// The place of step k, which moves so far to the side.
+// The spot of step k, which moves so far to the side.
 pub(crate) fn spot_at(
-    frame: Frame,
+    width: u32,
     c: Course,
     a: Vertex,
     b: Vertex,
@@ -70,8 +70,8 @@ pub(crate) fn spot_at(
     k: u64,
     side: u16,
 ) -> usize
-    requires { ⌜ OnCourse frame a b s c × OnStep a b s k × (side ≡ sideAt (s .n) (s .m) k) ⌝ }
-    ensures { λ r. ⌜ r ≡ spotAt frame a b k ⌝ }
+    requires { ⌜ OnCourse width a b s c × OnStep a b s k × (side ≡ sideAt (s .n) (s .m) k) ⌝ }
+    ensures { λ r. ⌜ r ≡ spotAt width a b k ⌝ }
 {
     let ahead = c.ahead;
     let aside = c.aside;

@@ -69,12 +69,10 @@ pub(crate) fn is_within(pen: Pen, rows: usize, x: u16, y: u16) -> bool
     window & memory
 }
 
-// Whether both ends of a segment are, with memories of these lengths.
-pub(crate) fn has_ends(pen: Pen, a: Vertex, b: Vertex, ni: usize, nz: usize) -> bool
-    ensures { λ r. ⌜ r ≡ endsWithin pen (rowsOf (pen .frame) ni nz) a b ⌝ }
+// Whether both ends of a segment are.
+pub(crate) fn has_ends(pen: Pen, rows: usize, a: Vertex, b: Vertex) -> bool
+    ensures { λ r. ⌜ r ≡ endsWithin pen rows a b ⌝ }
 {
-    let frame = pen.frame;
-    let rows = rows_of(frame, ni, nz);
     is_within(pen, rows, a.x, a.y) & is_within(pen, rows, b.x, b.y)
 }
 

@@ -7,19 +7,22 @@ use crate::anywhere::drawn_anywhere;
 use crate::field::has_ends;
 use crate::field::is_bare;
 use crate::field::is_open;
-use crate::inside::drawn_inside;
+use crate::route::way_of;
 use crate::slope::slope_of;
+use crate::trace::drawn_bare;
 use picture::Pen;
 use picture::Vertex;
+use picture::place::lies_plain;
+use picture::place::rows_of;
 
 mod anywhere;
 mod course;
 mod field;
-mod inside;
 mod part;
 mod pattern;
 mod route;
 mod slope;
+mod trace;
 mod walk;
 
 // The line modes 0, 1 and 2.
@@ -64,9 +67,12 @@ pub fn segment(pen: Pen, style: Style, a: Vertex, b: Vertex, im: &mut [u16], zm:
     ensures { λ r. ⌜ Draws pen (λ rows. segmentOffers pen rows style a b) im zm 0 r ⌝ }
 {
     let mode = style.mode;
-    let inside = has_ends(pen, a, b, im.len(), zm.len());
-    if inside & is_open(pen, mode) & is_bare(pen, mode) {
-        return drawn_inside(pen, style, a, b, im, zm);
+    let frame = pen.frame;
+    let rows = rows_of(frame, im.len(), zm.len());
+    let inside = has_ends(pen, rows, a, b);
+    if is_open(pen, mode) & is_bare(pen, mode) & (inside | lies_plain(frame)) {
+        let way = way_of(frame, inside);
+        return drawn_bare(pen, style, rows, way, a, b, im, zm);
     }
     drawn_anywhere(pen, style, a, b, im, zm)
 }

@@ -1,20 +1,18 @@
 // The route of a segment: all that stays from step to step, and where a step's pixel lies.
 ghost use mathlib.Core.Path.{_≡_};
-ghost use mathlib.Core.Bool.{true};
-ghost use Rattle.picture.specs.Place.{layoutOf, isWhole, placeOf};
-ghost use Rattle.line.specs.Segment.{xAt, yAt};
-ghost use Rattle.line.specs.Course.{spotAt};
-ghost use Rattle.line.specs.Part.{hasPlace};
+ghost use Prim.Native.Nat.{_≤_};
+ghost use Rattle.line.specs.Course.{OnCourse, spotAt};
+ghost use Rattle.line.specs.Part.{partOf};
 ghost use Rattle.line.specs.Walk.{OnWalk};
-ghost use Rattle.line.specs.Route.{farOf, liesOf, OnRoute, onwardOf};
+ghost use Rattle.line.specs.Route.{wayOf, widthOf, columnOf, rowOf, isHere, placedAt, farOf, OnRoute, onwardOf};
 use crate::course::Course;
 use crate::course::course_of;
 use crate::course::spot_at;
+use crate::field::is_within;
 use crate::part::Part;
 use crate::part::has_place;
 use crate::part::part_of;
 use crate::slope::Slope;
-use crate::slope::pixel_of;
 use crate::slope::slope_of;
 use crate::walk::Step;
 use crate::walk::Walk;
@@ -23,23 +21,71 @@ use crate::walk::twice;
 use crate::walk::walk_of;
 use crate::walk::whole;
 use picture::Frame;
+use picture::Pen;
 use picture::Vertex;
-use picture::place::place;
+use picture::place::TILED;
+use picture::place::lies_plain;
+use picture::place::place_tiled;
 
-// How pixels lie, so that each loop is compiled for one way: in rows, in tiles, or what a unit has of each row.
+// In which way a loop finds the places of its steps, so that each loop is compiled for one: in rows, in tiles, in what a unit has of each row, or in rows
+// and asking at each step whether the window and the memory have its pixel.
 pub(crate) const ROWS: u16 = 0;
 
 pub(crate) const TILES: u16 = 1;
 
 pub(crate) const SHARES: u16 = 2;
 
+pub(crate) const ASKED: u16 = 3;
+
 // What stays from step to step. A unit that has drawn a step goes the far walk to the next.
 pub(crate) struct Route {
     pub(crate) slope: Slope,
+    pub(crate) width: u32,
     pub(crate) course: Course,
+    pub(crate) rows: usize,
     pub(crate) part: Part,
     pub(crate) near: Walk,
     pub(crate) far: Walk,
+}
+
+// The way of a segment whose ends are inside the window and the memory, or not.
+pub(crate) fn way_of(frame: Frame, inside: bool) -> u16
+    ensures { λ r. ⌜ r ≡ wayOf frame inside ⌝ }
+{
+    if inside {
+        if lies_plain(frame) {
+            return ROWS;
+        }
+        if frame.layout == TILED {
+            return TILES;
+        }
+        return SHARES;
+    }
+    ASKED
+}
+
+// The width of spots.
+fn width_of(way: u16, frame: Frame) -> u32
+    ensures { λ r. ⌜ (r ≡ widthOf way frame) × (r ≤ 65536) ⌝ }
+{
+    if (way == TILES) | (way == ASKED) {
+        return 65536;
+    }
+    frame.line as u32
+}
+
+// The column of a spot.
+fn column_of(at: usize) -> u16
+    ensures { λ r. ⌜ r ≡ columnOf at ⌝ }
+{
+    (at % 65536) as u16
+}
+
+// The row of a spot.
+fn row_of(at: usize) -> u16
+    ensures { λ r. ⌜ r ≡ rowOf at ⌝ }
+{
+    (at / 65536 % 65536) as u16
 }
 
 // From a column of a unit to its next one: where x leads, as many steps as there are units.
@@ -58,56 +104,77 @@ fn far_of(part: Part, s: Slope, w: Walk) -> Walk
 }
 
 // The route of the segment from a to b.
-pub(crate) fn route_of(frame: Frame, a: Vertex, b: Vertex) -> Route
-    ensures { λ r. ⌜ OnRoute frame a b r ⌝ }
+pub(crate) fn route_of(
+    frame: Frame,
+    rows: usize,
+    way: u16,
+    deep: bool,
+    a: Vertex,
+    b: Vertex,
+) -> Route
+    ensures { λ r. ⌜ OnRoute frame rows way deep a b r ⌝ }
 {
     let slope = slope_of(a, b);
-    let course = course_of(frame, a, b, slope);
+    let width = width_of(way, frame);
+    let course = course_of(width, a, b, slope);
     let part = part_of(frame);
-    let near = walk_of(a, b, slope);
+    let near = walk_of(a, b, slope, deep);
     let far = far_of(part, slope, near);
     Route {
         slope,
+        width,
         course,
+        rows,
         part,
         near,
         far,
     }
 }
 
-// Whether a unit has the step where a walk stands.
-pub(crate) fn is_own(frame: Frame, r: Route, a: Vertex, b: Vertex, p: Step) -> bool
-    requires { ⌜ OnRoute frame a b r × OnWalk a b (r .slope) p ⌝ }
-    ensures { λ t. ⌜ t ≡ hasPlace (r .part) (spotAt frame a b (p .k)) ⌝ }
+// The spot of the step where a walk stands.
+pub(crate) fn spot_of(r: Route, a: Vertex, b: Vertex, p: Step) -> usize
+    requires { ⌜ OnCourse (r .width) a b (r .slope) (r .course) × OnWalk a b (r .slope) p ⌝ }
+    ensures { λ t. ⌜ t ≡ spotAt (r .width) a b (p .k) ⌝ }
 {
-    let at = spot_at(frame, r.course, a, b, r.slope, p.k, whole(p.side));
-    has_place(r.part, at)
+    spot_at(r.width, r.course, a, b, r.slope, p.k, whole(p.side))
 }
 
-// The place of the step where a walk stands.
-pub(crate) fn place_at(frame: Frame, lies: u16, r: Route, a: Vertex, b: Vertex, p: Step) -> usize
-    requires { ⌜ OnRoute frame a b r × OnWalk a b (r .slope) p × (lies ≡ liesOf frame) × (isWhole (layoutOf frame) (frame .line) ≡ true) ⌝ }
-    ensures { λ t. ⌜ t ≡ placeOf frame (xAt a b (p .k)) (yAt a b (p .k)) ⌝ }
+// Whether the memory has the pixel of a spot, as far as a way asks.
+pub(crate) fn is_here(pen: Pen, way: u16, r: Route, at: usize) -> bool
+    ensures { λ t. ⌜ t ≡ isHere pen (r .rows) way (r .part) at ⌝ }
 {
-    let side = whole(p.side);
-    if lies == TILES {
-        let q = pixel_of(a, b, r.slope, p.k, side);
-        return place(frame, q.x, q.y);
+    if way == SHARES {
+        return has_place(r.part, at);
     }
-    let at = spot_at(frame, r.course, a, b, r.slope, p.k, side);
-    if lies == ROWS {
+    if way == ASKED {
+        return is_within(pen, r.rows, column_of(at), row_of(at));
+    }
+    true
+}
+
+// The place of a spot.
+pub(crate) fn place_at(frame: Frame, way: u16, r: Route, at: usize) -> usize
+    requires { ⌜ r .part ≡ partOf frame ⌝ }
+    ensures { λ t. ⌜ t ≡ placedAt frame way (r .part) at ⌝ }
+{
+    if way == ROWS {
         return at;
     }
-    at >> r.part.shift
+    if way == SHARES {
+        return at >> r.part.shift;
+    }
+    if way == TILES {
+        return place_tiled(frame.line, column_of(at), row_of(at));
+    }
+    (row_of(at) as usize) * (frame.line as usize) + (column_of(at) as usize)
 }
 
-// From a step that is drawn, or that a unit does not have, to the next that may be.
-pub(crate) fn onward(frame: Frame, lies: u16, r: Route, a: Vertex, b: Vertex, p: Step) -> Step
-    requires { ⌜ OnRoute frame a b r × OnWalk a b (r .slope) p ⌝ }
-    ensures { λ t. ⌜ t ≡ onwardOf lies r (spotAt frame a b (p .k)) p ⌝ }
+// From a step that is drawn, or that the memory does not have, to the next that may be.
+pub(crate) fn onward(way: u16, r: Route, at: usize, p: Step) -> Step
+    requires { ⌜ (p .k ≤ 65535) × (r .near .stride ≤ 4) × (r .far .stride ≤ 4) ⌝ }
+    ensures { λ t. ⌜ t ≡ onwardOf way r at p ⌝ }
 {
-    let own = is_own(frame, r, a, b, p);
-    if (lies == SHARES) & own {
+    if (way == SHARES) & has_place(r.part, at) {
         return next(r.far, p);
     }
     next(r.near, p)

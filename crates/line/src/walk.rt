@@ -1,7 +1,8 @@
-// A walk along a segment: how far a step moves to the side, and its two numbers, each carried as 2^48 times itself and a part, with one
-// division at the start and none later.
+// A walk along a segment: how far a step moves to the side, and its two numbers where lines have depths, each carried as 2^48 times itself and a part,
+// with one division at the start and none later.
 ghost use Rattle.picture.specs.Draw.{carriedOne};
 ghost use mathlib.Core.Path.{_≡_};
+ghost use mathlib.Core.Bool.{true};
 ghost use Prim.Native.Nat.{_/_, _^_, _≤_};
 ghost use Rattle.line.specs.Segment.{firstOf};
 ghost use Rattle.line.specs.Walk.{Tells, Carries, Stands, doubled, twiceOf, nextOf};
@@ -54,13 +55,23 @@ fn carried(n: u16, first: u16, second: u16) -> Carried
     Carried { first: start, add }
 }
 
-// The walk from a to b, step by step.
-pub(crate) fn walk_of(a: Vertex, b: Vertex, s: Slope) -> Walk
-    ensures { λ r. ⌜ Carries a b s r ⌝ }
+// The same where lines have depths. Others have no use for it, and are spared the division.
+fn carried_deep(deep: bool, n: u16, first: u16, second: u16) -> Carried
+    ensures { λ r. ⌜ (deep ≡ true → Tells n first second r) ⌝ }
+{
+    if deep {
+        return carried(n, first, second);
+    }
+    Carried { first: 0, add: 0 }
+}
+
+// The walk from a to b, step by step, where lines have depths or not.
+pub(crate) fn walk_of(a: Vertex, b: Vertex, s: Slope, deep: bool) -> Walk
+    ensures { λ r. ⌜ Carries deep a b s r ⌝ }
 {
     let side = carried(s.n, 0, s.m);
-    let i = carried(s.n, a.i, b.i);
-    let z = carried(s.n, a.z, b.z);
+    let i = carried_deep(deep, s.n, a.i, b.i);
+    let z = carried_deep(deep, s.n, a.z, b.z);
     Walk {
         stride: 1,
         side,

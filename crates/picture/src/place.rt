@@ -135,7 +135,7 @@ pub(crate) fn is_inside(frame: Frame, x: u16, y: u16, ni: usize, nz: usize) -> b
 }
 
 // The place of pixel (x, y) in tiles.
-fn place_tiled(line: u16, x: u16, y: u16) -> usize
+pub fn place_tiled(line: u16, x: u16, y: u16) -> usize
     ensures { λ r. ⌜ (r ≡ spotOf tiled line x y) × (r ≤ 4294967295) ⌝ }
 {
     let tile = ((y / 4) as usize) * ((line / 4) as usize) + (x / 4) as usize;

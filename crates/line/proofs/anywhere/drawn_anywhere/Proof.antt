@@ -3,18 +3,19 @@
 use mathlib.Core.Path.{refl, ap, _∙_}
 use Prim.Native.Nat.{_+_, _-_}
 use native.Mathlib.Omega.{arith}
+use Rattle.picture.specs.Picture.{isDeep}
 use Rattle.picture.proofs.Spans.{reached-i, reached-z}
 use Rattle.line.specs.declared.walk.Step.{Step}
-use Rattle.line.specs.Segment.{firstOf, stepOffers, segmentOffers}
+use Rattle.line.specs.Segment.{kindOf, firstOf, stepOffers, segmentOffers}
 use Rattle.line.specs.Ink.{joinedIn}
-use Rattle.line.proofs.Loops.{first-low, Walked, walked-start, walked-on, walked-rows, walked-step, walked-end, before-first}
+use Rattle.line.proofs.Loops.{first-low, Walked, walked-start, walked-reaches, walked-rows, walked-step, walked-end, before-first}
 use borrow.Author.Needs.{needs}
 use Rattle.line.proofs.anywhere.drawn_anywhere.Statement.{statement}
 use Rattle.line.proofs.anywhere.drawn_anywhere.Tie as tie
 
 abbrev Inv-loop : tie.InvT-loop
 Inv-loop pen style a b im₀ zm₀ s n w field kind p₀ passed₀ im zm p passed =
-    Walked pen (λ rows. stepOffers pen rows style (style .mode) a b) (firstOf (joinedIn style (style .mode))) a b s w n im₀ zm₀ im zm p passed
+    Walked pen (λ rows. stepOffers pen rows style (style .mode) a b) (firstOf (joinedIn style (style .mode))) (isDeep (kindOf (style .mode))) a b s w n im₀ zm₀ im zm p passed
 
 abbrev μ-loop : tie.MeasureT-loop
 μ-loop pen style a b im₀ zm₀ s n w field kind p₀ passed₀ im zm p passed = n + 1 - p .k
@@ -24,6 +25,9 @@ slope-of-requires c κs = search needs
 
 cast-n : tie.Need-cast-n Inv-loop μ-loop
 cast-n c = omega (arith, c .struct-known .given)
+
+is-deep-requires : tie.Need-is-deep-requires Inv-loop μ-loop
+is-deep-requires c κs = search needs
 
 walk-of-requires : tie.Need-walk-of-requires Inv-loop μ-loop
 walk-of-requires c κs = search needs
@@ -43,18 +47,19 @@ begin-requires c κs = search needs
 loop-holds : tie.Need-loop-holds Inv-loop μ-loop
 loop-holds c =
     let at-walk-of = c .before .before .before .before in
-    let at-struct-known = at-walk-of .before in
+    let at-is-deep = at-walk-of .before in
+    let at-struct-known = at-is-deep .before in
     let at-slope-of = at-struct-known .before in
     let a = at-slope-of .before .before .before .args in
     walked-start (before-first (a .pen) _ (a .style) (a .a) (a .b) (a .style .mode)) (first-low (joinedIn (a .style) (a .style .mode))) (at-slope-of .slope-of .ensures) refl
-    (omega (arith, at-struct-known .struct-known .given)) (at-walk-of .walk-of .ensures) (c .begin .ensures .0, c .begin .ensures .1 ∙ ap firstOf (c .before .is-joined .ensures))
+    (omega (arith, at-struct-known .struct-known .given)) (rw (at-is-deep .is-deep .ensures) at (at-walk-of .walk-of .ensures)) (c .begin .ensures .0, c .begin .ensures .1 ∙ ap firstOf (c .before .is-joined .ensures))
 
 put-step-requires : tie.Need-put-step-requires Inv-loop μ-loop
 put-step-requires c κs =
     let at-kind-of = c .before .before .before .before .before .before .before in
     let at-field-of = at-kind-of .before in
     let h = c .before .before .before .before .loop .inv in
-    (walked-on h (omega (arith, c .before .before .if1 .taken)), at-kind-of .kind-of .ensures, h .begun, rw (at-kind-of .kind-of .ensures, walked-rows h) (at-field-of .field-of .ensures))
+    (rw (at-kind-of .kind-of .ensures) (walked-reaches h refl (omega (arith, c .before .before .if1 .taken))), at-kind-of .kind-of .ensures, rw (at-kind-of .kind-of .ensures, walked-rows h) (at-field-of .field-of .ensures))
 
 add-passed : tie.Need-add-passed Inv-loop μ-loop
 add-passed c =
@@ -99,6 +104,7 @@ drawn-anywhere-spec =
     μ-loop
     slope-of-requires
     cast-n
+    is-deep-requires
     walk-of-requires
     field-of-requires
     kind-of-requires

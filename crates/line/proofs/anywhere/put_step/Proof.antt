@@ -21,12 +21,12 @@ whole-requires : tie.Need-whole-requires
 whole-requires c κs = search needs
 
 pixel-of-requires : tie.Need-pixel-of-requires
-pixel-of-requires c κs = let h = c .before .before .before .before .before .before .before .pre .0 in (h .on, c .whole .ensures ∙ h .side)
+pixel-of-requires c κs = let h = c .before .before .before .before .before .before .before .pre .0 .walk in (h .on, c .whole .ensures ∙ h .side)
 
 put-pixel-requires : tie.Need-put-pixel-requires
 put-pixel-requires c κs =
     let start = c .before .before .before .before .before .before .before .before .before .before in
-    start .pre .3
+    start .pre .2
 
 same-length : tie.Need-same-length
 same-length c = search needs
@@ -43,14 +43,14 @@ returns c =
     let s = at-ink-at .before .before .before .before .before in
     let a = s .args in
     put-step (a .pen) (rowsOf (a .pen .frame) (length (a .im .now)) (length (a .zm .now))) _ (a .im .now) (a .zm .now)
-    (inked-step (a .pen) _ (a .style) (a .a) (a .b) (a .s) (a .p) _ (a .kind) _ (s .pre .0) (at-pixel-of .pixel-of .ensures) (s .pre .1) (s .pre .2) (at-ink-at .ink-at .ensures) (at-if1 .if1 .taken))
+    (inked-step (a .pen) _ (a .style) (a .a) (a .b) (a .s) (a .p) _ (a .kind) _ (rw (s .pre .1) at (s .pre .0)) (at-pixel-of .pixel-of .ensures) (s .pre .1) (at-ink-at .ink-at .ensures) (at-if1 .if1 .taken))
     (at-put-pixel .put-pixel .ensures)
 
 returns-2 : tie.Need-returns-2
 returns-2 c = let s = c .before .before .before .before .before .before in
     let a = s .args in
     no-step (a .pen) (a .im .now) (a .zm .now)
-    (blank-step (a .pen) (rowsOf (a .pen .frame) (length (a .im .now)) (length (a .zm .now))) (a .style) (a .a) (a .b) (a .p) _ (s .pre .2) (c .before .ink-at .ensures) (c .if1 .left))
+    (blank-step (a .pen) (rowsOf (a .pen .frame) (length (a .im .now)) (length (a .zm .now))) (a .style) (a .a) (a .b) (a .p) _ (s .pre .0 .begun) (c .before .ink-at .ensures) (c .if1 .left))
 
 pub put-step-spec : {M : Type 1} → statement M
 put-step-spec =

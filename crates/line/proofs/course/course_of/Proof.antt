@@ -1,4 +1,5 @@
 -- `course::course_of` meets its contract. Assumes nothing.
+use native.Mathlib.Nat.{mul-comm}
 use native.Mathlib.Omega.{arith}
 use Rattle.picture.proofs.Places.{place-fits}
 use Rattle.line.specs.Course.{courseOf}
@@ -18,7 +19,7 @@ add-first c = search needs
 cast-first-2 : tie.Need-cast-first-2
 cast-first-2 c = let s = c .before .before in
     let a = s .args in
-    omega (arith, c .before .times .ensures .0, place-fits (a .a .y) (a .frame .line) (omega (arith, s .good)) (omega (arith, s .good)), s .good)
+    omega (arith, c .before .times .ensures .0, mul-comm (a .a .y) (a .width), place-fits (a .width) (a .a .y) (s .pre) (omega (arith, s .good)), s .good)
 
 move-of-requires : tie.Need-move-of-requires
 move-of-requires c κs = search needs

@@ -1,6 +1,6 @@
 -- `course::spot_at` meets its contract. Assumes nothing.
 use native.Mathlib.Omega.{arith}
-use Rattle.line.proofs.Courses.{course-place}
+use Rattle.line.proofs.Courses.{course-spot}
 use borrow.Author.Needs.{needs}
 use Rattle.line.proofs.course.spot_at.Statement.{statement}
 use Rattle.line.proofs.course.spot_at.Tie as tie
@@ -37,14 +37,14 @@ sub-result c =
     let at-times = c .before .before .before .before in
     let s = at-times .before .before .before in
     let a = s .args in
-    omega (arith, course-place (a .frame) (a .a) (a .b) (a .s) (a .k) (a .side) (a .c) (s .pre .0) (s .pre .1) (s .pre .2), at-times .times .ensures .0, c .before .before .before .times2 .ensures .0, c .before .before .times3 .ensures .0, c .before .times4 .ensures .0)
+    omega (arith, course-spot (a .width) (a .a) (a .b) (a .s) (a .k) (a .side) (a .c) (s .pre .0) (s .pre .1) (s .pre .2), at-times .times .ensures .0, c .before .before .before .times2 .ensures .0, c .before .before .times3 .ensures .0, c .before .times4 .ensures .0)
 
 returns : tie.Need-returns
 returns c =
     let at-times = c .before .before .before .before in
     let s = at-times .before .before .before in
     let a = s .args in
-    omega (arith, course-place (a .frame) (a .a) (a .b) (a .s) (a .k) (a .side) (a .c) (s .pre .0) (s .pre .1) (s .pre .2), at-times .times .ensures .0, c .before .before .before .times2 .ensures .0, c .before .before .times3 .ensures .0, c .before .times4 .ensures .0)
+    omega (arith, course-spot (a .width) (a .a) (a .b) (a .s) (a .k) (a .side) (a .c) (s .pre .0) (s .pre .1) (s .pre .2), at-times .times .ensures .0, c .before .before .before .times2 .ensures .0, c .before .before .times3 .ensures .0, c .before .times4 .ensures .0)
 
 pub spot-at-spec : {M : Type 1} → statement M
 spot-at-spec =

@@ -3,9 +3,6 @@ use borrow.Author.Needs.{needs}
 use Rattle.line.proofs.field.has_ends.Statement.{statement}
 use Rattle.line.proofs.field.has_ends.Tie as tie
 
-rows-of-requires : tie.Need-rows-of-requires
-rows-of-requires c κs = search needs
-
 is-within-requires : tie.Need-is-within-requires
 is-within-requires c κs = search needs
 
@@ -13,8 +10,7 @@ is-within-requires-2 : tie.Need-is-within-requires-2
 is-within-requires-2 c κs = search needs
 
 returns : tie.Need-returns
-returns c = rw (c .before .is-within .ensures, c .is-within2 .ensures, c .before .before .rows-of .ensures)
+returns c = rw (c .before .is-within .ensures, c .is-within2 .ensures)
 
 pub has-ends-spec : {M : Type 1} → statement M
-has-ends-spec =
-    tie.close (tie.spec rows-of-requires is-within-requires is-within-requires-2 returns)
+has-ends-spec = tie.close (tie.spec is-within-requires is-within-requires-2 returns)

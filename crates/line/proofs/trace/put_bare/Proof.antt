@@ -1,11 +1,11 @@
--- `inside::put_bare` meets its contract: with depths it passes where it is no farther, and without always. Assumes nothing.
+-- `trace::put_bare` meets its contract: with depths it passes where it is no farther, and without always. Assumes nothing.
 use mathlib.Core.Path.{refl, sym, _∙_}
 use native.Mathlib.Omega.{arith}
 use Rattle.line.specs.Segment.{kindOf}
 use Rattle.line.proofs.Bare.{deep-edge, bare-chosen, bare-ink}
 use borrow.Author.Needs.{needs}
-use Rattle.line.proofs.inside.put_bare.Statement.{statement}
-use Rattle.line.proofs.inside.put_bare.Tie as tie
+use Rattle.line.proofs.trace.put_bare.Statement.{statement}
+use Rattle.line.proofs.trace.put_bare.Tie as tie
 
 mul-old : tie.Need-mul-old
 mul-old c = search needs
@@ -28,8 +28,8 @@ mul-zm c = search needs
 slice-write-zm : tie.Need-slice-write-zm
 slice-write-zm c = search needs
 
-pick-requires-2 : tie.Need-pick-requires-2
-pick-requires-2 c κs = search needs
+pick-near-requires : tie.Need-pick-near-requires
+pick-near-requires c κs = search needs
 
 mul-im : tie.Need-mul-im
 mul-im c = search needs
@@ -37,8 +37,8 @@ mul-im c = search needs
 slice-write-im : tie.Need-slice-write-im
 slice-write-im c = search needs
 
-pick-requires-3 : tie.Need-pick-requires-3
-pick-requires-3 c κs = search needs
+pick-requires-2 : tie.Need-pick-requires-2
+pick-requires-2 c κs = search needs
 
 cast-result : tie.Need-cast-result
 cast-result c = search needs
@@ -55,7 +55,7 @@ returns c =
     let s = at-if1 .before .before .before in
     let a = s .args in
     let d = sym (s .pre .0) ∙ at-if1 .if1 .taken in
-    bare-chosen (a .pen) (kindOf (a .mode)) (s .pre .1) (a .at) (a .i) (a .z) (a .im .now) (a .zm .now) 0 (omega (arith, s .good)) d (deep-edge (a .mode) d) refl (c .before .pick2 .ensures) (c .before .before .pick .ensures) (c .pick3 .ensures)
+    bare-chosen (a .pen) (kindOf (a .mode)) (s .pre .1) (a .at) (a .i) (a .z) (a .im .now) (a .zm .now) 0 (omega (arith, s .good)) d (deep-edge (a .mode) d) refl (c .before .pick-near .ensures) (c .before .before .pick .ensures) (c .pick2 .ensures)
 
 mul-im-2 : tie.Need-mul-im-2
 mul-im-2 c = search needs
@@ -82,10 +82,10 @@ put-bare-spec =
     pick-requires
     mul-zm
     slice-write-zm
-    pick-requires-2
+    pick-near-requires
     mul-im
     slice-write-im
-    pick-requires-3
+    pick-requires-2
     cast-result
     same-length
     same-length-2

@@ -1,8 +1,7 @@
--- `inside::trace_tiles` meets its contract: each arm knows its mode. Assumes nothing.
-use mathlib.Core.Path.{sym}
+-- `trace::trace_shares` meets its contract: each arm knows its mode. Assumes nothing.
 use borrow.Author.Needs.{needs}
-use Rattle.line.proofs.inside.trace_tiles.Statement.{statement}
-use Rattle.line.proofs.inside.trace_tiles.Tie as tie
+use Rattle.line.proofs.trace.trace_shares.Statement.{statement}
+use Rattle.line.proofs.trace.trace_shares.Tie as tie
 
 enum-told : tie.Need-enum-told
 enum-told c = search needs
@@ -10,7 +9,7 @@ enum-told c = search needs
 trace-requires : tie.Need-trace-requires
 trace-requires c κs = let s = c .before .before .before .before .before .before in
     let e = c .before .before .enum-told .given .1 in
-    (record { depths = rw e; grounds = rw e; layout = sym (s .pre .4); route = s .pre .0; inside = s .pre .2; bare = s .pre .3 }, s .pre .1)
+    (record { depths = rw e; grounds = rw e; goes = s .pre .goes; route = rw e at (s .pre .route) }, s .pre .begins)
 
 enum-told-2 : tie.Need-enum-told-2
 enum-told-2 c = search needs
@@ -18,7 +17,7 @@ enum-told-2 c = search needs
 trace-requires-2 : tie.Need-trace-requires-2
 trace-requires-2 c κs = let s = c .before .before .before .before .before .before in
     let e = c .before .before .enum-told2 .given .1 in
-    (record { depths = rw e; grounds = rw e; layout = sym (s .pre .4); route = s .pre .0; inside = s .pre .2; bare = s .pre .3 }, s .pre .1)
+    (record { depths = rw e; grounds = rw e; goes = s .pre .goes; route = rw e at (s .pre .route) }, s .pre .begins)
 
 enum-told-3 : tie.Need-enum-told-3
 enum-told-3 c = search needs
@@ -26,7 +25,7 @@ enum-told-3 c = search needs
 trace-requires-3 : tie.Need-trace-requires-3
 trace-requires-3 c κs = let s = c .before .before .before .before .before .before in
     let e = c .before .before .enum-told3 .given .1 in
-    (record { depths = rw e; grounds = rw e; layout = sym (s .pre .4); route = s .pre .0; inside = s .pre .2; bare = s .pre .3 }, s .pre .1)
+    (record { depths = rw e; grounds = rw e; goes = s .pre .goes; route = rw e at (s .pre .route) }, s .pre .begins)
 
 same-length : tie.Need-same-length
 same-length c = search needs
@@ -55,8 +54,8 @@ same-length-6 c = search needs
 returns-3 : tie.Need-returns-3
 returns-3 c = search needs
 
-pub trace-tiles-spec : {M : Type 1} → statement M
-trace-tiles-spec =
+pub trace-shares-spec : {M : Type 1} → statement M
+trace-shares-spec =
     tie.close
     (tie.spec
     enum-told

@@ -1,40 +1,52 @@
-// Segments inside the window and the rows in use, with a pen that stores whole numbers: no step asks about the window, the memory or the pen. The one
-// loop is compiled once for each layout and mode, from a call of its own, so that what a step does is little.
+// Segments with a pen that stores whole numbers, where nothing hides a pixel but the window and the memory: no step asks about the pen, and none about
+// window and memory where both ends are inside. The one loop is compiled once for each way and mode, from a call of its own, so that what a step does
+// is little.
 ghost use mathlib.Core.Path.{_≡_};
 ghost use mathlib.Core.Bool.{true, cond};
 ghost use Prim.Native.Nat.{_≤_, _<_};
+ghost use lib.Dec.{leb};
 ghost use lib.ListN.{length};
 ghost use Rattle.picture.specs.Picture.{isDeep, picture, stepAt};
 ghost use Rattle.picture.specs.Lent.{Draws, rowsOver};
-ghost use Rattle.line.specs.Segment.{kindOf, firstOf, stepOffers, segmentOffers};
-ghost use Rattle.line.specs.Ink.{joinedIn};
-ghost use Rattle.line.specs.Field.{AllOffered, isBare};
-ghost use Rattle.line.specs.Walk.{OnWalk};
-ghost use Rattle.line.specs.Route.{liesOf, OnRoute, Begins, Traces};
+ghost use Rattle.line.specs.Segment.{kindOf, stepOffers, segmentOffers};
+ghost use Rattle.line.specs.Field.{isBare};
+ghost use Rattle.line.specs.Walk.{Reaches};
+ghost use Rattle.line.specs.Route.{Begins, Goes, Sets, Traces};
 use crate::Mode;
 use crate::Style;
 use crate::pattern::ink_at;
+use crate::pattern::is_deep;
 use crate::pattern::is_joined;
+use crate::route::ASKED;
 use crate::route::ROWS;
 use crate::route::Route;
 use crate::route::SHARES;
 use crate::route::TILES;
-use crate::route::is_own;
+use crate::route::is_here;
 use crate::route::onward;
 use crate::route::place_at;
 use crate::route::route_of;
+use crate::route::spot_of;
 use crate::walk::Step;
 use crate::walk::begin;
 use picture::Pen;
 use picture::Vertex;
-use picture::place::TILED;
-use picture::place::lies_plain;
 
 // The new number where a pixel passes, the old one where it does not. It is a choice and no branch.
 fn pick(passes: bool, new: u16, old: u16) -> u16
     ensures { λ r. ⌜ r ≡ cond passes new old ⌝ }
 {
     if passes { new } else { old }
+}
+
+// The number i where z is no farther than the depth that stands there, else the one that stood. It is reckoned and not chosen: of a choice of what memory
+// has, LLVM makes a branch for x86-64, and which pixels pass no branch foretells.
+fn pick_near(z: u16, old: u16, i: u16, stood: u16) -> u16
+    ensures { λ r. ⌜ r ≡ cond (leb z old) i stood ⌝ }
+{
+    let beyond = std::num::wrapping_sub_u64(old as u64, z as u64) >> 48;
+    let back = std::num::wrapping_sub_u16(stood, i) & (beyond as u16);
+    std::num::wrapping_add_u16(i, back)
 }
 
 // One offer at a place. One that does not pass stores what stands there, so that nothing branches.
@@ -56,7 +68,7 @@ fn put_bare(
         let stood = im[at];
         let passes = z <= old;
         zm[at] = pick(passes, z, old);
-        im[at] = pick(passes, i, stood);
+        im[at] = pick_near(z, old, i, stood);
         return pick(passes, 1, 0) as u64;
     }
     im[at] = i;
@@ -64,12 +76,12 @@ fn put_bare(
 }
 
 // Draws the step where a walk stands.
-fn put_inside(
+fn put_spot(
     pen: Pen,
     style: Style,
     deep: bool,
     ground: bool,
-    lies: u16,
+    way: u16,
     r: Route,
     a: Vertex,
     b: Vertex,
@@ -77,19 +89,18 @@ fn put_inside(
     im: &mut [u16],
     zm: &mut [u16],
 ) -> u64
-    requires { ⌜ Traces pen (rowsOver (pen .frame) im zm) style deep ground lies r a b × OnWalk a b (r .slope) p × (firstOf (joinedIn style (style .mode)) ≤ p .k) ⌝ }
+    requires { ⌜ Traces pen (rowsOver (pen .frame) im zm) style deep ground way r a b × Reaches style deep (r .slope) a b p ⌝ }
     ensures { λ t. ⌜ (Draws pen (λ rows. stepOffers pen rows style (style .mode) a b (p .k)) im zm 0 t) × (t ≤ 1) ⌝ }
 {
-    let frame = pen.frame;
-    let own = is_own(frame, r, a, b, p);
-    if (lies == SHARES) & !own {
-        return 0;
-    }
-    let ink = ink_at(style, deep, ground, p);
-    if ink.drawn {
-        let at = place_at(frame, lies, r, a, b, p);
-        let mode = style.mode;
-        return put_bare(pen, mode, deep, at, ink.i, ink.z, im, zm);
+    let at = spot_of(r, a, b, p);
+    if is_here(pen, way, r, at) {
+        let ink = ink_at(style, deep, ground, p);
+        if ink.drawn {
+            let frame = pen.frame;
+            let place = place_at(frame, way, r, at);
+            let mode = style.mode;
+            return put_bare(pen, mode, deep, place, ink.i, ink.z, im, zm);
+        }
     }
     0
 }
@@ -100,7 +111,7 @@ fn trace(
     style: Style,
     deep: bool,
     ground: bool,
-    lies: u16,
+    way: u16,
     r: Route,
     a: Vertex,
     b: Vertex,
@@ -108,15 +119,16 @@ fn trace(
     im: &mut [u16],
     zm: &mut [u16],
 ) -> u64
-    requires { ⌜ Traces pen (rowsOver (pen .frame) im zm) style deep ground lies r a b × Begins style r first ⌝ }
+    requires { ⌜ Traces pen (rowsOver (pen .frame) im zm) style deep ground way r a b × Begins style r first ⌝ }
     ensures { λ t. ⌜ Draws pen (λ rows. segmentOffers pen rows style a b) im zm 0 t ⌝ }
 {
     let n = r.slope.n as u64;
     let mut p = first;
     let mut passed: u64 = 0;
     while p.k <= n {
-        passed += put_inside(pen, style, deep, ground, lies, r, a, b, p, im, zm);
-        p = onward(pen.frame, lies, r, a, b, p);
+        let at = spot_of(r, a, b, p);
+        passed += put_spot(pen, style, deep, ground, way, r, a, b, p, im, zm);
+        p = onward(way, r, at, p);
     }
     passed
 }
@@ -132,7 +144,7 @@ fn trace_rows(
     im: &mut [u16],
     zm: &mut [u16],
 ) -> u64
-    requires { ⌜ OnRoute (pen .frame) a b r × Begins style r p × AllOffered pen (rowsOver (pen .frame) im zm) (kindOf (style .mode)) a b × (isBare pen (kindOf (style .mode)) ≡ true) × (liesOf (pen .frame) ≡ 0) ⌝ }
+    requires { ⌜ Sets pen (rowsOver (pen .frame) im zm) style 0 r a b p ⌝ }
     ensures { λ t. ⌜ Draws pen (λ rows. segmentOffers pen rows style a b) im zm 0 t ⌝ }
 {
     let mode = style.mode;
@@ -154,7 +166,7 @@ fn trace_tiles(
     im: &mut [u16],
     zm: &mut [u16],
 ) -> u64
-    requires { ⌜ OnRoute (pen .frame) a b r × Begins style r p × AllOffered pen (rowsOver (pen .frame) im zm) (kindOf (style .mode)) a b × (isBare pen (kindOf (style .mode)) ≡ true) × (liesOf (pen .frame) ≡ 1) ⌝ }
+    requires { ⌜ Sets pen (rowsOver (pen .frame) im zm) style 1 r a b p ⌝ }
     ensures { λ t. ⌜ Draws pen (λ rows. segmentOffers pen rows style a b) im zm 0 t ⌝ }
 {
     let mode = style.mode;
@@ -176,7 +188,7 @@ fn trace_shares(
     im: &mut [u16],
     zm: &mut [u16],
 ) -> u64
-    requires { ⌜ OnRoute (pen .frame) a b r × Begins style r p × AllOffered pen (rowsOver (pen .frame) im zm) (kindOf (style .mode)) a b × (isBare pen (kindOf (style .mode)) ≡ true) × (liesOf (pen .frame) ≡ 2) ⌝ }
+    requires { ⌜ Sets pen (rowsOver (pen .frame) im zm) style 2 r a b p ⌝ }
     ensures { λ t. ⌜ Draws pen (λ rows. segmentOffers pen rows style a b) im zm 0 t ⌝ }
 {
     let mode = style.mode;
@@ -187,26 +199,54 @@ fn trace_shares(
     }
 }
 
-// Draws a segment.
-pub(crate) fn drawn_inside(
+// For rows, where an end of the segment is outside the window or the memory.
+fn trace_asked(
     pen: Pen,
     style: Style,
+    r: Route,
+    a: Vertex,
+    b: Vertex,
+    p: Step,
+    im: &mut [u16],
+    zm: &mut [u16],
+) -> u64
+    requires { ⌜ Sets pen (rowsOver (pen .frame) im zm) style 3 r a b p ⌝ }
+    ensures { λ t. ⌜ Draws pen (λ rows. segmentOffers pen rows style a b) im zm 0 t ⌝ }
+{
+    let mode = style.mode;
+    match mode {
+        Mode::Zero => trace(pen, style, false, true, ASKED, r, a, b, p, im, zm),
+        Mode::One => trace(pen, style, false, false, ASKED, r, a, b, p, im, zm),
+        Mode::Two => trace(pen, style, true, true, ASKED, r, a, b, p, im, zm),
+    }
+}
+
+// Draws a segment in its way.
+pub(crate) fn drawn_bare(
+    pen: Pen,
+    style: Style,
+    rows: usize,
+    way: u16,
     a: Vertex,
     b: Vertex,
     im: &mut [u16],
     zm: &mut [u16],
 ) -> u64
-    requires { ⌜ AllOffered pen (rowsOver (pen .frame) im zm) (kindOf (style .mode)) a b × (isBare pen (kindOf (style .mode)) ≡ true) ⌝ }
+    requires { ⌜ (rows ≡ rowsOver (pen .frame) im zm) × Goes pen rows style way a b ⌝ }
     ensures { λ r. ⌜ Draws pen (λ rows. segmentOffers pen rows style a b) im zm 0 r ⌝ }
 {
     let frame = pen.frame;
-    let r = route_of(frame, a, b);
+    let mode = style.mode;
+    let r = route_of(frame, rows, way, is_deep(mode), a, b);
     let p = begin(r.near, is_joined(style));
-    if lies_plain(frame) {
+    if way == ROWS {
         return trace_rows(pen, style, r, a, b, p, im, zm);
     }
-    if frame.layout == TILED {
+    if way == TILES {
         return trace_tiles(pen, style, r, a, b, p, im, zm);
     }
-    trace_shares(pen, style, r, a, b, p, im, zm)
+    if way == SHARES {
+        return trace_shares(pen, style, r, a, b, p, im, zm);
+    }
+    trace_asked(pen, style, r, a, b, p, im, zm)
 }
