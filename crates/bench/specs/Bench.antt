@@ -35,13 +35,15 @@ vertexOf x y i z = record { x = x; y = y; i = i; z = z }
 abbrev pub styleOf : ℕ → ℕ → ℕ → ℕ → Style
 styleOf mode pattern foreground background = record { mode = modeOf mode; pattern = pattern; foreground = foreground; background = background; steps = 0; joined = false }
 
--- a triangle was drawn with a pen, and so many of its pixels passed
-abbrev pub DrawsTriangle : Pen → Bool → Vertex → Vertex → Vertex → Lent → Lent → ℕ → Type 0
-DrawsTriangle pen constant a b c im zm passed = Draws pen (λ rows. triangleOffers pen rows constant a b c) im zm 0 passed
+-- a triangle was drawn over memories of so long lines in a layout, and so many of its pixels passed
+abbrev pub DrawsTriangle : ℕ → ℕ → Bool → Vertex → Vertex → Vertex → Lent → Lent → ℕ → Type 0
+DrawsTriangle line layout constant a b c im zm passed =
+    Draws (penOf line layout) (λ rows. triangleOffers (penOf line layout) rows constant a b c) im zm 0 passed
 
 -- and so a segment, in a style
-abbrev pub DrawsSegment : Pen → Style → Vertex → Vertex → Lent → Lent → ℕ → Type 0
-DrawsSegment pen style a b im zm passed = Draws pen (λ rows. segmentOffers pen rows style a b) im zm 0 passed
+abbrev pub DrawsSegment : ℕ → ℕ → Style → Vertex → Vertex → Lent → Lent → ℕ → Type 0
+DrawsSegment line layout style a b im zm passed =
+    Draws (penOf line layout) (λ rows. segmentOffers (penOf line layout) rows style a b) im zm 0 passed
 
 -- the length that a call on packed streams tells, and what it leaves
 pub record Wrote (outcome : Outcome) (told : ℕ) (left : List ℕ) : Type 0 where

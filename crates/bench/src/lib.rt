@@ -51,7 +51,7 @@ pub extern "C" fn dextolumen_bench_triangle(
     im: &mut [u16],
     zm: &mut [u16],
 ) -> u64
-    ensures { λ r. ⌜ DrawsTriangle (penOf line layout) constant (vertexOf ax ay ai az) (vertexOf bx by bi bz) (vertexOf cx cy ci cz) im zm r ⌝ }
+    ensures { λ r. ⌜ DrawsTriangle line layout constant (vertexOf ax ay ai az) (vertexOf bx by bi bz) (vertexOf cx cy ci cz) im zm r ⌝ }
 {
     let a = Vertex {
         x: ax,
@@ -94,7 +94,7 @@ pub extern "C" fn dextolumen_bench_segment(
     im: &mut [u16],
     zm: &mut [u16],
 ) -> u64
-    ensures { λ r. ⌜ DrawsSegment (penOf line layout) (styleOf mode pattern foreground background) (vertexOf ax ay ai az) (vertexOf bx by bi bz) im zm r ⌝ }
+    ensures { λ r. ⌜ DrawsSegment line layout (styleOf mode pattern foreground background) (vertexOf ax ay ai az) (vertexOf bx by bi bz) im zm r ⌝ }
 {
     let a = Vertex {
         x: ax,
