@@ -62,7 +62,12 @@ pub record Computed : Type 0 where
   pub farthest-edge-6 : Offers farthestEdge 512 6 (offer Line2 6 0 500 65535 ∷ [])
 
 pub computed : Computed
-unfolding scene outline farFirst wideFaces tiedLast tiedFirst farthestFace farthestEdge isAllOn isSupposed eachIn nextIn refusalOf inBounds frameFits modesFit windowFits vertexFits figureFits parkedFits regionFits initAllowed effectOf parmOf coordinateOf coordinateCompletes recordAfter completedBy shapeOf grownOf completes decode wordOf subcommandOf settings lineOf offersIn offersAt modeOf wholeOffers isCut figureOffers layoutOf spotOf placeOf isWhole rowsIn rowsOf mine inMemory inWindow offered keep spans there plusOf minusOf closed inside covers mixed shade pixelAt pixelOffers triangleOffers larger smaller xLeads sideAt xAt yAt numberAt shadeOffers segmentOffers
+unfolding
+    scene outline farFirst wideFaces tiedLast tiedFirst farthestFace farthestEdge isAllOn isSupposed eachIn nextIn refusalOf inBounds
+    frameFits modesFit windowFits vertexFits figureFits parkedFits regionFits initAllowed effectOf parmOf coordinateOf coordinateCompletes
+    recordAfter completedBy shapeOf grownOf completes decode wordOf subcommandOf settings lineOf offersIn offersAt modeOf wholeOffers isCut
+    figureOffers layoutOf spotOf placeOf isWhole rowsIn rowsOf mine inMemory inWindow offered keep spans there plusOf minusOf closed inside
+    covers mixed shade pixelAt pixelOffers triangleOffers larger smaller xLeads sideAt xAt yAt numberAt shadeOffers segmentOffers
 computed =
     record {
       scene-meets = refl;

@@ -4,7 +4,9 @@ use mathlib.Core.Path.{_≡_, refl, sym, ap, ap₂, _∙_}
 use mathlib.Core.Logic.{_≢_, ∥∥₁-elim}
 use mathlib.Core.HLevel.{¬-prop}
 use mathlib.Core.Bool.{Bool, true, false, cond, _&&_}
-use mathlib.Core.List.{List, [], _∷_, map, List·Mem, Perm, Perm·cons, Perm·pairwise, List·Permᴰ, List·Permᴰ·nil, List·Permᴰ·cons, List·Permᴰ·swap, List·Permᴰ·trans, Permᴰ·pairwise, Pairwise, Pairwise·cons, Pairwise·of-cons, Pairwise·of-map′, Pairwise·map′, mem-cons-self, mem-cons-of-mem}
+use mathlib.Core.List.{List, [], _∷_, map, List·Mem, mem-cons-self, mem-cons-of-mem}
+use mathlib.Core.List.{Perm, Perm·cons, Perm·pairwise, Permᴰ·pairwise, List·Permᴰ, List·Permᴰ·nil, List·Permᴰ·cons, List·Permᴰ·swap, List·Permᴰ·trans}
+use mathlib.Core.List.{Pairwise, Pairwise·cons, Pairwise·of-cons, Pairwise·of-map′, Pairwise·map′}
 use Prim.Native.Nat.{ℕ, min}
 use native.Mathlib.Nat.{ℕ-set}
 use native.Mathlib.Omega.{arith}

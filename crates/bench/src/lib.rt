@@ -1,12 +1,8 @@
 // Entries for the benchmark in C (bench/): one figure, or one stream, a call.
 ghost use mathlib.Core.Path.{_≡_};
 ghost use lib.ListN.{length};
-ghost use Rattle.line.specs.Segment.{segmentOffers};
-ghost use Rattle.picture.specs.Picture.{picture};
 ghost use Rattle.stream.specs.Calls.{sizeOf, packing, unpacking};
-ghost use Rattle.triangle.specs.Offers.{triangleOffers};
-ghost use Rattle.bench.specs.Bench.{penOf, styleOf, vertexOf, Wrote};
-ghost use Rattle.picture.specs.Lent.{Draws};
+ghost use Rattle.bench.specs.Bench.{penOf, styleOf, vertexOf, DrawsTriangle, DrawsSegment, Wrote};
 use line::Style;
 use line::mode_of;
 use picture::Frame;
@@ -55,7 +51,7 @@ pub extern "C" fn dextolumen_bench_triangle(
     im: &mut [u16],
     zm: &mut [u16],
 ) -> u64
-    ensures { λ r. ⌜ Draws (penOf line layout) (λ rows. triangleOffers (penOf line layout) rows constant (vertexOf ax ay ai az) (vertexOf bx by bi bz) (vertexOf cx cy ci cz)) im zm 0 r ⌝ }
+    ensures { λ r. ⌜ DrawsTriangle line layout constant (vertexOf ax ay ai az) (vertexOf bx by bi bz) (vertexOf cx cy ci cz) im zm r ⌝ }
 {
     let a = Vertex {
         x: ax,
@@ -98,7 +94,7 @@ pub extern "C" fn dextolumen_bench_segment(
     im: &mut [u16],
     zm: &mut [u16],
 ) -> u64
-    ensures { λ r. ⌜ Draws (penOf line layout) (λ rows. segmentOffers (penOf line layout) rows (styleOf mode pattern foreground background) (vertexOf ax ay ai az) (vertexOf bx by bi bz)) im zm 0 r ⌝ }
+    ensures { λ r. ⌜ DrawsSegment line layout (styleOf mode pattern foreground background) (vertexOf ax ay ai az) (vertexOf bx by bi bz) im zm r ⌝ }
 {
     let a = Vertex {
         x: ax,

@@ -1,6 +1,7 @@
 pub mod Sent
 pub mod Parts
 pub mod Taken
+pub mod Lengths
 pub mod Turns
 pub mod Settled
 pub mod Recoded

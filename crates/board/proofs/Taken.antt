@@ -2,11 +2,11 @@
 use mathlib.Core.Path.{_≡_, sym, ap, _∙_}
 use mathlib.Core.Logic.{_≢_}
 use mathlib.Core.Bool.{Bool, true, false, cond, not}
-use Prim.Native.Nat.{ℕ, _<_}
+use Prim.Native.Nat.{ℕ, _/_, _%_, _<_}
 use lib.Dec.{eqb, ltb}
 use borrow.Author.Tests.{not-true, not-false, ne-eqb}
 use Rattle.registers.specs.declared.word.Word.{Word}
-use Rattle.registers.specs.Word.{decode}
+use Rattle.registers.specs.Word.{decode, wordOf}
 use Rattle.registers.proofs.Commands.{decode-unknown}
 use Rattle.ground.proofs.Truth.{both}
 use Rattle.machine.specs.Run.{Outcome, outcome}
@@ -28,6 +28,11 @@ whole-low b even {whole} is goes =
     ways-low (b .units) (board-ways (b .units) (both _ _ (both _ _ (sym is ∙ not-false whole goes) .0) .0))
 
 -- ---- a word
+
+-- a word of twenty bits is its command and its data
+pub step-word : (b : Board) (m : Bank) {o : Outcome Board Bank} {n v : ℕ} → n ≡ v → o ≡ boardStep b (decode (n / 65536) (n % 65536)) m → o ≡ boardStep b (wordOf v) m
+unfolding wordOf
+step-word b m same told = told ∙ ap (λ (k : ℕ). boardStep b (decode (k / 65536) (k % 65536)) m) same
 
 module _ (b : Board) (m : Bank) {even whole : Bool} (like : even ≡ isEven (b .units) m) (is : whole ≡ isWholeBy b even) where
   whole-is : whole ≡ isWhole b m

@@ -12,7 +12,7 @@ use Rattle.stream.specs.Calls.{checked}
 use Rattle.stream.proofs.Calls.{next-told, flaw-told, good}
 use Rattle.registers.specs.declared.word.Word.{Word}
 use Rattle.registers.specs.Word.{wordOf}
-use Rattle.machine.specs.Run.{outcome, Ran, ran, runFrom, runOf}
+use Rattle.machine.specs.Run.{outcome, Ran, ran, runFrom}
 use Rattle.machine.proofs.Runs.{turn-accepted, turn-refused, turn-none}
 use Rattle.chip.specs.Stream.{wordsOf}
 use Rattle.chip.proofs.Streams.{word-at, words-length}
@@ -21,7 +21,7 @@ use Rattle.board.specs.declared.Started.{Started}
 use Rattle.board.specs.declared.run.Ended.{Ended}
 use Rattle.board.specs.Bank.{Bank, isEven}
 use Rattle.board.specs.Board.{boardStep}
-use Rattle.board.specs.Calls.{resetting, boardFlaw, runningFrom, boardRunning}
+use Rattle.board.specs.Calls.{resetting, boardFlaw, wordsFrom, runningFrom, boardRunning, endedOf}
 use Rattle.board.proofs.Taken.{refused-leaves}
 
 -- ---- the loop
@@ -29,7 +29,7 @@ use Rattle.board.proofs.Taken.{refused-leaves}
 module _ (start : Board) (bytes : List ℕ) (m₀ : Bank) where
   -- the whole run is the run of the words that are left, from where k words came to
   pub record Reached (m : Bank) (b : Board) (sum k : ℕ) : Type 0 where
-    pub same : runOf boardStep start (wordsOf bytes) m₀ ≡ runFrom boardStep (ran 0 k sum b m) (drop k (wordsOf bytes))
+    pub same : wordsFrom start bytes m₀ ≡ runFrom boardStep (ran 0 k sum b m) (drop k (wordsOf bytes))
 
   pub reached-start : {b : Board} → b ≡ start → Reached m₀ b 0 0
   reached-start e = record { same = ap (λ (q : Board). runFrom boardStep (ran 0 0 0 q m₀) (wordsOf bytes)) (sym e) }
@@ -47,19 +47,16 @@ module _ (start : Board) (bytes : List ℕ) (m₀ : Bank) where
       reached-more e = record { same = so .same ∙ turn-accepted boardStep (wordsOf bytes) k (wordOf 0) below sum b m here e }
 
       -- the next word is refused
-      pub reached-halt : n ≢ 0 → ran n k sum b′ m′ ≡ runOf boardStep start (wordsOf bytes) m₀
+      pub reached-halt : n ≢ 0 → ran n k sum b′ m′ ≡ wordsFrom start bytes m₀
       reached-halt e =
           let stay = refused-leaves b (wordOf (wordAt bytes k)) m told e in
           ap₂ (ran n k sum) (stay .0) (stay .1) ∙ sym (so .same ∙ turn-refused boardStep (wordsOf bytes) k (wordOf 0) below sum b m here e)
 
     -- no word is left
-    pub reached-end : length (unpackOf bytes) ≤ k → ran 0 k sum b m ≡ runOf boardStep start (wordsOf bytes) m₀
+    pub reached-end : length (unpackOf bytes) ≤ k → ran 0 k sum b m ≡ wordsFrom start bytes m₀
     reached-end h = sym (so .same ∙ turn-none boardStep (wordsOf bytes) k (ran 0 k sum b m) (rw (words-length bytes) h))
 
 -- ---- before the first word
-
-abbrev pub endedOf : Ended → Bank → Ran Board Bank
-endedOf a m = ran (a .refusal) (a .index) (a .sum) (a .board) m
 
 -- an answer of a run that took no word
 abbrev pub stoppedBy : ℕ → Board → Ended
@@ -75,7 +72,7 @@ module _ (start : Board) (bytes : List ℕ) (m : Bank) where
   unfolding runningFrom
   from-refused {n} e some = rw (e, ne-eqb n 0 some)
 
-  from-good : boardFlaw (start .units) bytes m ≡ 0 → runOf boardStep start (wordsOf bytes) m ≡ runningFrom start bytes m
+  from-good : boardFlaw (start .units) bytes m ≡ 0 → wordsFrom start bytes m ≡ runningFrom start bytes m
   unfolding runningFrom
   from-good e = rw e
 
@@ -94,7 +91,7 @@ module _ (start : Board) (bytes : List ℕ) (m : Bank) where
           ∙ from-refused (lengths-told (sym number ∙ none) false (sym like ∙ not-true even unlike)) (λ e. absurd (omega arith))
 
       -- a good stream over memories of one length
-      pub from-like : {a : Ran Board Bank} → a ≡ runOf boardStep start (wordsOf bytes) m → not even ≡ false → a ≡ runningFrom start bytes m
+      pub from-like : {a : Ran Board Bank} → a ≡ wordsFrom start bytes m → not even ≡ false → a ≡ runningFrom start bytes m
       from-like told fits = told ∙ from-good (lengths-told (sym number ∙ none) true (sym like ∙ not-false even fits))
 
 -- ---- reset first

@@ -13,6 +13,7 @@ use Rattle.machine.specs.Machine.{Memories, stepOf}
 use Rattle.chip.specs.Chip.{chip}
 use Rattle.chip.specs.Units.{unitLayout}
 use Rattle.board.specs.declared.Board.{Board}
+use Rattle.board.specs.declared.step.Reply.{Reply}
 use Rattle.board.specs.Bank.{Bank, bank, memoriesOf, isEven}
 use Rattle.board.specs.Door.{isBoard, unitWord}
 
@@ -59,6 +60,10 @@ isWhole b m = isWholeBy b (isEven (b .units) m)
 unfoldable pub boardStep : Step Word Board Bank
 boardStep b w m = cond (isWhole b m) (unitsStep b (unitWord (b .units) w) m) (refused (cond (isUnknown w) 1 2) b m)
 
--- a word was taken: the number and the count that were told, and the board and memories that were left, are those of the board's step
-abbrev pub TakesOn : Board → Word → Bank → ℕ → ℕ → Board → Bank → Type 0
-TakesOn b w m refusal passed next left = outcome refusal passed next left ≡ boardStep b w m
+-- what an answer and the memories that were left come to
+abbrev pub repliedOf : Reply → Bank → Outcome Board Bank
+repliedOf a m = outcome (a .refusal) (a .passed) (a .board) m
+
+-- a word was taken: the number, the count and the board that were told, and the memories that were left, are those of the board's step
+abbrev pub TakesOn : Board → Word → Bank → Reply → Bank → Type 0
+TakesOn b w m a left = repliedOf a left ≡ boardStep b w m

@@ -15,6 +15,7 @@ use Rattle.chip.specs.Stream.{wordsOf}
 use Rattle.board.specs.declared.Board.{Board}
 use Rattle.board.specs.declared.Started.{Started}
 use Rattle.board.specs.declared.read.Seen.{Seen}
+use Rattle.board.specs.declared.run.Ended.{Ended}
 use Rattle.board.specs.Bank.{Bank, isEven}
 use Rattle.board.specs.Door.{isBoard, isSeveral}
 use Rattle.board.specs.Board.{board, isWholeBy, boardStep}
@@ -57,17 +58,25 @@ boardReading b m = cond (eqb (readNumber b m) 0) (readBy (b .units) (reading (b 
 unfoldable pub boardFlaw : ℕ → List ℕ → Bank → ℕ
 boardFlaw units bytes m = checked bytes (cond (isEven units m) 0 2)
 
+-- the words of a stream run from a board, one after the other until one is refused
+abbrev pub wordsFrom : Board → List ℕ → Bank → Ran Board Bank
+wordsFrom b bytes m = runOf boardStep b (wordsOf bytes) m
+
 -- a stream runs from a board, word by word until one is refused; refused before the first word, index and sum are 0, the board stays, and the
 -- memories are untouched
 unfoldable pub runningFrom : Board → List ℕ → Bank → Ran Board Bank
-runningFrom b bytes m = cond (eqb (boardFlaw (b .units) bytes m) 0) (runOf boardStep b (wordsOf bytes) m) (ran (boardFlaw (b .units) bytes m) 0 0 b m)
+runningFrom b bytes m = cond (eqb (boardFlaw (b .units) bytes m) 0) (wordsFrom b bytes m) (ran (boardFlaw (b .units) bytes m) 0 0 b m)
 
 -- reset first: another number than 1, 2 or 4 is refused with 9, and nothing is run
 unfoldable pub boardRunning : ℕ → List ℕ → Bank → Ran Board Bank
 boardRunning units bytes m =
     cond (eqb (resetting units .refusal) 0) (runningFrom (resetting units .board) bytes m) (ran (resetting units .refusal) 0 0 (resetting units .board) m)
 
--- a packed stream was run on a board of so many units: the number, index and sum that were told, and the board and memories that were left, are
+-- how a run ended, with the memories that were left
+abbrev pub endedOf : Ended → Bank → Ran Board Bank
+endedOf a m = ran (a .refusal) (a .index) (a .sum) (a .board) m
+
+-- a packed stream was run on a board of so many units: the number, index, sum and board that were told, and the memories that were left, are
 -- those of its run
-abbrev pub RunsOn : ℕ → List ℕ → Bank → ℕ → ℕ → ℕ → Board → Bank → Type 0
-RunsOn units bytes m refusal index sum last left = ran refusal index sum last left ≡ boardRunning units bytes m
+abbrev pub RunsOn : ℕ → List ℕ → Bank → Ended → Bank → Type 0
+RunsOn units bytes m a left = endedOf a left ≡ boardRunning units bytes m

@@ -97,7 +97,7 @@ pub record BoardEnded (units : ℕ) (bytes : List ℕ) (m : Bank) : Type 0 where
   pub sum : ℕ
   pub board-left : Board
   pub left : Bank
-  pub promise : RunsOn units bytes m refusal index sum board-left left
+  pub promise : RunsOn units bytes m (record { refusal = refusal; index = index; sum = sum; board = board-left }) left
 
 -- whatever outcomes the promises of `dextolumen_board_run` and of the chip's `run` allow: they tell the same, and what they leave belongs together
 pub record StreamsAlike (units n n′ : ℕ) {bytes bytes′ : List ℕ} {m : Bank} {i′ z′ : List ℕ} (o : BoardEnded units bytes m) (p : Ended resetOf bytes′ i′ z′) : Type 0 where

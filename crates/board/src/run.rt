@@ -2,10 +2,8 @@
 ghost use mathlib.Core.Path.{_≡_};
 ghost use Rattle.stream.specs.Format.{wordAt};
 ghost use Rattle.registers.specs.Word.{wordOf};
-ghost use Rattle.machine.specs.Run.{ran, runOf};
-ghost use Rattle.chip.specs.Stream.{wordsOf};
-ghost use Rattle.board.specs.Board.{boardStep, TakesOn};
-ghost use Rattle.board.specs.Calls.{runningFrom, RunsOn};
+ghost use Rattle.board.specs.Board.{TakesOn};
+ghost use Rattle.board.specs.Calls.{wordsFrom, runningFrom, endedOf, RunsOn};
 ghost use Rattle.board.specs.Bank.{foundIn, leftIn};
 use crate::Board;
 use crate::dextolumen_board_reset;
@@ -40,7 +38,7 @@ fn step_at(
     i3: &mut [u16],
     z3: &mut [u16],
 ) -> Reply
-    ensures { λ a. ⌜ TakesOn board (wordOf (wordAt (now (bytes .entry)) k)) (foundIn i0 z0 i1 z1 i2 z2 i3 z3) (a .refusal) (a .passed) (a .board) (leftIn i0 z0 i1 z1 i2 z2 i3 z3) ⌝ }
+    ensures { λ a. ⌜ TakesOn board (wordOf (wordAt (now (bytes .entry)) k)) (foundIn i0 z0 i1 z1 i2 z2 i3 z3) a (leftIn i0 z0 i1 z1 i2 z2 i3 z3) ⌝ }
 {
     let w = word(bytes, k);
     dextolumen_board_step(
@@ -71,7 +69,7 @@ fn run_words(
     i3: &mut [u16],
     z3: &mut [u16],
 ) -> Ended
-    ensures { λ a. ⌜ ran (a .refusal) (a .index) (a .sum) (a .board) (leftIn i0 z0 i1 z1 i2 z2 i3 z3) ≡ runOf boardStep start (wordsOf (now (bytes .entry))) (foundIn i0 z0 i1 z1 i2 z2 i3 z3) ⌝ }
+    ensures { λ a. ⌜ endedOf a (leftIn i0 z0 i1 z1 i2 z2 i3 z3) ≡ wordsFrom start (now (bytes .entry)) (foundIn i0 z0 i1 z1 i2 z2 i3 z3) ⌝ }
 {
     let count = held(bytes);
     let mut b = start;
@@ -125,7 +123,7 @@ fn run_from(
     i3: &mut [u16],
     z3: &mut [u16],
 ) -> Ended
-    ensures { λ a. ⌜ ran (a .refusal) (a .index) (a .sum) (a .board) (leftIn i0 z0 i1 z1 i2 z2 i3 z3) ≡ runningFrom start (now (bytes .entry)) (foundIn i0 z0 i1 z1 i2 z2 i3 z3) ⌝ }
+    ensures { λ a. ⌜ endedOf a (leftIn i0 z0 i1 z1 i2 z2 i3 z3) ≡ runningFrom start (now (bytes .entry)) (foundIn i0 z0 i1 z1 i2 z2 i3 z3) ⌝ }
 {
     let number = flaw(bytes);
     if number != 0 {
@@ -162,7 +160,7 @@ pub extern "C" fn dextolumen_board_run(
     i3: &mut [u16],
     z3: &mut [u16],
 ) -> Ended
-    ensures { λ a. ⌜ RunsOn units (now (bytes .entry)) (foundIn i0 z0 i1 z1 i2 z2 i3 z3) (a .refusal) (a .index) (a .sum) (a .board) (leftIn i0 z0 i1 z1 i2 z2 i3 z3) ⌝ }
+    ensures { λ a. ⌜ RunsOn units (now (bytes .entry)) (foundIn i0 z0 i1 z1 i2 z2 i3 z3) a (leftIn i0 z0 i1 z1 i2 z2 i3 z3) ⌝ }
 {
     let started = dextolumen_board_reset(units);
     let board = started.board;

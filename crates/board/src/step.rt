@@ -4,8 +4,7 @@ ghost use Prim.Native.Nat.{_<_};
 ghost use lib.Dec.{ltb};
 ghost use mathlib.Core.Bool.{cond};
 ghost use Rattle.registers.specs.Word.{decode};
-ghost use Rattle.machine.specs.Run.{outcome};
-ghost use Rattle.board.specs.Board.{isWholeBy, unitsStep, TakesOn};
+ghost use Rattle.board.specs.Board.{isWholeBy, unitsStep, repliedOf, TakesOn};
 ghost use Rattle.board.specs.Bank.{foundIn, leftIn};
 use crate::Board;
 use crate::door::command_of;
@@ -63,7 +62,7 @@ fn units_step(
     z3: &mut [u16],
 ) -> Reply
     requires { ⌜ board .units < 5 ⌝ }
-    ensures { λ a. ⌜ outcome (a .refusal) (a .passed) (a .board) (leftIn i0 z0 i1 z1 i2 z2 i3 z3) ≡ unitsStep board (decode command «data») (foundIn i0 z0 i1 z1 i2 z2 i3 z3) ⌝ }
+    ensures { λ a. ⌜ repliedOf a (leftIn i0 z0 i1 z1 i2 z2 i3 z3) ≡ unitsStep board (decode command «data») (foundIn i0 z0 i1 z1 i2 z2 i3 z3) ⌝ }
 {
     let units = board.units;
     let r = board.registers;
@@ -101,7 +100,7 @@ pub extern "C" fn dextolumen_board_step(
     i3: &mut [u16],
     z3: &mut [u16],
 ) -> Reply
-    ensures { λ a. ⌜ TakesOn board (decode command «data») (foundIn i0 z0 i1 z1 i2 z2 i3 z3) (a .refusal) (a .passed) (a .board) (leftIn i0 z0 i1 z1 i2 z2 i3 z3) ⌝ }
+    ensures { λ a. ⌜ TakesOn board (decode command «data») (foundIn i0 z0 i1 z1 i2 z2 i3 z3) a (leftIn i0 z0 i1 z1 i2 z2 i3 z3) ⌝ }
 {
     let units = board.units;
     let even = is_even(

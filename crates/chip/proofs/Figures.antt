@@ -1,5 +1,5 @@
 -- A completed figure drawn, from the promise of the call that draws it, or cut. Assumes nothing.
-use mathlib.Core.Path.{_≡_, sym, subst}
+use mathlib.Core.Path.{_≡_, sym, ap, ap₂, _∙_}
 use mathlib.Core.Bool.{Bool, true, false}
 use mathlib.Core.List.{List, [], List·Memᴰ, List·Memᴰ·not-nil}
 use Prim.Native.Nat.{ℕ}
@@ -60,12 +60,12 @@ module _ (r : Registers) (i z : List ℕ) where
     pub triangle-drawn : {a b c : Vertex} → figure ≡ Triangle a b c
         → picture i′ z′ n ≡ drawn pen (triangleOffers pen (rowsOf (pen .frame) (length i) (length z)) (isConstant r) a b c) (picture i z 0) → picture i′ z′ n ≡ whole figure
     unfolding wholeOffers
-    triangle-drawn {a} {b} {c} e =
-        rw e (subst (λ (p : Pen). picture i′ z′ n ≡ drawn p (triangleOffers p (rowsOf (p .frame) (length i) (length z)) (isConstant r) a b c) (picture i z 0) → picture i′ z′ n ≡ drawn (penOf r) (triangleOffers (penOf r) (rowsOf (r .frame) (length i) (length z)) (isConstant r) a b c) (picture i z 0)) (sym is) (λ q. q))
+    triangle-drawn {a} {b} {c} e told =
+        rw e (told ∙ ap (λ (p : Pen). drawn p (triangleOffers p (rowsOf (p .frame) (length i) (length z)) (isConstant r) a b c) (picture i z 0)) is)
 
     -- a visible segment drawn by its pen and style
     pub segment-drawn : {style : Style} {a b : Vertex} → style ≡ styleOf r → figure ≡ Segment a b
         → picture i′ z′ n ≡ drawn pen (segmentOffers pen (rowsOf (pen .frame) (length i) (length z)) style a b) (picture i z 0) → picture i′ z′ n ≡ whole figure
     unfolding wholeOffers
-    segment-drawn {style} {a} {b} s e =
-        rw (e, s) (subst (λ (p : Pen). picture i′ z′ n ≡ drawn p (segmentOffers p (rowsOf (p .frame) (length i) (length z)) (styleOf r) a b) (picture i z 0) → picture i′ z′ n ≡ drawn (penOf r) (segmentOffers (penOf r) (rowsOf (r .frame) (length i) (length z)) (styleOf r) a b) (picture i z 0)) (sym is) (λ q. q))
+    segment-drawn {style} {a} {b} s e told =
+        rw e (told ∙ ap₂ (λ (p : Pen) (q : Style). drawn p (segmentOffers p (rowsOf (p .frame) (length i) (length z)) q a b) (picture i z 0)) is s)

@@ -15,13 +15,13 @@ use Rattle.registers.specs.declared.Registers.{Registers}
 use Rattle.registers.specs.declared.word.Word.{Word}
 use Rattle.registers.specs.Word.{wordOf}
 use Rattle.registers.specs.Bounds.{inBounds}
-use Rattle.machine.specs.Run.{Outcome, outcome, Ran, ran, runFrom, runOf}
+use Rattle.machine.specs.Run.{Outcome, outcome, Ran, ran, runFrom}
 use Rattle.machine.specs.Machine.{Memories, stepOf}
 use Rattle.machine.proofs.Runs.{turn-accepted, turn-none}
 use Rattle.machine.proofs.Steps.{turn-halts}
 use Rattle.chip.specs.declared.run.Ran.{Ran as Told}
 use Rattle.chip.specs.Chip.{chip}
-use Rattle.chip.specs.Stream.{wordsOf, flawOf, running}
+use Rattle.chip.specs.Stream.{wordsOf, flawOf, wordsFrom, running}
 use Rattle.chip.proofs.Laws.{step-kept}
 
 -- ---- the words
@@ -45,7 +45,7 @@ module _ (start : Registers) (bytes : List ℕ) where
   module _ (m₀ : Memories) where
     -- the whole run is the run of the words that are left, from where k words came to
     pub record Reached (m : Memories) (r : Registers) (sum k : ℕ) : Type 0 where
-      pub same : runOf (stepOf chip) start (wordsOf bytes) m₀ ≡ runFrom (stepOf chip) (ran 0 k sum r m) (drop k (wordsOf bytes))
+      pub same : wordsFrom start bytes m₀ ≡ runFrom (stepOf chip) (ran 0 k sum r m) (drop k (wordsOf bytes))
 
     pub reached-start : {r : Registers} → r ≡ start → Reached m₀ r 0 0
     reached-start e = record { same = ap (λ (q : Registers). runFrom (stepOf chip) (ran 0 0 0 q m₀) (wordsOf bytes)) (sym e) }
@@ -67,11 +67,11 @@ module _ (start : Registers) (bytes : List ℕ) where
         reached-kept h = ap (λ (o : Outcome Registers Memories). inBounds (o .registers)) told ∙ step-kept r (wordOf (wordAt bytes k)) m h
 
         -- the next word is refused
-        pub reached-halt : n ≢ 0 → ran n k sum r′ m′ ≡ runOf (stepOf chip) start (wordsOf bytes) m₀
+        pub reached-halt : n ≢ 0 → ran n k sum r′ m′ ≡ wordsFrom start bytes m₀
         reached-halt e = sym (so .same ∙ turn-halts chip (wordsOf bytes) k (wordOf 0) below sum r m here e)
 
       -- no word is left
-      pub reached-end : length (unpackOf bytes) ≤ k → ran 0 k sum r m ≡ runOf (stepOf chip) start (wordsOf bytes) m₀
+      pub reached-end : length (unpackOf bytes) ≤ k → ran 0 k sum r m ≡ wordsFrom start bytes m₀
       reached-end h = sym (so .same ∙ turn-none (stepOf chip) (wordsOf bytes) k (ran 0 k sum r m) (rw (words-length bytes) h))
 
 -- ---- before the first word
@@ -95,7 +95,7 @@ module _ (start : Registers) (bytes : List ℕ) (m : Memories) where
   unfolding running
   running-refused {n} e some = rw (e, ne-eqb n 0 some)
 
-  running-good : flawOf bytes m ≡ 0 → runOf (stepOf chip) start (wordsOf bytes) m ≡ running start bytes m
+  running-good : flawOf bytes m ≡ 0 → wordsFrom start bytes m ≡ running start bytes m
   unfolding running
   running-good e = rw e
 
@@ -113,5 +113,5 @@ module _ (start : Registers) (bytes : List ℕ) (m : Memories) where
           ap (λ (b : Told). endedOf b m) answer ∙ running-refused (lengths-told bytes m (sym number ∙ none) false (ne-eqb _ _ unlike)) (λ e. absurd (omega arith))
 
       -- a good stream over memories of one length
-      pub run-good : {a : Ran Registers Memories} → a ≡ runOf (stepOf chip) start (wordsOf bytes) m → length (m .i) ≡ length (m .z) → a ≡ running start bytes m
+      pub run-good : {a : Ran Registers Memories} → a ≡ wordsFrom start bytes m → length (m .i) ≡ length (m .z) → a ≡ running start bytes m
       run-good ran like = ran ∙ running-good (lengths-told bytes m (sym number ∙ none) true (eq-eqb _ _ like))

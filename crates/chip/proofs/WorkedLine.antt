@@ -19,5 +19,9 @@ use Rattle.chip.specs.Dashes.{offersAlong}
 use Rattle.chip.specs.WorkedLine.{begun, WorkedLine}
 
 pub worked-line : WorkedLine
-unfolding begun offersAlong eachIn nextIn registersIn refusalOf inBounds frameFits modesFit windowFits vertexFits figureFits parkedFits regionFits initAllowed effectOf parmOf coordinateOf coordinateCompletes recordAfter completedBy shapeOf grownOf completes decode wordOf subcommandOf settings lineOf offersIn modeOf wholeOffers isCut figureOffers layoutOf isWhole rowsIn rowsOf mine inMemory inWindow shows offered keep spans larger smaller xLeads sideAt xAt yAt isSet firstOf from dashOffers segmentOffers
+unfolding
+    begun offersAlong eachIn nextIn registersIn refusalOf inBounds frameFits modesFit windowFits vertexFits figureFits parkedFits regionFits
+    initAllowed effectOf parmOf coordinateOf coordinateCompletes recordAfter completedBy shapeOf grownOf completes decode wordOf
+    subcommandOf settings lineOf offersIn modeOf wholeOffers isCut figureOffers layoutOf isWhole rowsIn rowsOf mine inMemory inWindow shows
+    offered keep spans larger smaller xLeads sideAt xAt yAt isSet firstOf from dashOffers segmentOffers
 worked-line = record { dashed = refl; offers = refl; closed = refl }

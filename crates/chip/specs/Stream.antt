@@ -24,7 +24,11 @@ flawIn bytes ni nz = checked bytes (cond (eqb ni nz) 0 2)
 unfoldable pub flawOf : List ℕ → Memories → ℕ
 flawOf bytes m = flawIn bytes (length (m .i)) (length (m .z))
 
+-- the words of a stream run from a record, one after the other until one is refused
+abbrev pub wordsFrom : Registers → List ℕ → Memories → Ran Registers Memories
+wordsFrom r bytes m = runOf (stepOf chip) r (wordsOf bytes) m
+
 -- a stream runs from a record, word by word until one is refused; refused before the first word, index and sum are 0, the registers
 -- that record, and the memories untouched
 unfoldable pub running : Registers → List ℕ → Memories → Ran Registers Memories
-running r bytes m = cond (eqb (flawOf bytes m) 0) (runOf (stepOf chip) r (wordsOf bytes) m) (ran (flawOf bytes m) 0 0 r m)
+running r bytes m = cond (eqb (flawOf bytes m) 0) (wordsFrom r bytes m) (ran (flawOf bytes m) 0 0 r m)

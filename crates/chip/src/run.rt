@@ -6,10 +6,8 @@ ghost use Rattle.stream.specs.Format.{wordAt};
 ghost use Rattle.registers.specs.Bounds.{inBounds};
 ghost use Rattle.registers.specs.Word.{wordOf};
 ghost use Rattle.registers.specs.Record.{resetAs, resetOf};
-ghost use Rattle.machine.specs.Run.{ran, runOf};
-ghost use Rattle.machine.specs.Machine.{stepOf};
-ghost use Rattle.chip.specs.Chip.{chip};
-ghost use Rattle.chip.specs.Stream.{wordsOf};
+ghost use Rattle.machine.specs.Run.{ran};
+ghost use Rattle.chip.specs.Stream.{wordsFrom};
 ghost use Rattle.machine.specs.Lent.{found, left};
 ghost use Rattle.chip.specs.Promises.{Takes, RunsFrom};
 use crate::step::Answer;
@@ -42,7 +40,7 @@ fn step_at(r: Registers, bytes: &[u8], k: usize, im: &mut [u16], zm: &mut [u16])
 // The words of a stream, one after the other, until one is refused. Bounds and lengths hold from reset on, so that no word asks about them.
 fn run_words(start: Registers, bytes: &[u8], im: &mut [u16], zm: &mut [u16]) -> Ran
     requires { ⌜ (inBounds start ≡ true) × (length (now im) ≡ length (now zm)) ⌝ }
-    ensures { λ a. ⌜ ran (a .refusal) (a .index) (a .sum) (a .registers) (left im zm) ≡ runOf (stepOf chip) start (wordsOf (now (bytes .entry))) (found im zm) ⌝ }
+    ensures { λ a. ⌜ ran (a .refusal) (a .index) (a .sum) (a .registers) (left im zm) ≡ wordsFrom start (now (bytes .entry)) (found im zm) ⌝ }
 {
     let count = held(bytes);
     let mut r = start;

@@ -2,8 +2,7 @@
 // same definitions. include/dextolumen.h has the C side. Other entries are in crates of their own: `reader` and `recording`, and in those of
 // the calls that they are: `stream`, `board`, `instalments`, `mending`, `squares`.
 ghost use Rattle.registers.specs.Word.{decode};
-ghost use Rattle.machine.specs.Lent.{found, left};
-ghost use Rattle.chip.specs.Promises.{Takes};
+ghost use Rattle.chip.specs.Promises.{TakesInPlace};
 use chip::step::step;
 use registers::Registers;
 
@@ -23,7 +22,7 @@ pub extern "C" fn dextolumen_step(
     im: &mut [u16],
     zm: &mut [u16],
 ) -> Told
-    ensures { λ a. ⌜ Takes (now (registers .entry)) (decode command «data») (found im zm) (a .refusal) (a .passed) (now (registers .exit)) (left im zm) ⌝ }
+    ensures { λ a. ⌜ TakesInPlace registers (decode command «data») im zm (a .refusal) (a .passed) ⌝ }
 {
     let a = step(*registers, command, data, im, zm);
     let next = a.registers;

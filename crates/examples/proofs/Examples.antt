@@ -196,7 +196,10 @@ small p q r ps e h o =
         (ltb-true _ _ (h .0), ltb-true _ _ (h .1), g .1)
 
 pub examples : Claim
-unfolding table checked badLength badTail walk through larger smaller xLeads sideAt xAt yAt numberAt every agree inSquare among covered covers closed inside plusOf minusOf inMemory mine layoutOf inWindow shows offered keep spans shadeOffers segmentOffers mixed shade pixelAt pixelOffers triangleOffers lineOf
+unfolding
+    table checked badLength badTail walk through larger smaller xLeads sideAt xAt yAt numberAt every agree inSquare among covered covers
+    closed inside plusOf minusOf inMemory mine layoutOf inWindow shows offered keep spans shadeOffers segmentOffers mixed shade pixelAt
+    pixelOffers triangleOffers lineOf
 examples =
     lines _ _ _ refl refl also lines _ _ _ refl refl
     also ramped _ _ _ _ refl refl refl also ramped _ _ _ _ refl refl refl

@@ -51,6 +51,11 @@ intakeOf t =
 abbrev pub fresh : Intake
 fresh = record { refusal = 0; index = 0; sum = 0; held = 0; count = 0; over = 0; registers = resetOf }
 
+-- the same words run, with another number, other bits held and another end
+abbrev pub answering : Intake → ℕ → ℕ → ℕ → ℕ → Intake
+answering s refusal held count over =
+    record { refusal = refusal; index = s .index; sum = s .sum; held = held; count = count; over = over; registers = s .registers }
+
 -- a word was refused, or the end was told
 abbrev pub isClosed : ℕ → ℕ → Bool
 isClosed refusal over = not (eqb refusal 0) || not (eqb over 0)

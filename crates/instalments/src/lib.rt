@@ -4,7 +4,7 @@ ghost use mathlib.Core.Path.{_≡_};
 ghost use mathlib.Core.Bool.{true, false};
 ghost use Prim.Native.Nat.{_^_, _<_};
 ghost use Rattle.machine.specs.Machine.{memories};
-ghost use Rattle.instalments.specs.Instalments.{soFar, taking, fresh, isClosed, isWordNumber, isEndNumber, numberFits, bitsFit, isSound, wordIn, bytesIn, feeding, endNumber, ending};
+ghost use Rattle.instalments.specs.Instalments.{soFar, taking, fresh, answering, isClosed, isWordNumber, isEndNumber, numberFits, bitsFit, isSound, wordIn, bytesIn, feeding, endNumber, ending};
 ghost use Rattle.machine.specs.Lent.{found, left};
 use chip::step::step;
 use registers::Registers;
@@ -95,7 +95,7 @@ fn is_sound(s: Intake) -> bool
 
 // The same words run, with another number, other bits held and another end.
 fn answer(s: Intake, refusal: u64, held: u32, count: u32, over: u32) -> Intake
-    ensures { λ a. ⌜ a ≡ record { refusal = refusal; index = s .index; sum = s .sum; held = held; count = count; over = over; registers = s .registers } ⌝ }
+    ensures { λ a. ⌜ a ≡ answering s refusal held count over ⌝ }
 {
     let registers = s.registers;
     Intake {

@@ -4,13 +4,17 @@ use mathlib.Core.Bool.{Bool, cond, _||_}
 use mathlib.Core.List.{List, [], _∷_, map}
 use lib.ListN.{length, getD}
 use lib.Dec.{ltb, eqb}
+use denote.Ref.{now}
+use denote.Triple.Both.{Both}
 use Rattle.stream.specs.Format.{unpackOf, packOf}
 use Rattle.stream.specs.Calls.{badTail, over}
 use Rattle.registers.specs.declared.Registers.{Registers}
 use Rattle.registers.specs.Record.{resetOf}
 use Rattle.registers.specs.Word.{wordOf}
 use Rattle.registers.specs.Refusal.{refusalOf, next}
+use Rattle.picture.specs.Lent.{Memory, Lent}
 use Rattle.machine.specs.Machine.{Memories, stepOf}
+use Rattle.machine.specs.Lent.{found, left}
 use Rattle.machine.specs.Offers.{allOf}
 use Rattle.chip.specs.Chip.{chip}
 use Rattle.chip.specs.Stream.{wordsOf}
@@ -121,3 +125,15 @@ module _ (bytes stream indices numbers : List ℕ) (m : Memories) where
   -- a refusal touches nothing
   unfoldable pub mendingOf : Mending
   mendingOf = cond (eqb refusalIn 0) mendedAll (mending (refused refusalIn) stream indices numbers m)
+
+-- ---- over what is lent: the output, the two lists and the memories
+
+-- what a call comes to that told this
+abbrev pub outcomeOver : Mended → Lent → Lent → Lent → Lent → Lent → Mending
+outcomeOver told stream indices numbers im zm =
+    mending told (now (stream .exit)) (now (indices .exit)) (now (numbers .exit)) (left im zm)
+
+-- what mending the bytes comes to over these as a call finds them
+abbrev pub mendingOver : {X : Type 0} → Both Memory X → Lent → Lent → Lent → Lent → Lent → Mending
+mendingOver bytes stream indices numbers im zm =
+    mendingOf (now (bytes .entry)) (now (stream .entry)) (now (indices .entry)) (now (numbers .entry)) (found im zm)

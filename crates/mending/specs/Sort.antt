@@ -6,6 +6,9 @@ use mathlib.Core.List.{List}
 use lib.ListN.{length}
 use lib.Seq.{sets}
 use lib.Dec.{eqb}
+use denote.Ref.{now}
+use denote.Triple.Both.{Both}
+use Rattle.picture.specs.Lent.{Memory, Lent}
 use Rattle.stream.specs.Format.{packOf}
 use Rattle.stream.specs.Calls.{over}
 use Rattle.registers.specs.declared.Registers.{Registers}
@@ -31,3 +34,9 @@ pub record Sorted (bytes out₀ indices₀ numbers₀ out indices numbers : List
   pub stream : out ≡ over (mendedOf bytes 0) out₀
   pub places : indices ≡ over (indicesOf (droppedOf bytes 0)) indices₀
   pub reasons : numbers ≡ over (numbersOf (droppedOf bytes 0)) numbers₀
+
+-- by what a call is lent
+abbrev pub Sorts : {X : Type 0} → Both Memory X → Lent → Lent → Lent → Type 0
+Sorts bytes out indices numbers =
+    Sorted (now (bytes .entry)) (now (out .entry)) (now (indices .entry)) (now (numbers .entry))
+    (now (out .exit)) (now (indices .exit)) (now (numbers .exit))

@@ -3,9 +3,7 @@
 mod sort;
 
 ghost use mathlib.Core.Path.{_≡_};
-ghost use Rattle.machine.specs.Machine.{memories};
-ghost use Rattle.mending.specs.Mend.{cutOf, clearedOf, refused, mending, mendingOf};
-ghost use Rattle.machine.specs.Lent.{found, left};
+ghost use Rattle.mending.specs.Mend.{cutOf, clearedOf, refused, outcomeOver, mendingOver};
 use crate::sort::kept;
 use crate::sort::sort;
 use chip::run::run;
@@ -65,7 +63,7 @@ pub extern "C" fn dextolumen_mend(
     im: &mut [u16],
     zm: &mut [u16],
 ) -> Mended
-    ensures { λ t. ⌜ mending t (now (out .exit)) (now (indices .exit)) (now (numbers .exit)) (left im zm) ≡ mendingOf (now (bytes .entry)) (now (out .entry)) (now (indices .entry)) (now (numbers .entry)) (found im zm) ⌝ }
+    ensures { λ t. ⌜ outcomeOver t out indices numbers im zm ≡ mendingOver bytes out indices numbers im zm ⌝ }
 {
     if im.len() != zm.len() {
         return refusing(2);

@@ -6,7 +6,7 @@ ghost use Prim.Native.Nat.{_+_, _*_, _/_, _%_, _≤_, _<_};
 ghost use lib.ListN.{length, set};
 ghost use Rattle.stream.specs.Format.{fit};
 ghost use Rattle.mending.specs.Mend.{keptOf};
-ghost use Rattle.mending.specs.Sort.{Judged, putWaiting, Room, Sorted};
+ghost use Rattle.mending.specs.Sort.{Judged, putWaiting, Room, Sorts};
 use chip::step::Answer;
 use chip::step::step;
 use registers::Registers;
@@ -76,7 +76,7 @@ fn put_dropped(index: usize, number: u64, d: usize, indices: &mut [u64], numbers
 // Writes the stream of the words that are kept, and the list of those that are dropped.
 pub(crate) fn sort(bytes: &[u8], out: &mut [u8], indices: &mut [u64], numbers: &mut [u8])
     requires { ⌜ Room (now bytes) (now out) (now indices) (now numbers) ⌝ }
-    ensures { λ _. ⌜ Sorted (now (bytes .entry)) (now (out .entry)) (now (indices .entry)) (now (numbers .entry)) (now (out .exit)) (now (indices .exit)) (now (numbers .exit)) ⌝ }
+    ensures { λ _. ⌜ Sorts bytes out indices numbers ⌝ }
 {
     let count = held(bytes);
     let mut r = Registers::reset();

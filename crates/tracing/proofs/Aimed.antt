@@ -111,7 +111,9 @@ module _ (x y : ℕ) where
       pixel-aimed : (constant : Bool) (p q s u : Vertex) (a b : ℕ)
           → pixelOffers (penOf (aimed x y r)) rows constant (cornersOf p q s u) a b ≡ onPixel x y (pixelOffers (penOf r) rows constant (cornersOf p q s u) a b)
       unfolding pixelOffers
-      pixel-aimed constant p q s u a b = at-cond (covers (cornersOf p q s u) a b) (keep (penOf r) rows (pixelAt constant (cornersOf p q s u) a b)) [] (keep-aimed (pixelAt constant (cornersOf p q s u) a b)) (sym at-nil)
+      pixel-aimed constant p q s u a b =
+          let pixel = pixelAt constant (cornersOf p q s u) a b in
+          at-cond (covers (cornersOf p q s u) a b) (keep (penOf r) rows pixel) [] (keep-aimed pixel) (sym at-nil)
 
       row-aimed : (constant : Bool) (p q s u : Vertex) (b : ℕ)
           → rowOffers (penOf (aimed x y r)) rows constant (cornersOf p q s u) b ≡ onPixel x y (rowOffers (penOf r) rows constant (cornersOf p q s u) b)

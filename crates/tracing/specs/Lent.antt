@@ -5,12 +5,9 @@ use mathlib.Core.Path.{_≡_}
 use mathlib.Core.List.{List}
 use Prim.Native.Nat.{ℕ}
 use Rattle.picture.specs.Lent.{Memory, Lent}
-use Rattle.registers.specs.declared.Registers.{Registers}
-use Rattle.registers.specs.declared.shape.Completed.{Completed}
 use Rattle.chip.specs.declared.run.Ran.{Ran as Told}
 use Rattle.tracing.specs.declared.Turn.{Turn}
 use Rattle.tracing.specs.Trace.{Run, standing, Turns}
-use Rattle.tracing.specs.Watch.{passesAt}
 
 -- the run so far, over the memories as they were found
 abbrev pub soFar : Told → Lent → Lent → Run
@@ -22,7 +19,8 @@ Turned line bytes a im zm out at t =
     Turns (now (bytes .entry)) (line (now (bytes .entry)) (soFar a im zm)) (soFar a im zm) (now (out .entry)) at t (now (im .exit)) (now (zm .exit))
     (now (out .exit))
 
--- how many pixels of a figure pass at (x, y) was told, and both memories stay
-abbrev pub PassedAt : ℕ → ℕ → Registers → Completed → Lent → Lent → ℕ → Type 0
-PassedAt x y r figure im zm n =
-    (n ≡ passesAt x y r figure (now (im .entry)) (now (zm .entry))) × (now (im .exit) ≡ now (im .entry)) × (now (zm .exit) ≡ now (zm .entry))
+-- a number that follows from what the memories hold was told, and both stay as they were
+pub record Counts (count : List ℕ → List ℕ → ℕ) (im zm : Lent) (n : ℕ) : Type 0 where
+  pub told : n ≡ count (now (im .entry)) (now (zm .entry))
+  pub i-stays : now (im .exit) ≡ now (im .entry)
+  pub z-stays : now (zm .exit) ≡ now (zm .entry)

@@ -6,8 +6,8 @@ ghost use lib.Dec.{eqb};
 ghost use Rattle.registers.specs.Record.{window};
 ghost use Rattle.report.specs.Calls.{Laid};
 ghost use Rattle.listing.specs.Trace.{watchLine};
-ghost use Rattle.tracing.specs.Lent.{PassedAt, Turned};
-ghost use Rattle.tracing.specs.Watch.{narrowed, aimed, loadsAt, hitsOf, numbersAt, watchAt};
+ghost use Rattle.tracing.specs.Lent.{Counts, Turned};
+ghost use Rattle.tracing.specs.Watch.{narrowed, aimed, passesAt, loadsAt, hitsOf, numbersAt, watchAt};
 use crate::Turn;
 use crate::next::is_over;
 use crate::next::take;
@@ -56,7 +56,7 @@ fn aim(mut r: Registers, x: u16, y: u16) -> Registers
 
 // How many pixels of a figure pass at (x, y). With those registers none is stored.
 fn passes_at(r: Registers, figure: Completed, x: u16, y: u16, im: &mut [u16], zm: &mut [u16]) -> u64
-    ensures { λ n. ⌜ PassedAt x y r figure im zm n ⌝ }
+    ensures { λ n. ⌜ Counts (passesAt x y r figure) im zm n ⌝ }
 {
     let q = aim(r, x, y);
     draw(q, figure, im, zm)
@@ -75,7 +75,7 @@ fn loads_at(r: Registers, x: u16, y: u16, ni: usize, nz: usize) -> u64
 
 // How many pixels a word has at (x, y), if it is accepted.
 fn hits(r: Registers, word: Word, x: u16, y: u16, im: &mut [u16], zm: &mut [u16]) -> u64
-    ensures { λ n. ⌜ (n ≡ hitsOf x y r word (now (im .entry)) (now (zm .entry))) × (now (im .exit) ≡ now (im .entry)) × (now (zm .exit) ≡ now (zm .entry)) ⌝ }
+    ensures { λ n. ⌜ Counts (hitsOf x y r word) im zm n ⌝ }
 {
     match word {
         Word::Init(_) => 0,

@@ -38,7 +38,8 @@ returns c =
     (λ (p : Pen) (m : Mode).
     drawn p
     (segmentOffers p (rowsOf (p .frame) (length (a .im .now)) (length (a .zm .now)))
-    (record { mode = m; pattern = a .pattern; foreground = a .foreground; background = a .background; steps = 0; joined = false }) (vertexOf (a .ax) (a .ay) (a .ai) (a .az)) (vertexOf (a .bx) (a .by) (a .bi) (a .bz)))
+    (record { mode = m; pattern = a .pattern; foreground = a .foreground; background = a .background; steps = 0; joined = false })
+    (vertexOf (a .ax) (a .ay) (a .ai) (a .az)) (vertexOf (a .bx) (a .by) (a .bi) (a .bz)))
     (picture (a .im .now) (a .zm .now) 0))
     (at-pen-of .pen-of .ensures) (at-mode-of .mode-of .ensures)
 

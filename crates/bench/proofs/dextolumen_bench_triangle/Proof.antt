@@ -31,7 +31,8 @@ returns c =
     ∙ ap
     (λ (p : Pen).
     drawn p
-    (triangleOffers p (rowsOf (p .frame) (length (a .im .now)) (length (a .zm .now))) (a .constant) (vertexOf (a .ax) (a .ay) (a .ai) (a .az)) (vertexOf (a .bx) (a .by) (a .bi) (a .bz)) (vertexOf (a .cx) (a .cy) (a .ci) (a .cz)))
+    (triangleOffers p (rowsOf (p .frame) (length (a .im .now)) (length (a .zm .now))) (a .constant)
+    (vertexOf (a .ax) (a .ay) (a .ai) (a .az)) (vertexOf (a .bx) (a .by) (a .bi) (a .bz)) (vertexOf (a .cx) (a .cy) (a .ci) (a .cz)))
     (picture (a .im .now) (a .zm .now) 0))
     (at-pen-of .pen-of .ensures)
 

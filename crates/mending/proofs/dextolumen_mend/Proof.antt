@@ -44,7 +44,8 @@ returns-2 : tie.Need-returns-2
 returns-2 c =
     let h = c .before .before in
     let a = h .before .before .before .before .before .before .before .before .before .args in
-    mend-short _ _ _ _ (memories (now (a .im)) (now (a .zm))) (h .before .before .if1 .left) (h .before .kept .ensures) (h .held .ensures) (c .refusing2 .ensures) (c .before .if2 .taken)
+    mend-short _ _ _ _ (memories (now (a .im)) (now (a .zm))) (h .before .before .if1 .left) (h .before .kept .ensures) (h .held .ensures)
+    (c .refusing2 .ensures) (c .before .if2 .taken)
 
 -- past the tests there is room for all
 room : (e : tie.Else2) → let a = e .before .before .before .before .before .before .before .before .before .before .args in Room (now (a .bytes)) (now (a .out)) (now (a .indices)) (now (a .numbers))
@@ -58,7 +59,9 @@ sort-requires c κs = room (c .before .before .before)
 
 -- so the new stream is a part of the output
 part : (s : tie.After-sort) → (s .before .before .before .before .before .before .kept .result * 5 + 1) / 2 ≤ length (s .sort .last .1 .0)
-part s = omega (arith, room (s .before .before .before .before) .stream, size-told _ (s .before .before .before .before .before .before .kept .ensures) (s .before .before .before .before .before .held .ensures) 0, s .sort .kept .1 .0)
+part s =
+    let e = s .before .before .before .before in
+    omega (arith, room e .stream, size-told _ (e .before .before .kept .ensures) (e .before .held .ensures) 0, s .sort .kept .1 .0)
 
 slice-reshare-prefix-run : tie.Need-slice-reshare-prefix-run
 slice-reshare-prefix-run c = part (c .before .before .before .before .before .before)

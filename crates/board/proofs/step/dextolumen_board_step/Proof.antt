@@ -19,7 +19,8 @@ refused-requires c κs = search needs
 returns : tie.Need-returns
 returns c =
     let at-is-even = c .before .before .before .before in
-    step-unfit _ _ (at-is-even .is-even .ensures) (c .before .before .before .is-whole .ensures) _ _ (c .before .before .if1 .taken) (c .before .unfit-number .ensures) (c .refused .ensures)
+    step-unfit _ _ (at-is-even .is-even .ensures) (c .before .before .before .is-whole .ensures) _ _ (c .before .before .if1 .taken)
+    (c .before .unfit-number .ensures) (c .refused .ensures)
 
 command-of-requires : tie.Need-command-of-requires
 command-of-requires c κs = search needs
@@ -33,56 +34,42 @@ units-step-requires c κs =
     let at-is-whole = at-if1 .before in
     whole-low _ _ (at-is-whole .is-whole .ensures) (at-if1 .if1 .left)
 
+-- from the last moment back to that after the units took the word
+abbrev taken : tie.After-slice-known16 → tie.After-units-step
+taken c = c .before .before .before .before .before .before .before .before .before .before .before .before .before .before .before .before
+
+-- and to that where the word that they are given is known
+abbrev sent : tie.After-slice-known16 → tie.After-data-of
+sent c = taken c .before .before .before .before .before .before .before .before .before
+
 same-length : tie.Need-same-length
-same-length c =
-    let at-units-step = c .before .before .before .before .before .before .before .before .before .before .before .before .before .before .before .before in
-    at-units-step .units-step .kept .1 .1 .1 .0
+same-length c = taken c .units-step .kept .1 .1 .1 .0
 
 same-length-2 : tie.Need-same-length-2
-same-length-2 c =
-    let at-units-step = c .before .before .before .before .before .before .before .before .before .before .before .before .before .before .before .before in
-    at-units-step .units-step .kept .1 .1 .1 .1 .0
+same-length-2 c = taken c .units-step .kept .1 .1 .1 .1 .0
 
 same-length-3 : tie.Need-same-length-3
-same-length-3 c =
-    let at-units-step = c .before .before .before .before .before .before .before .before .before .before .before .before .before .before .before .before in
-    at-units-step .units-step .kept .1 .1 .1 .1 .1 .0
+same-length-3 c = taken c .units-step .kept .1 .1 .1 .1 .1 .0
 
 same-length-4 : tie.Need-same-length-4
-same-length-4 c =
-    let at-units-step = c .before .before .before .before .before .before .before .before .before .before .before .before .before .before .before .before in
-    at-units-step .units-step .kept .1 .1 .1 .1 .1 .1 .0
+same-length-4 c = taken c .units-step .kept .1 .1 .1 .1 .1 .1 .0
 
 same-length-5 : tie.Need-same-length-5
-same-length-5 c =
-    let at-units-step = c .before .before .before .before .before .before .before .before .before .before .before .before .before .before .before .before in
-    at-units-step .units-step .kept .1 .1 .1 .1 .1 .1 .1 .0
+same-length-5 c = taken c .units-step .kept .1 .1 .1 .1 .1 .1 .1 .0
 
 same-length-6 : tie.Need-same-length-6
-same-length-6 c =
-    let at-units-step = c .before .before .before .before .before .before .before .before .before .before .before .before .before .before .before .before in
-    at-units-step .units-step .kept .1 .1 .1 .1 .1 .1 .1 .1 .0
+same-length-6 c = taken c .units-step .kept .1 .1 .1 .1 .1 .1 .1 .1 .0
 
 same-length-7 : tie.Need-same-length-7
-same-length-7 c =
-    let at-units-step = c .before .before .before .before .before .before .before .before .before .before .before .before .before .before .before .before in
-    at-units-step .units-step .kept .1 .1 .1 .1 .1 .1 .1 .1 .1 .0
+same-length-7 c = taken c .units-step .kept .1 .1 .1 .1 .1 .1 .1 .1 .1 .0
 
 same-length-8 : tie.Need-same-length-8
-same-length-8 c =
-    let at-units-step = c .before .before .before .before .before .before .before .before .before .before .before .before .before .before .before .before in
-    at-units-step .units-step .kept .1 .1 .1 .1 .1 .1 .1 .1 .1 .1 .0
+same-length-8 c = taken c .units-step .kept .1 .1 .1 .1 .1 .1 .1 .1 .1 .1 .0
 
 returns-2 : tie.Need-returns-2
 returns-2 c =
-    step-whole _ _
-    (c .before .before .before .before .before .before .before .before .before .before .before .before .before .before .before .before .before .before .before .before .before .before .before .before .before .before .before .before .before .is-even .ensures)
-    (c .before .before .before .before .before .before .before .before .before .before .before .before .before .before .before .before .before .before .before .before .before .before .before .before .before .before .before .before .is-whole .ensures)
-    _ _
-    (c .before .before .before .before .before .before .before .before .before .before .before .before .before .before .before .before .before .before .before .before .before .before .before .before .before .before .before .if1 .left)
-    (c .before .before .before .before .before .before .before .before .before .before .before .before .before .before .before .before .before .before .before .before .before .before .before .before .before .before .command-of .ensures)
-    (c .before .before .before .before .before .before .before .before .before .before .before .before .before .before .before .before .before .before .before .before .before .before .before .before .before .data-of .ensures)
-    (c .before .before .before .before .before .before .before .before .before .before .before .before .before .before .before .before .units-step .ensures)
+    step-whole _ _ (sent c .before .before .before .before .is-even .ensures) (sent c .before .before .before .is-whole .ensures) _ _
+    (sent c .before .before .if1 .left) (sent c .before .command-of .ensures) (sent c .data-of .ensures) (taken c .units-step .ensures)
 
 pub dextolumen-board-step-spec : {M : Type 1} → statement M
 dextolumen-board-step-spec =

@@ -30,17 +30,23 @@ returns c =
 
 part-of-requires-2 : tie.Need-part-of-requires-2
 part-of-requires-2 c κs =
-    let start = c .before .before .before .before .before .before .before .before .before .before .before .before .before .before .before .before .before .before .before .before in
+    let at-part-of = c .before .before .before .before .before .before .before .before in
+    let start = at-part-of .before .before .before .before .before .before .before .before .before .before .before .before in
     (start .pre, omega arith)
 
 part-of-requires-3 : tie.Need-part-of-requires-3
 part-of-requires-3 c κs =
-    let start = c .before .before .before .before .before .before .before .before .before .before .before .before .before .before .before .before .before .before .before .before .before .before .before .before .before .before .before in
+    let at-part-of2 = c .before .before .before .before .before .before in
+    let at-part-of = at-part-of2 .before .before .before .before .before .before .before .before .before in
+    let start = at-part-of .before .before .before .before .before .before .before .before .before .before .before .before in
     (start .pre, omega arith)
 
 part-of-requires-4 : tie.Need-part-of-requires-4
 part-of-requires-4 c κs =
-    let start = c .before .before .before .before .before .before .before .before .before .before .before .before .before .before .before .before .before .before .before .before .before .before .before .before .before .before .before .before .before .before .before .before .before .before in
+    let at-part-of3 = c .before .before .before .before .before .before in
+    let at-part-of2 = at-part-of3 .before .before .before .before .before .before .before in
+    let at-part-of = at-part-of2 .before .before .before .before .before .before .before .before .before in
+    let start = at-part-of .before .before .before .before .before .before .before .before .before .before .before .before in
     (start .pre, omega arith)
 
 in-layout-requires : tie.Need-in-layout-requires
@@ -48,7 +54,9 @@ in-layout-requires c κs = search needs
 
 add-t37 : tie.Need-add-t37
 add-t37 c =
-    let at-part-of2 = c .before .before .before .before .before .before .before .before .before .before .before .before .before .before .before .before .before .before .before .before .before .before in
+    let at-part-of4 = c .before .before .before .before .before .before .before .before in
+    let at-part-of3 = at-part-of4 .before .before .before .before .before .before .before in
+    let at-part-of2 = at-part-of3 .before .before .before .before .before .before .before in
     let at-part-of = at-part-of2 .before .before .before .before .before .before .before .before .before in
     omega (arith, at-part-of .part-of .ensures .low, at-part-of2 .part-of2 .ensures .low)
 
@@ -65,47 +73,50 @@ add-t39 c =
     let at-part-of3 = at-part-of4 .before .before .before .before .before .before .before in
     let at-part-of2 = at-part-of3 .before .before .before .before .before .before .before in
     let at-part-of = at-part-of2 .before .before .before .before .before .before .before .before .before in
-    omega (arith, at-part-of .part-of .ensures .low, at-part-of2 .part-of2 .ensures .low, at-part-of3 .part-of3 .ensures .low, at-part-of4 .part-of4 .ensures .low)
+    omega (
+      arith,
+      at-part-of .part-of .ensures .low,
+      at-part-of2 .part-of2 .ensures .low,
+      at-part-of3 .part-of3 .ensures .low,
+      at-part-of4 .part-of4 .ensures .low,
+    )
+
+-- from the last moment back to those after the fourth unit, the third, the second and the first took the word
+abbrev fourth : tie.After-struct-known5 → tie.After-part-of4
+fourth c = c .before .before .before .before .before .before .before .before .before .before
+
+abbrev third : tie.After-struct-known5 → tie.After-part-of3
+third c = fourth c .before .before .before .before .before .before .before
+
+abbrev second : tie.After-struct-known5 → tie.After-part-of2
+second c = third c .before .before .before .before .before .before .before
+
+abbrev first : tie.After-struct-known5 → tie.After-part-of
+first c = second c .before .before .before .before .before .before .before .before .before
 
 same-length-3 : tie.Need-same-length-3
-same-length-3 c =
-    let at-part-of = c .before .before .before .before .before .before .before .before .before .before .before .before .before .before .before .before .before .before .before .before .before .before .before .before .before .before .before .before .before .before .before .before .before in
-    at-part-of .part-of .kept .1 .1 .1 .1 .1 .0
+same-length-3 c = first c .part-of .kept .1 .1 .1 .1 .1 .0
 
 same-length-4 : tie.Need-same-length-4
-same-length-4 c =
-    let at-part-of = c .before .before .before .before .before .before .before .before .before .before .before .before .before .before .before .before .before .before .before .before .before .before .before .before .before .before .before .before .before .before .before .before .before in
-    at-part-of .part-of .kept .1 .1 .1 .1 .1 .1 .0
+same-length-4 c = first c .part-of .kept .1 .1 .1 .1 .1 .1 .0
 
 same-length-5 : tie.Need-same-length-5
-same-length-5 c =
-    let at-part-of2 = c .before .before .before .before .before .before .before .before .before .before .before .before .before .before .before .before .before .before .before .before .before .before .before .before in
-    at-part-of2 .part-of2 .kept .1 .1 .1 .1 .1 .0
+same-length-5 c = second c .part-of2 .kept .1 .1 .1 .1 .1 .0
 
 same-length-6 : tie.Need-same-length-6
-same-length-6 c =
-    let at-part-of2 = c .before .before .before .before .before .before .before .before .before .before .before .before .before .before .before .before .before .before .before .before .before .before .before .before in
-    at-part-of2 .part-of2 .kept .1 .1 .1 .1 .1 .1 .0
+same-length-6 c = second c .part-of2 .kept .1 .1 .1 .1 .1 .1 .0
 
 same-length-7 : tie.Need-same-length-7
-same-length-7 c =
-    let at-part-of3 = c .before .before .before .before .before .before .before .before .before .before .before .before .before .before .before .before .before in
-    at-part-of3 .part-of3 .kept .1 .1 .1 .1 .1 .0
+same-length-7 c = third c .part-of3 .kept .1 .1 .1 .1 .1 .0
 
 same-length-8 : tie.Need-same-length-8
-same-length-8 c =
-    let at-part-of3 = c .before .before .before .before .before .before .before .before .before .before .before .before .before .before .before .before .before in
-    at-part-of3 .part-of3 .kept .1 .1 .1 .1 .1 .1 .0
+same-length-8 c = third c .part-of3 .kept .1 .1 .1 .1 .1 .1 .0
 
 same-length-9 : tie.Need-same-length-9
-same-length-9 c =
-    let at-part-of4 = c .before .before .before .before .before .before .before .before .before .before in
-    at-part-of4 .part-of4 .kept .1 .1 .1 .1 .1 .0
+same-length-9 c = fourth c .part-of4 .kept .1 .1 .1 .1 .1 .0
 
 same-length-10 : tie.Need-same-length-10
-same-length-10 c =
-    let at-part-of4 = c .before .before .before .before .before .before .before .before .before .before in
-    at-part-of4 .part-of4 .kept .1 .1 .1 .1 .1 .1 .0
+same-length-10 c = fourth c .part-of4 .kept .1 .1 .1 .1 .1 .1 .0
 
 returns-2 : tie.Need-returns-2
 returns-2 c =
@@ -115,7 +126,8 @@ returns-2 c =
     let at-part-of2 = at-part-of3 .before .before .before .before .before .before .before in
     let at-if1 = at-part-of2 .before .before .before in
     let at-part-of = at-if1 .before .before .before .before .before .before in
-    units-accepted _ _ _ (at-part-of .part-of .ensures) (at-part-of2 .part-of2 .ensures) (at-part-of3 .part-of3 .ensures) (at-part-of4 .part-of4 .ensures) (at-if1 .if1 .left) (at-in-layout .in-layout .ensures)
+    units-accepted _ _ _ (at-part-of .part-of .ensures) (at-part-of2 .part-of2 .ensures) (at-part-of3 .part-of3 .ensures)
+    (at-part-of4 .part-of4 .ensures) (at-if1 .if1 .left) (at-in-layout .in-layout .ensures)
 
 pub units-step-spec : {M : Type 1} → statement M
 units-step-spec =

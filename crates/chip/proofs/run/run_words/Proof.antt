@@ -2,20 +2,30 @@
 -- the record breaks no bound. Assumes nothing.
 use mathlib.Core.Path.{_≡_, refl, sym, _∙_}
 use mathlib.Core.Bool.{true}
-use Prim.Native.Nat.{_-_, _≤_}
+use mathlib.Core.List.{List}
+use Prim.Native.Nat.{ℕ, _-_, _≤_}
 use native.Mathlib.Omega.{arith}
 use lib.ListN.{length}
 use borrow.Author.Needs.{needs}
 use Rattle.stream.specs.Format.{unpackOf}
+use Rattle.registers.specs.declared.Registers.{Registers}
 use Rattle.registers.specs.Bounds.{inBounds}
 use Rattle.machine.specs.Machine.{memories}
 use Rattle.chip.proofs.Streams.{Reached, reached-start, reached-more, reached-kept, reached-halt, reached-end}
 use Rattle.chip.proofs.run.run_words.Statement.{statement}
 use Rattle.chip.proofs.run.run_words.Tie as tie
 
+-- k of the words were run, the record breaks no bound, and the memories are as long as they were
+record Going (start : Registers) (bytes im₀ zm₀ : List ℕ) (count : ℕ) (im zm : List ℕ) (r : Registers) (sum k : ℕ) : Type 0 where
+  pub until : k ≤ count
+  pub all : count ≡ length (unpackOf bytes)
+  pub i-long : length im ≡ length im₀
+  pub z-long : length zm ≡ length zm₀
+  pub bounded : inBounds r ≡ true
+  pub so-far : Reached start bytes (memories im₀ zm₀) (memories im zm) r sum k
+
 abbrev Inv-loop : tie.InvT-loop
-Inv-loop bytes im₀ zm₀ count r₀ sum₀ k₀ im zm r sum k =
-    (k ≤ count) × (count ≡ length (unpackOf bytes)) × (length im ≡ length im₀) × (length zm ≡ length zm₀) × (inBounds r ≡ true) × Reached r₀ bytes (memories im₀ zm₀) (memories im zm) r sum k
+Inv-loop bytes im₀ zm₀ count r₀ sum₀ k₀ im zm r sum k = Going r₀ bytes im₀ zm₀ count im zm r sum k
 
 abbrev μ-loop : tie.MeasureT-loop
 μ-loop bytes im₀ zm₀ count r₀ sum₀ k₀ im zm r sum k = count - k
@@ -26,13 +36,14 @@ held-requires c κs = search needs
 loop-holds : tie.Need-loop-holds Inv-loop μ-loop
 loop-holds c =
     let start = c .before .before .before .before in
-    (omega arith, c .held .ensures, refl, refl, start .pre .0, reached-start _ _ _ refl)
+    record { until = omega arith; all = c .held .ensures; i-long = refl; z-long = refl; bounded = start .pre .0; so-far = reached-start _ _ _ refl }
 
 step-at-requires : tie.Need-step-at-requires Inv-loop μ-loop
 step-at-requires c κs =
-    let at = c .before .before .before in
-    let s = at .before .before .before .before .before in
-    (at .loop .inv .4, at .loop .inv .2 ∙ s .pre .1 ∙ sym (at .loop .inv .3))
+    let at-loop = c .before .before .before in
+    let start = at-loop .before .before .before .before .before in
+    let going = at-loop .loop .inv in
+    (going .bounded, going .i-long ∙ start .pre .1 ∙ sym (going .z-long))
 
 same-length : tie.Need-same-length Inv-loop μ-loop
 same-length c = search needs
@@ -44,8 +55,8 @@ returns : tie.Need-returns Inv-loop μ-loop
 returns c =
     let at-step-at = c .before .before .before .before .before .before .before in
     let in-loop = at-step-at .before .before .before in
-    let at-loop = in-loop .before in
-    reached-halt _ _ _ (at-loop .loop .inv .5) (rw (at-loop .loop .inv .1) at (in-loop .loop-test .taken)) (at-step-at .step-at .ensures) (c .if1 .taken)
+    let going = in-loop .before .loop .inv in
+    reached-halt _ _ _ (going .so-far) (rw (going .all) at (in-loop .loop-test .taken)) (at-step-at .step-at .ensures) (c .if1 .taken)
 
 wrapping-add-u64-requires : tie.Need-wrapping-add-u64-requires Inv-loop μ-loop
 wrapping-add-u64-requires c κs = search needs
@@ -60,8 +71,17 @@ loop-again : tie.Need-loop-again Inv-loop μ-loop
 loop-again c =
     let at-step-at = c .before .before .before .before .before .before .before .before in
     let in-loop = at-step-at .before .before .before in
-    let at-loop = in-loop .before in
-    (omega (arith, in-loop .loop-test .taken), at-loop .loop .inv .1, search needs, search needs, reached-kept _ _ _ (at-loop .loop .inv .5) (rw (at-loop .loop .inv .1) at (in-loop .loop-test .taken)) (at-step-at .step-at .ensures) (at-loop .loop .inv .4), rw (c .wrapping-add-u64 .ensures) (reached-more _ _ _ (at-loop .loop .inv .5) (rw (at-loop .loop .inv .1) at (in-loop .loop-test .taken)) (at-step-at .step-at .ensures) (c .before .if1 .left)))
+    let going = in-loop .before .loop .inv in
+    let left = rw (going .all) at (in-loop .loop-test .taken) in
+    let stepped = at-step-at .step-at in
+    record {
+      until = omega (arith, in-loop .loop-test .taken);
+      all = going .all;
+      i-long = stepped .kept .1 .1 .1 .0 ∙ going .i-long;
+      z-long = stepped .kept .1 .1 .1 .1 .0 ∙ going .z-long;
+      bounded = reached-kept _ _ _ (going .so-far) left (stepped .ensures) (going .bounded);
+      so-far = rw (c .wrapping-add-u64 .ensures) (reached-more _ _ _ (going .so-far) left (stepped .ensures) (c .before .if1 .left));
+    }
 
 same-length-3 : tie.Need-same-length-3 Inv-loop μ-loop
 same-length-3 c = search needs
@@ -70,7 +90,7 @@ same-length-4 : tie.Need-same-length-4 Inv-loop μ-loop
 same-length-4 c = search needs
 
 returns-2 : tie.Need-returns-2 Inv-loop μ-loop
-returns-2 c = reached-end _ _ _ (c .before .loop .inv .5) (rw (c .before .loop .inv .1) at (c .loop-test .left))
+returns-2 c = let going = c .before .loop .inv in reached-end _ _ _ (going .so-far) (rw (going .all) at (c .loop-test .left))
 
 pub run-words-spec : {M : Type 1} → statement M
 run-words-spec =

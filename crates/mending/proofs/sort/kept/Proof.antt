@@ -48,7 +48,12 @@ loop-again : tie.Need-loop-again Inv-loop μ-loop
 loop-again c =
     let t = c .before .before .before in
     let i = t .before .before .before .loop .inv in
-    (omega (arith, t .before .before .loop-test .taken), i .1, omega (arith, i .2), kept-more _ (rw (i .1) at (t .before .before .loop-test .taken)) refl (t .before .word .ensures) (t .tried .ensures) (c .if1 .taken) (i .3))
+    let left = t .before .before .loop-test .taken in (
+      omega (arith, left),
+      i .1,
+      omega (arith, i .2),
+      kept-more _ (rw (i .1) at left) refl (t .before .word .ensures) (t .tried .ensures) (c .if1 .taken) (i .3),
+    )
 
 loop-less-2 : tie.Need-loop-less-2 Inv-loop μ-loop
 loop-less-2 c = search needs
@@ -57,7 +62,12 @@ loop-again-2 : tie.Need-loop-again-2 Inv-loop μ-loop
 loop-again-2 c =
     let t = c .before .before .before in
     let i = t .before .before .before .loop .inv in
-    (omega (arith, t .before .before .loop-test .taken), i .1, omega (arith, i .2), kept-past _ (rw (i .1) at (t .before .before .loop-test .taken)) refl (t .before .word .ensures) (t .tried .ensures) (c .if1 .left) (i .3))
+    let left = t .before .before .loop-test .taken in (
+      omega (arith, left),
+      i .1,
+      omega (arith, i .2),
+      kept-past _ (rw (i .1) at left) refl (t .before .word .ensures) (t .tried .ensures) (c .if1 .left) (i .3),
+    )
 
 returns : tie.Need-returns Inv-loop μ-loop
 returns c = let i = c .before .loop .inv in kept-end _ (c .before .loop .r) (rw (i .1) at (c .loop-test .left)) (i .3)

@@ -11,19 +11,27 @@ put-columns-requires : tie.Need-put-columns-requires
 put-columns-requires c κs = search needs
 
 put-columns-requires-2 : tie.Need-put-columns-requires-2
-put-columns-requires-2 c κs = let a = c .before .before .before .before .before .before .args in (omega arith, omega (arith, length-columns 8 (a .c .figures)))
+put-columns-requires-2 c κs =
+    let n = c .before .before .before .before .before .before .args .c in
+    (omega arith, omega (arith, length-columns 8 (n .figures)))
 
 put-columns-requires-3 : tie.Need-put-columns-requires-3
-put-columns-requires-3 c κs = let a = c .before .before .before .before .before .before .before .before .before .before .args in (omega arith, omega (arith, length-columns 8 (a .c .figures), length-columns 16 (a .c .offered)))
+put-columns-requires-3 c κs =
+    let n = c .before .before .before .before .before .before .before .before .before .before .args .c in
+    (omega arith, omega (arith, length-columns 8 (n .figures), length-columns 16 (n .offered)))
 
 put-columns-requires-4 : tie.Need-put-columns-requires-4
-put-columns-requires-4 c κs = let a = c .before .before .before .before .before .before .before .before .before .before .before .before .before .before .args in (omega arith, omega (arith, length-columns 8 (a .c .figures), length-columns 16 (a .c .offered), length-columns 16 (a .c .passed)))
+put-columns-requires-4 c κs =
+    let n = c .before .before .before .before .before .before .before .before .before .before .before .before .before .before .args .c in
+    (omega arith, omega (arith, length-columns 8 (n .figures), length-columns 16 (n .offered), length-columns 16 (n .passed)))
 
 percent-requires : tie.Need-percent-requires
 percent-requires c κs = search needs
 
 put-columns-requires-5 : tie.Need-put-columns-requires-5
-put-columns-requires-5 c κs = let a = c .before .before .before .before .before .before .before .before .before .before .before .before .before .before .before .before .before .before .before .args in (omega arith, omega (arith, length-columns 8 (a .c .figures), length-columns 16 (a .c .offered), length-columns 16 (a .c .passed), length-columns 16 (a .c .hidden)))
+put-columns-requires-5 c κs =
+    let n = c .before .before .before .before .before .before .before .before .before .before .before .before .before .before .before .before .before .before .before .args .c in
+    (omega arith, omega (arith, length-columns 8 (n .figures), length-columns 16 (n .offered), length-columns 16 (n .passed), length-columns 16 (n .hidden)))
 
 same-length : tie.Need-same-length
 same-length c = search needs
@@ -37,7 +45,9 @@ returns c =
     let at-put-columns2 = at-put-columns3 .before .before .before .before in
     let at-put-columns = at-put-columns2 .before .before .before .before in
     put-append
-    (put-append (put-append (put-append (at-put-columns .put-columns .ensures) (at-put-columns2 .put-columns2 .ensures)) (at-put-columns3 .put-columns3 .ensures)) (at-put-columns4 .put-columns4 .ensures))
+    (put-append
+    (put-append (put-append (at-put-columns .put-columns .ensures) (at-put-columns2 .put-columns2 .ensures)) (at-put-columns3 .put-columns3 .ensures))
+    (at-put-columns4 .put-columns4 .ensures))
     (rw (at-percent .percent .ensures) at (c .before .before .put-columns5 .ensures))
 
 pub put-numbers-spec : {M : Type 1} → statement M

@@ -12,7 +12,9 @@ put-count-requires : tie.Need-put-count-requires
 put-count-requires c κs = let s = c .before .before .before .before in (omega (arith, s .pre .0 .gouraud .hidden), omega (arith))
 
 put-count-requires-2 : tie.Need-put-count-requires-2
-put-count-requires-2 c κs = let s = c .before .before .before .before .before .before .before .before .before .before in (omega (arith, s .pre .0 .constant .hidden), omega (arith, kind-line (s .args .name) gouraudName (s .args .t .gouraud) refl))
+put-count-requires-2 c κs =
+    let s = c .before .before .before .before .before .before .before .before .before .before in
+    (omega (arith, s .pre .0 .constant .hidden), omega (arith, kind-line (s .args .name) gouraudName (s .args .t .gouraud) refl))
 
 put-count-requires-3 : tie.Need-put-count-requires-3
 put-count-requires-3 c κs =

@@ -24,17 +24,28 @@ coordinate-requires-2 c κs = search needs
 returns-3 : tie.Need-returns-3
 unfolding askedOf
 returns-3 c =
-    let at-if1 = c .before .before .before .before in
-    let start = at-if1 .before .before .before in
-    rw (le-ltb (start .args .count) 2 (at-if1 .if1 .left), eq-eqb (start .args .count) 3 (c .before .before .before .if2 .left), ← c .before .before .coordinate .ensures, lt-ltb 16383 (c .before .before .coordinate .result) (c .if3 .taken))
+    let x = c .before .before .coordinate in
+    let at-if2 = c .before .before .before in
+    let at-if1 = at-if2 .before in
+    let count = at-if1 .before .before .before .args .count in
+    rw (le-ltb count 2 (at-if1 .if1 .left), eq-eqb count 3 (at-if2 .if2 .left), ← x .ensures, lt-ltb 16383 (x .result) (c .if3 .taken))
 
 returns-4 : tie.Need-returns-4
 unfolding askedOf
 returns-4 c =
+    let y = c .before .before .coordinate2 in
+    let x = c .before .before .before .coordinate in
     let at-if2 = c .before .before .before .before in
     let at-if1 = at-if2 .before in
-    let start = at-if1 .before .before .before in
-    rw (le-ltb (start .args .count) 2 (at-if1 .if1 .left), eq-eqb (start .args .count) 3 (at-if2 .if2 .left), ← c .before .before .before .coordinate .ensures, ← c .before .before .coordinate2 .ensures, le-ltb 16383 (c .before .before .before .coordinate .result) (c .before .if3 .left), lt-ltb 16383 (c .before .before .coordinate2 .result) (c .if4 .taken))
+    let count = at-if1 .before .before .before .args .count in
+    rw (
+      le-ltb count 2 (at-if1 .if1 .left),
+      eq-eqb count 3 (at-if2 .if2 .left),
+      ← x .ensures,
+      ← y .ensures,
+      le-ltb 16383 (x .result) (c .before .if3 .left),
+      lt-ltb 16383 (y .result) (c .if4 .taken),
+    )
 
 cast-t7 : tie.Need-cast-t7
 cast-t7 c = search needs
@@ -45,10 +56,19 @@ cast-t8 c = search needs
 returns-5 : tie.Need-returns-5
 unfolding askedOf
 returns-5 c =
+    let y = c .before .before .coordinate2 in
+    let x = c .before .before .before .coordinate in
     let at-if2 = c .before .before .before .before in
     let at-if1 = at-if2 .before in
-    let start = at-if1 .before .before .before in
-    rw (le-ltb (start .args .count) 2 (at-if1 .if1 .left), eq-eqb (start .args .count) 3 (at-if2 .if2 .left), ← c .before .before .before .coordinate .ensures, ← c .before .before .coordinate2 .ensures, le-ltb 16383 (c .before .before .before .coordinate .result) (c .before .if3 .left), le-ltb 16383 (c .before .before .coordinate2 .result) (c .if4 .left))
+    let count = at-if1 .before .before .before .args .count in
+    rw (
+      le-ltb count 2 (at-if1 .if1 .left),
+      eq-eqb count 3 (at-if2 .if2 .left),
+      ← x .ensures,
+      ← y .ensures,
+      le-ltb 16383 (x .result) (c .before .if3 .left),
+      le-ltb 16383 (y .result) (c .if4 .left),
+    )
 
 pub asked-spec : {M : Type 1} → statement M
 asked-spec =

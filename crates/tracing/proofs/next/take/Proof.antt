@@ -57,7 +57,8 @@ returns c =
     let at-decoded = at-meaning .before in
     let at-word = at-decoded .before .before in
     let a = at-word .before .before .before .before .args in
-    takes (now (a .bytes)) (a .a) (now (a .im)) (now (a .zm)) (at-word .word .ensures) (at-step .step .ensures) (at-meaning .meaning .ensures ∙ ap (meaningOf (a .a .registers)) (at-decoded .decoded .ensures)) (c .move-on .ensures)
+    let means = at-meaning .meaning .ensures ∙ ap (meaningOf (a .a .registers)) (at-decoded .decoded .ensures) in
+    takes (now (a .bytes)) (a .a) (now (a .im)) (now (a .zm)) (at-word .word .ensures) (at-step .step .ensures) means (c .move-on .ensures)
 
 pub take-spec : {M : Type 1} → statement M
 take-spec =

@@ -10,7 +10,10 @@ is-over-requires : tie.Need-is-over-requires
 is-over-requires c κs = search needs
 
 returns : tie.Need-returns
-returns c = let a = c .before .before .before .before .before .before .args in let e = sym (c .before .is-over .ensures) ∙ c .if1 .taken in turns-over (now (a .bytes)) (a .a) (now (a .im)) (now (a .zm)) e (line-over (now (a .bytes)) (a .a) (now (a .im)) (now (a .zm)) e)
+returns c =
+    let a = c .before .before .before .before .before .before .args in
+    let e = sym (c .before .is-over .ensures) ∙ c .if1 .taken in
+    turns-over (now (a .bytes)) (a .a) (now (a .im)) (now (a .zm)) e (line-over (now (a .bytes)) (a .a) (now (a .im)) (now (a .zm)) e)
 
 take-requires : tie.Need-take-requires
 take-requires c κs = sym (c .before .before .before .is-over .ensures) ∙ c .before .before .if1 .left

@@ -43,15 +43,15 @@ enum-told-8 c = search needs
 
 returns : tie.Need-returns
 unfolding hitsOf
-returns c = (rw (c .enum-told .given .1), refl, refl)
+returns c = record { told = rw (c .enum-told .given .1); i-stays = refl; z-stays = refl }
 
 returns-2 : tie.Need-returns-2
 unfolding hitsOf
-returns-2 c = (rw (c .enum-told2 .given .1), refl, refl)
+returns-2 c = record { told = rw (c .enum-told2 .given .1); i-stays = refl; z-stays = refl }
 
 returns-3 : tie.Need-returns-3
 unfolding hitsOf
-returns-3 c = (rw (c .enum-told3 .given .1), refl, refl)
+returns-3 c = record { told = rw (c .enum-told3 .given .1); i-stays = refl; z-stays = refl }
 
 same-length : tie.Need-same-length
 same-length c = search needs
@@ -65,27 +65,32 @@ returns-4 c =
     let at-passes-at = c .before .before .before .before in
     let at-completed-by = at-passes-at .before .before .before in
     let at-word = at-completed-by .before .before in
-    (rw (at-word .word .given .1, ← at-completed-by .completed-by .ensures) (at-passes-at .passes-at .ensures .0), at-passes-at .passes-at .ensures .1, at-passes-at .passes-at .ensures .2)
+    let passes = at-passes-at .passes-at .ensures in
+    record {
+      told = rw (at-word .word .given .1, ← at-completed-by .completed-by .ensures) (passes .told);
+      i-stays = passes .i-stays;
+      z-stays = passes .z-stays;
+    }
 
 returns-5 : tie.Need-returns-5
 unfolding hitsOf
-returns-5 c = (rw (c .enum-told4 .given .1), refl, refl)
+returns-5 c = record { told = rw (c .enum-told4 .given .1); i-stays = refl; z-stays = refl }
 
 returns-6 : tie.Need-returns-6
 unfolding hitsOf
-returns-6 c = (rw (c .before .enum-told5 .given .1) (c .loads-at .ensures), refl, refl)
+returns-6 c = record { told = rw (c .before .enum-told5 .given .1) (c .loads-at .ensures); i-stays = refl; z-stays = refl }
 
 returns-7 : tie.Need-returns-7
 unfolding hitsOf
-returns-7 c = (rw (c .enum-told6 .given .1), refl, refl)
+returns-7 c = record { told = rw (c .enum-told6 .given .1); i-stays = refl; z-stays = refl }
 
 returns-8 : tie.Need-returns-8
 unfolding hitsOf
-returns-8 c = (rw (c .enum-told7 .given .1), refl, refl)
+returns-8 c = record { told = rw (c .enum-told7 .given .1); i-stays = refl; z-stays = refl }
 
 returns-9 : tie.Need-returns-9
 unfolding hitsOf
-returns-9 c = (rw (c .enum-told8 .given .1), refl, refl)
+returns-9 c = record { told = rw (c .enum-told8 .given .1); i-stays = refl; z-stays = refl }
 
 pub hits-spec : {M : Type 1} → statement M
 hits-spec =

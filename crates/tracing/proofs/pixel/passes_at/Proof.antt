@@ -18,7 +18,17 @@ same-length-2 : tie.Need-same-length-2
 same-length-2 c = search needs
 
 returns : tie.Need-returns
-returns c = let a = c .before .before .before .before .before .before .before .before .before .before .args in let is = c .before .before .before .before .before .before .before .aim .ensures in let drew = c .before .before .before .before .draw .ensures in (aimed-count (a .x) (a .y) (a .r) (a .figure) (now (a .im)) (now (a .zm)) is drew, aimed-i (a .x) (a .y) (a .r) (a .figure) (now (a .im)) (now (a .zm)) is drew, aimed-z (a .x) (a .y) (a .r) (a .figure) (now (a .im)) (now (a .zm)) is drew)
+returns c =
+    let at-draw = c .before .before .before .before in
+    let at-aim = at-draw .before .before .before in
+    let a = at-aim .before .before .before .args in
+    let is = at-aim .aim .ensures in
+    let drew = at-draw .draw .ensures in
+    record {
+      told = aimed-count (a .x) (a .y) (a .r) (a .figure) (now (a .im)) (now (a .zm)) is drew;
+      i-stays = aimed-i (a .x) (a .y) (a .r) (a .figure) (now (a .im)) (now (a .zm)) is drew;
+      z-stays = aimed-z (a .x) (a .y) (a .r) (a .figure) (now (a .im)) (now (a .zm)) is drew;
+    }
 
 pub passes-at-spec : {M : Type 1} → statement M
 passes-at-spec = tie.close (tie.spec aim-requires draw-requires same-length same-length-2 returns)

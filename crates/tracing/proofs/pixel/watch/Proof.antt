@@ -12,7 +12,10 @@ is-over-requires : tie.Need-is-over-requires
 is-over-requires c κs = search needs
 
 returns : tie.Need-returns
-returns c = let a = c .before .before .before .before .before .before .args in let e = sym (c .before .is-over .ensures) ∙ c .if1 .taken in turns-over (now (a .bytes)) (a .a) (now (a .im)) (now (a .zm)) e (watch-over (now (a .bytes)) (a .a) (now (a .im)) (now (a .zm)) e (a .x) (a .y))
+returns c =
+    let a = c .before .before .before .before .before .before .args in
+    let e = sym (c .before .is-over .ensures) ∙ c .if1 .taken in
+    turns-over (now (a .bytes)) (a .a) (now (a .im)) (now (a .zm)) e (watch-over (now (a .bytes)) (a .a) (now (a .im)) (now (a .zm)) e (a .x) (a .y))
 
 word-requires : tie.Need-word-requires
 word-requires c κs = search needs
@@ -68,9 +71,14 @@ returns-2 c =
     let a = at-is-over .before .before .before .before .before .args in
     let e = sym (at-is-over .is-over .ensures) ∙ at-if1 .if1 .left in
     let h = at-take .before .before .before .before .before .before .before .hits .ensures in
-    let k = takes-from (h .1) (h .2) (at-take .take .ensures) in
-    let count = hits-word (now (a .bytes)) (a .a .index) (a .x) (a .y) (a .a .registers) (now (a .im)) (now (a .zm)) (at-word .word .ensures) (at-decoded .decoded .ensures) (h .0) in
-    turns-next (now (a .bytes)) (a .a) (now (a .im)) (now (a .zm)) e k (watch-next (now (a .bytes)) (a .a) (now (a .im)) (now (a .zm)) e k (a .x) (a .y) count (at-numbers-at .numbers-at .ensures) (at-numbers-at2 .numbers-at2 .ensures)) (c .before .before .lay .ensures)
+    let k = takes-from (h .i-stays) (h .z-stays) (at-take .take .ensures) in
+    let count =
+    hits-word (now (a .bytes)) (a .a .index) (a .x) (a .y) (a .a .registers) (now (a .im)) (now (a .zm)) (at-word .word .ensures)
+    (at-decoded .decoded .ensures) (h .told) in
+    let line =
+    watch-next (now (a .bytes)) (a .a) (now (a .im)) (now (a .zm)) e k (a .x) (a .y) count (at-numbers-at .numbers-at .ensures)
+    (at-numbers-at2 .numbers-at2 .ensures) in
+    turns-next (now (a .bytes)) (a .a) (now (a .im)) (now (a .zm)) e k line (c .before .before .lay .ensures)
 
 pub watch-spec : {M : Type 1} → statement M
 watch-spec =
