@@ -47,6 +47,31 @@ change-fits u v w p q r hu hv hw hp hq hr = (
   omega (arith, product-fits p w hp hw, product-fits q u hq hu, product-fits r v hr hv),
 )
 
+-- (q - p)(w - u), each factor from 65,536 on
+both : (p q u w m n : ℕ) → m + p ≡ q + 65536 → n + u ≡ w + 65536
+    → m * n + q * u + p * w + 65536 * p + 65536 * u ≡ q * w + p * u + 65536 * q + 65536 * w + 4294967296
+both p q u w m n hm hn =
+    omega (
+      arith,
+      mul-add m n u,
+      add-mul m p u,
+      mul-add p n u,
+      ap (λ (k : ℕ). m * k) hn,
+      ap (λ (k : ℕ). k * u) hm,
+      ap (λ (k : ℕ). p * k) hn,
+      ap (λ (k : ℕ). k * w) hm,
+      add-mul m p w,
+      add-mul q 65536 w,
+      add-mul q 65536 u,
+      mul-add m w 65536,
+      mul-add p w 65536,
+    )
+
+-- what a step changes is (q - p)(w - u) less (r - p)(v - u)
+pub changes : (u v w p q r m n k l : ℕ) → m + p ≡ q + 65536 → n + u ≡ w + 65536 → k + p ≡ r + 65536 → l + u ≡ v + 65536
+    → m * n + 65536 * (k + l) + behind u v w p q r ≡ k * l + 65536 * (m + n) + ahead u v w p q r
+changes u v w p q r m n k l hm hn hk hl = omega (arith, both p q u w m n hm hn, both p r u v k l hk hl)
+
 -- N from corner a, where it is the corner's number times the doubled area
 corner : (ax ay bx by cx cy p q r y : ℕ) →
     p * plusOf ax ay bx by cx cy + y * behind ax bx cx p q r + ay * ahead ax bx cx p q r + ax * behind ay by cy p q r

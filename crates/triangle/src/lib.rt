@@ -57,12 +57,6 @@ pub(crate) struct Side {
     pub(crate) height: Height,
 }
 
-// What a step adds to the weighted sum of three corner numbers, and takes from it.
-pub(crate) struct Change {
-    pub(crate) rise: usize,
-    pub(crate) fall: usize,
-}
-
 // 2 N + D at column 0 of a row, where N is the weighted sum of three corner numbers, and what a row up adds to it, both modulo 2^64; what a pixel to the right
 // adds is counted from `MIDDLE` on, since a product takes no numbers modulo 2^64.
 pub(crate) struct Sum {

@@ -7,15 +7,13 @@ ghost use mathlib.Core.Bool.{true, false};
 ghost use Prim.Native.Nat.{_+_, _*_, _<_, _≤_};
 ghost use Rattle.triangle.specs.Edge.{amount, areaOf};
 ghost use Rattle.triangle.specs.Number.{massOf, mixed};
-ghost use Rattle.triangle.specs.Loops.{Turned, Ready, Sized, ahead, behind, massBy, Covered, Slants, Leans, LeansBoth, Sums, Begins, Begun, Paces, Drifts, Carries};
+ghost use Rattle.triangle.specs.Loops.{Turned, Ready, Sized, massBy, Covered, Slants, Leans, LeansBoth, Sums, Begins, Begun, Paces, Drifts, Carries};
 use crate::CARRIED_ONE;
-use crate::Change;
 use crate::Corners;
 use crate::Edges;
 use crate::MIDDLE;
 use crate::Slopes;
 use crate::Sum;
-use crate::cover::times;
 use ground::least;
 
 // The sum of the corner numbers p, q, r at a covered pixel.
@@ -67,35 +65,33 @@ pub(crate) fn begin(d: usize, g: Slopes, n: usize) -> usize
     n * g.f
 }
 
-// What a step along an axis changes, from the corners' coordinates u, v, w along the other.
-fn change_of(u: u16, v: u16, w: u16, p: u16, q: u16, r: u16) -> Change
-    ensures { λ k. ⌜ (k .rise ≡ ahead u v w p q r) × (k .fall ≡ behind u v w p q r) × (k .rise ≤ 12884508675) × (k .fall ≤ 12884508675) ⌝ }
-{
-    let u = u as usize;
-    let v = v as usize;
-    let w = w as usize;
-    let p = p as usize;
-    let q = q as usize;
-    let r = r as usize;
-    let rise = times(p, v) + times(q, w) + times(r, u);
-    let fall = times(p, w) + times(q, u) + times(r, v);
-    Change { rise, fall }
-}
-
-// What the same step adds to 2 N, from `MIDDLE` on.
-fn slant(u: u16, v: u16, w: u16, p: u16, q: u16, r: u16) -> usize
-    ensures { λ s. ⌜ Slants u v w p q r s ⌝ }
-{
-    let c = change_of(u, v, w, p, q, r);
-    MIDDLE + 2 * c.rise - 2 * c.fall
-}
-
-// A coordinate, or a corner number, times a slant or an area.
+// A coordinate, a corner number or a difference of two times another, or times a slant or an area.
 fn reach(x: usize, s: usize) -> usize
     requires { ⌜ (x ≤ 131071) × (s ≤ 137438953472) ⌝ }
     ensures { λ r. ⌜ (r ≡ x * s) × (r ≤ 18014261070528512) ⌝ }
 {
     x * s
+}
+
+// How far a is above b, from 65,536 on.
+fn over(a: u16, b: u16) -> usize
+    ensures { λ r. ⌜ (r + b ≡ a + 65536) × (r ≤ 131071) ⌝ }
+{
+    a as usize + 65536 - b as usize
+}
+
+// What a step along an axis adds to 2 N, from `MIDDLE` on; u, v, w are the corners' coordinates along the other. By differences it takes two products, and
+// not six.
+fn slant(u: u16, v: u16, w: u16, p: u16, q: u16, r: u16) -> usize
+    ensures { λ s. ⌜ Slants u v w p q r s ⌝ }
+{
+    let m = over(q, p);
+    let n = over(w, u);
+    let k = over(r, p);
+    let l = over(v, u);
+    let rise = reach(m, n) + 65536 * (k + l);
+    let fall = reach(k, l) + 65536 * (m + n);
+    MIDDLE + 2 * rise - 2 * fall
 }
 
 // The sum of the corner numbers p, q, r in row y, from corner a: there N is its number times the doubled area.
