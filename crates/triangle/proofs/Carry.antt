@@ -4,7 +4,8 @@ use Rattle.picture.specs.Draw.{carriedOne}
 use mathlib.Core.Path.{_≡_, refl, sym, ap, _∙_}
 use mathlib.Core.Bool.{Bool, true, false}
 use Prim.Native.Nat.{ℕ, zero, suc, _+_, _*_, _-_, _/_, _%_, _^_, _≤_, _<_, min}
-use native.Mathlib.Nat.{mul-comm, mul-assoc, mul-left-comm, mul-add, add-mul, suc-mul, mul-le-mul, mul-le-mul-left, mul-le-mul-right, lt-of-mul-lt-mul-right, le-div-iff-mul-le, div-lt-iff-lt-mul, lt-div-mul-add, mul-div-le, mod-eq-of-lt, mod-lt, div-add-mod', zero-mul, add-zero, le-refl, le-of-mul-le-mul-right, le-of-suc-le-suc}
+use native.Mathlib.Nat.{mul-comm, mul-assoc, mul-left-comm, mul-add, add-mul, suc-mul, mul-le-mul, mul-le-mul-left, mul-le-mul-right, lt-of-mul-lt-mul-right}
+use native.Mathlib.Nat.{le-div-iff-mul-le, div-lt-iff-lt-mul, lt-div-mul-add, mul-div-le, mod-eq-of-lt, mod-lt, div-add-mod', zero-mul, add-zero, le-refl, le-of-mul-le-mul-right, le-of-suc-le-suc}
 use native.Mathlib.Omega.{arith}
 use native.Mathlib.Numerals.{add-one}
 use Rattle.picture.proofs.Near.{near-told}
@@ -12,7 +13,7 @@ use Rattle.triangle.specs.declared.Corners.{Corners}
 use Rattle.triangle.specs.declared.Slopes.{Slopes}
 use Rattle.triangle.specs.Edge.{covers, amount, areaOf}
 use Rattle.triangle.specs.Number.{massOf, mixed, shade}
-use Rattle.triangle.specs.Loops.{edgesAt, Turned, Ready, massBy, scaled, Paces, Near, Drifts, Runs, Begun}
+use Rattle.triangle.specs.Loops.{edgesAt, middle, Turned, Ready, Leans, massBy, scaled, Paces, Near, Drifts, Runs, Begun}
 use Rattle.triangle.proofs.Plane.{mean-most, right-plus, right-minus}
 use Rattle.triangle.proofs.Covers.{covered-ready, covered-within}
 
@@ -99,8 +100,8 @@ module _ (d f : ℕ) (few : 2 * d ≤ 65536) (most : f * (2 * d) ≤ carriedOne 
   pub sum-fits : (n : ℕ) → n ≤ 131071 * d → n * f < 18446744073709551616
   sum-fits n h = omega (arith, unit, mul-le-mul-right f h, mul-assoc 131071 d f)
 
-  pub step-fits : (k : ℕ) → k ≤ 65535 * d → k * (2 * f) < 18446744073709551616
-  step-fits k h = omega (arith, unit, mul-le-mul-right f h, mul-assoc 65535 d f, mul-left-comm k 2 f)
+  pub step-fits : (k : ℕ) → k ≤ 131070 * d → k * f < 18446744073709551616
+  step-fits k h = omega (arith, unit, mul-le-mul-right f h, mul-assoc 131070 d f)
 
   pub sum-small : (n : ℕ) → n ≤ 131071 * d → n * (2 * d) < carriedOne
   sum-small n h = omega (arith, mul-le-mul {n₁ = n} {m₁ = 2 * d} {n₂ = 4294934528} {m₂ = 65536} (omega arith) few)
@@ -114,8 +115,8 @@ factor-most d = omega (arith, add-mul (carriedOne / d) 1 d, mul-div-le carriedOn
 pub mass-most : (u v w d p q r : ℕ) → u + v + w ≡ d → p ≤ 65535 → q ≤ 65535 → r ≤ 65535 → massOf u v w d p q r ≤ 131071 * d
 mass-most u v w d p q r e hp hq hr = omega (arith, mean-most u v w d p q r e 65535 hp hq hr)
 
-scale-up : (n m k f : ℕ) → m ≡ n + 2 * k → m * f ≡ n * f + k * (2 * f)
-scale-up n m k f e = ap (λ (j : ℕ). j * f) e ∙ simp (add-mul, mul-assoc, mul-comm, mul-left-comm)
+scale-up : (n m k f : ℕ) → m ≡ n + k → m * f ≡ n * f + k * f
+scale-up n m k f e = ap (λ (j : ℕ). j * f) e ∙ add-mul n k f
 
 up-mod : (n m v : ℕ) → m ≡ n + v → m < 18446744073709551616 → (n + v) % 2 ^ 64 ≡ m
 up-mod n m v e h = rw (← e) (mod-eq-of-lt h)
@@ -161,9 +162,9 @@ module _ (t : Corners) (k : Turned t) (f : ℕ) (few : 2 * areaOf t ≤ 65536) (
   pub mass-at : (x y : ℕ) → covers t x y ≡ true → massBy t p q r x y ≤ 131071 * areaOf t
   mass-at x y h = mass-most _ _ _ _ p q r (ready x y h .whole) hp hq hr
 
-  -- the rise and the fall of a step, and what they make
-  module _ (rise fall : ℕ) (er : rise ≡ p * t .b .y + q * t .c .y + r * t .a .y) (ef : fall ≡ p * t .c .y + q * t .a .y + r * t .b .y) where
-    pub paces-up : fall ≤ rise → Paces t f p q r (min (rise - fall) (65535 * areaOf t) * (2 * f))
+  -- what a pixel to the right adds, and what it makes
+  module _ (right : ℕ) (lean : Leans t p q r right) where
+    pub paces-up : middle ≤ right → Paces t f p q r (min (right - middle) (131070 * areaOf t) * f)
     unfolding scaled
     paces-up l =
         record {
@@ -171,11 +172,11 @@ module _ (t : Corners) (k : Turned t) (f : ℕ) (few : 2 * areaOf t ≤ 65536) (
               let a = mass-step t k x y p q r h g in
               let b = mass-at x y h in
               let c = mass-at (x + 1) y g in
-              let e : massBy t p q r (x + 1) y ≡ massBy t p q r x y + 2 * min (rise - fall) (65535 * areaOf t) = omega arith in
-              up-mod _ _ _ (scale-up (massBy t p q r x y) _ (min (rise - fall) (65535 * areaOf t)) f e) (sum-fits (areaOf t) f few most _ c);
+              let e : massBy t p q r (x + 1) y ≡ massBy t p q r x y + min (right - middle) (131070 * areaOf t) = omega (arith, lean .so) in
+              up-mod _ _ _ (scale-up (massBy t p q r x y) _ (min (right - middle) (131070 * areaOf t)) f e) (sum-fits (areaOf t) f few most _ c);
         }
 
-    pub paces-down : (v : ℕ) → rise ≤ fall → (v + min (fall - rise) (65535 * areaOf t) * (2 * f)) % 2 ^ 64 ≡ 0 → Paces t f p q r v
+    pub paces-down : (v : ℕ) → right ≤ middle → (v + min (middle - right) (131070 * areaOf t) * f) % 2 ^ 64 ≡ 0 → Paces t f p q r v
     unfolding scaled
     paces-down v l n =
         record {
@@ -183,8 +184,8 @@ module _ (t : Corners) (k : Turned t) (f : ℕ) (few : 2 * areaOf t ≤ 65536) (
               let a = mass-step t k x y p q r h g in
               let b = mass-at x y h in
               let c = mass-at (x + 1) y g in
-              let e : massBy t p q r x y ≡ massBy t p q r (x + 1) y + 2 * min (fall - rise) (65535 * areaOf t) = omega arith in
-              down-mod _ _ _ v (scale-up (massBy t p q r (x + 1) y) _ (min (fall - rise) (65535 * areaOf t)) f e) (sum-fits (areaOf t) f few most _ c) n;
+              let e : massBy t p q r x y ≡ massBy t p q r (x + 1) y + min (middle - right) (131070 * areaOf t) = omega (arith, lean .so) in
+              down-mod _ _ _ v (scale-up (massBy t p q r (x + 1) y) _ (min (middle - right) (131070 * areaOf t)) f e) (sum-fits (areaOf t) f few most _ c) n;
         }
 
   pub number : carriedOne ≤ f * (2 * areaOf t) → (x y : ℕ) → covers t x y ≡ true
@@ -194,13 +195,13 @@ module _ (t : Corners) (k : Turned t) (f : ℕ) (few : 2 * areaOf t ≤ 65536) (
 
 -- ---- a long sum, one pixel to the right
 
--- the sum m is n and 2 * k; v is 2 ^ 48 times 2 * k over d, rounded
+-- the sum m is n and k; v is 2 ^ 48 times k over d, rounded
 module _ (n m k d a b v : ℕ) (pos : 0 < d) (fits : 2 * m ≤ 131071 * d) (low : n * carriedOne ≤ a * d) (high : a * d ≤ n * carriedOne + b * d)
     (small : b ≤ 65535) where
-  rise-low : m ≡ n + 2 * k → 2 * k * carriedOne < v * d + d → m * carriedOne ≤ (a + (v + 1)) * d
+  rise-low : m ≡ n + k → k * carriedOne < v * d + d → m * carriedOne ≤ (a + (v + 1)) * d
   rise-low e h = omega (arith, add-mul a (v + 1) d, add-mul v 1 d)
 
-  rise-high : m ≡ n + 2 * k → v * d ≤ 2 * k * carriedOne → (a + (v + 1)) * d ≤ m * carriedOne + (b + 1) * d
+  rise-high : m ≡ n + k → v * d ≤ k * carriedOne → (a + (v + 1)) * d ≤ m * carriedOne + (b + 1) * d
   rise-high e h = omega (arith, add-mul a (v + 1) d, add-mul v 1 d, add-mul b 1 d)
 
   top : (j : ℕ) → j * d ≤ m * carriedOne + (b + 1) * d → j < 18446744073709551616
@@ -208,16 +209,16 @@ module _ (n m k d a b v : ℕ) (pos : 0 < d) (fits : 2 * m ≤ 131071 * d) (low 
       let l : j ≤ 18446603336221196288 + (b + 1) = le-of-mul-le-mul-right {k = d} (omega (arith, add-mul 18446603336221196288 (b + 1) d)) pos in
       omega arith
 
-  fall-le : n ≡ m + 2 * k → v * d ≤ 2 * k * carriedOne → v ≤ a
+  fall-le : n ≡ m + k → v * d ≤ k * carriedOne → v ≤ a
   fall-le e h = le-of-mul-le-mul-right {k = d} (omega arith) pos
 
   fall-split : v ≤ a → a * d ≡ (a - v) * d + v * d
   fall-split l = ap (λ (j : ℕ). j * d) (omega arith) ∙ add-mul (a - v) v d
 
-  fall-low : n ≡ m + 2 * k → v * d ≤ 2 * k * carriedOne → m * carriedOne ≤ (a - v) * d
+  fall-low : n ≡ m + k → v * d ≤ k * carriedOne → m * carriedOne ≤ (a - v) * d
   fall-low e h = omega (arith, fall-split (fall-le e h))
 
-  fall-high : n ≡ m + 2 * k → v * d ≤ 2 * k * carriedOne → 2 * k * carriedOne < v * d + d → (a - v) * d ≤ m * carriedOne + (b + 1) * d
+  fall-high : n ≡ m + k → v * d ≤ k * carriedOne → k * carriedOne < v * d + d → (a - v) * d ≤ m * carriedOne + (b + 1) * d
   fall-high e h l = omega (arith, fall-split (fall-le e h), add-mul b 1 d)
 
 module _ (t : Corners) (k : Turned t) (fits : areaOf t ≤ 2147483648) (p q r : ℕ) (hp : p ≤ 65535) (hq : q ≤ 65535) (hr : r ≤ 65535) where
@@ -227,10 +228,10 @@ module _ (t : Corners) (k : Turned t) (fits : areaOf t ≤ 2147483648) (p q r : 
   mass-long : (x y : ℕ) → covers t x y ≡ true → massBy t p q r x y ≤ 131071 * areaOf t
   mass-long x y h = mass-most _ _ _ _ p q r (ready-long x y h .whole) hp hq hr
 
-  module _ (rise fall : ℕ) (er : rise ≡ p * t .b .y + q * t .c .y + r * t .a .y) (ef : fall ≡ p * t .c .y + q * t .a .y + r * t .b .y) where
-    pub drifts-up : (v : ℕ) → fall ≤ rise
-        → v * (2 * areaOf t) ≤ 2 * min (rise - fall) (65535 * areaOf t) * carriedOne
-        → 2 * min (rise - fall) (65535 * areaOf t) * carriedOne < v * (2 * areaOf t) + 2 * areaOf t
+  module _ (right : ℕ) (lean : Leans t p q r right) where
+    pub drifts-up : (v : ℕ) → middle ≤ right
+        → v * (2 * areaOf t) ≤ min (right - middle) (131070 * areaOf t) * carriedOne
+        → min (right - middle) (131070 * areaOf t) * carriedOne < v * (2 * areaOf t) + 2 * areaOf t
         → Drifts t p q r (v + 1)
     drifts-up v l lo hi =
         record {
@@ -238,17 +239,17 @@ module _ (t : Corners) (k : Turned t) (fits : areaOf t ≤ 2147483648) (p q r : 
               let z : 0 < 2 * areaOf t = omega (arith, ready-long x y h .some) in
               let c = mass-long x y h in
               let e = mass-long (x + 1) y g in
-              let j : massBy t p q r (x + 1) y ≡ massBy t p q r x y + 2 * min (rise - fall) (65535 * areaOf t) = omega (arith, mass-step t k x y p q r h g) in
+              let j : massBy t p q r (x + 1) y ≡ massBy t p q r x y + min (right - middle) (131070 * areaOf t) = omega (arith, lean .so, mass-step t k x y p q r h g) in
               let m : 2 * massBy t p q r (x + 1) y ≤ 131071 * (2 * areaOf t) = omega (arith, e) in
-              let u = rise-low _ _ (min (rise - fall) (65535 * areaOf t)) (2 * areaOf t) a b v z m (n .low) (n .high) s j hi in
-              let w = rise-high _ _ (min (rise - fall) (65535 * areaOf t)) (2 * areaOf t) a b v z m (n .low) (n .high) s j lo in
-              let f = top _ _ (min (rise - fall) (65535 * areaOf t)) (2 * areaOf t) a b v z m (n .low) (n .high) s _ w in
+              let u = rise-low _ _ (min (right - middle) (131070 * areaOf t)) (2 * areaOf t) a b v z m (n .low) (n .high) s j hi in
+              let w = rise-high _ _ (min (right - middle) (131070 * areaOf t)) (2 * areaOf t) a b v z m (n .low) (n .high) s j lo in
+              let f = top _ _ (min (right - middle) (131070 * areaOf t)) (2 * areaOf t) a b v z m (n .low) (n .high) s _ w in
               rw (mod-eq-of-lt f) (record { low = u; high = w });
         }
 
-    pub drifts-down : (v g : ℕ) → rise ≤ fall → (g + v) % 2 ^ 64 ≡ 0
-        → v * (2 * areaOf t) ≤ 2 * min (fall - rise) (65535 * areaOf t) * carriedOne
-        → 2 * min (fall - rise) (65535 * areaOf t) * carriedOne < v * (2 * areaOf t) + 2 * areaOf t
+    pub drifts-down : (v g : ℕ) → right ≤ middle → (g + v) % 2 ^ 64 ≡ 0
+        → v * (2 * areaOf t) ≤ min (middle - right) (131070 * areaOf t) * carriedOne
+        → min (middle - right) (131070 * areaOf t) * carriedOne < v * (2 * areaOf t) + 2 * areaOf t
         → Drifts t p q r g
     drifts-down v g₀ l nil lo hi =
         record {
@@ -256,12 +257,12 @@ module _ (t : Corners) (k : Turned t) (fits : areaOf t ≤ 2147483648) (p q r : 
               let z : 0 < 2 * areaOf t = omega (arith, ready-long x y h .some) in
               let c = mass-long x y h in
               let e = mass-long (x + 1) y g in
-              let j : massBy t p q r x y ≡ massBy t p q r (x + 1) y + 2 * min (fall - rise) (65535 * areaOf t) = omega (arith, mass-step t k x y p q r h g) in
+              let j : massBy t p q r x y ≡ massBy t p q r (x + 1) y + min (middle - right) (131070 * areaOf t) = omega (arith, lean .so, mass-step t k x y p q r h g) in
               let m : 2 * massBy t p q r (x + 1) y ≤ 131071 * (2 * areaOf t) = omega (arith, e) in
-              let i = fall-le _ _ (min (fall - rise) (65535 * areaOf t)) (2 * areaOf t) a b v z m (n .low) (n .high) s j lo in
-              let u = fall-low _ _ (min (fall - rise) (65535 * areaOf t)) (2 * areaOf t) a b v z m (n .low) (n .high) s j lo in
-              let w = fall-high _ _ (min (fall - rise) (65535 * areaOf t)) (2 * areaOf t) a b v z m (n .low) (n .high) s j lo hi in
-              let f = top _ _ (min (fall - rise) (65535 * areaOf t)) (2 * areaOf t) a b v z m (n .low) (n .high) s _ w in
+              let i = fall-le _ _ (min (middle - right) (131070 * areaOf t)) (2 * areaOf t) a b v z m (n .low) (n .high) s j lo in
+              let u = fall-low _ _ (min (middle - right) (131070 * areaOf t)) (2 * areaOf t) a b v z m (n .low) (n .high) s j lo in
+              let w = fall-high _ _ (min (middle - right) (131070 * areaOf t)) (2 * areaOf t) a b v z m (n .low) (n .high) s j lo hi in
+              let f = top _ _ (min (middle - right) (131070 * areaOf t)) (2 * areaOf t) a b v z m (n .low) (n .high) s _ w in
               rw (down-mod a (a - v) v g₀ (omega (arith, i)) f nil) (record { low = u; high = w });
         }
 

@@ -5,7 +5,7 @@ use mathlib.Core.Bool.{Bool, true, false}
 use lib.Dec.{ltb}
 use Rattle.picture.specs.declared.Vertex.{Vertex}
 use Rattle.picture.specs.declared.Pen.{Pen}
-use Rattle.picture.specs.Draw.{carriedOne, carriedTo}
+use Rattle.picture.specs.Draw.{carriedOne, carriedTo, isPlain}
 use Rattle.triangle.specs.declared.Corners.{Corners}
 use Rattle.triangle.specs.declared.Edges.{Edges}
 use Rattle.triangle.specs.declared.Span.{Span}
@@ -21,7 +21,7 @@ use Rattle.triangle.specs.declared.Way.{Way}
 use Rattle.triangle.specs.declared.Way.the-variants.{Along, Each}
 use Rattle.triangle.specs.Edge.{plusOf, minusOf, edgeAt, closed, covers, amount, areaOf}
 use Rattle.triangle.specs.Number.{massOf, shade}
-use Rattle.triangle.specs.Offers.{pixelAt}
+use Rattle.triangle.specs.Offers.{kindOf, pixelAt}
 
 -- the three edges at a pixel
 abbrev pub edgesAt : Corners → ℕ → ℕ → Edges
@@ -30,6 +30,12 @@ edgesAt t x y = record { ab = edgeAt (t .a) (t .b) x y; bc = edgeAt (t .b) (t .c
 -- the corners turn anticlockwise
 pub record Turned (t : Corners) : Type 0 where
   pub turns : edgeAt (t .a) (t .b) (t .c .x) (t .c .y) .minus < edgeAt (t .a) (t .b) (t .c .x) (t .c .y) .plus
+
+-- the corners turn anticlockwise, and d is their doubled area
+pub record Sized (t : Corners) (d : ℕ) : Type 0 where
+  pub turned : Turned t
+  pub area : d ≡ areaOf t
+  pub small : d ≤ 12884508675
 
 -- what the numbers of a covered pixel lean on
 pub record Ready (t : Corners) (d : ℕ) (e : Edges) : Type 0 where
@@ -58,7 +64,7 @@ pub record Measures (a b : Vertex) (h : Height) : Type 0 where
 pub record Keeps (a b : Vertex) (x y : ℕ) : Type 0 where
   pub so : minusOf (a .x) (a .y) (b .x) (b .y) x y + short (closed a b) ≤ plusOf (a .x) (a .y) (b .x) (b .y) x y
 
--- the number of a side whose edge just keeps column 0
+-- what stands for 0 among numbers that may fall below it: for a side, that its edge just keeps column 0
 abbrev pub middle : ℕ
 middle = 68719476736
 
@@ -66,8 +72,12 @@ middle = 68719476736
 -- the edge is from keeping column 0, or from leaving it outside
 pub record Stands (a b : Vertex) (y : ℕ) (s : Side) : Type 0 where
   pub left : s .left ≡ ltb (b .y) (a .y)
-  pub falls : b .y < a .y → (s .at + plusOf (a .x) (a .y) (b .x) (b .y) 0 y + 1 ≡ middle + (minusOf (a .x) (a .y) (b .x) (b .y) 0 y + short (closed a b))) × (s .up ≡ a .x) × (s .down ≡ b .x)
-  pub rises : a .y ≤ b .y → (s .at + (minusOf (a .x) (a .y) (b .x) (b .y) 0 y + short (closed a b)) ≡ middle + plusOf (a .x) (a .y) (b .x) (b .y) 0 y) × (s .up ≡ b .x) × (s .down ≡ a .x)
+  pub falls : b .y < a .y
+      → (s .at + plusOf (a .x) (a .y) (b .x) (b .y) 0 y + 1 ≡ middle + (minusOf (a .x) (a .y) (b .x) (b .y) 0 y + short (closed a b)))
+      × (s .up ≡ a .x) × (s .down ≡ b .x)
+  pub rises : a .y ≤ b .y
+      → (s .at + (minusOf (a .x) (a .y) (b .x) (b .y) 0 y + short (closed a b)) ≡ middle + plusOf (a .x) (a .y) (b .x) (b .y) 0 y)
+      × (s .up ≡ b .x) × (s .down ≡ a .x)
   pub height : Measures a b (s .height)
 
 -- r bounds the columns that the edge keeps of row y: those from r on where it falls, and those below r where it does not
@@ -108,14 +118,32 @@ ahead u v w p q r = p * v + q * w + r * u
 abbrev pub behind : ℕ → ℕ → ℕ → ℕ → ℕ → ℕ → ℕ
 behind u v w p q r = p * w + q * u + r * v
 
--- s is N, the corner numbers p, q, r times their weights, at column 0 of row y, with what a pixel to the right and a row up change
+-- s is what a step along an axis adds to 2 N, from `middle` on; u, v, w are the corners' coordinates along the other axis
+pub record Slants (u v w p q r s : ℕ) : Type 0 where
+  pub so : s + 2 * behind u v w p q r ≡ middle + 2 * ahead u v w p q r
+  pub low : s ≤ 94488494086
+
+-- s is what a pixel to the right adds to 2 N
+abbrev pub Leans : Corners → ℕ → ℕ → ℕ → ℕ → Type 0
+Leans t p q r s = Slants (t .a .y) (t .b .y) (t .c .y) p q r s
+
+-- i and z are what a pixel to the right adds to the sums of I and Z
+pub record LeansBoth (t : Corners) (i z : ℕ) : Type 0 where
+  pub of-i : Leans t (t .a .i) (t .b .i) (t .c .i) i
+  pub of-z : Leans t (t .a .z) (t .b .z) (t .c .z) z
+
+-- N at column 0 of row y: what is added, and what is taken away
+abbrev pub plusAt : Corners → ℕ → ℕ → ℕ → ℕ → ℕ
+plusAt t p q r y = p * edgeAt (t .b) (t .c) 0 y .plus + q * edgeAt (t .c) (t .a) 0 y .plus + r * edgeAt (t .a) (t .b) 0 y .plus
+
+abbrev pub minusAt : Corners → ℕ → ℕ → ℕ → ℕ → ℕ
+minusAt t p q r y = p * edgeAt (t .b) (t .c) 0 y .minus + q * edgeAt (t .c) (t .a) 0 y .minus + r * edgeAt (t .a) (t .b) 0 y .minus
+
+-- s is 2 N + D at column 0 of row y and what a row up adds to it, both modulo 2 ^ 64, and what a pixel to the right adds
 pub record Sums (t : Corners) (p q r y : ℕ) (s : Sum) : Type 0 where
-  pub plus : s .plus ≡ p * edgeAt (t .b) (t .c) 0 y .plus + q * edgeAt (t .c) (t .a) 0 y .plus + r * edgeAt (t .a) (t .b) 0 y .plus
-  pub minus : s .minus ≡ p * edgeAt (t .b) (t .c) 0 y .minus + q * edgeAt (t .c) (t .a) 0 y .minus + r * edgeAt (t .a) (t .b) 0 y .minus
-  pub right-rise : s .right .rise ≡ ahead (t .a .y) (t .b .y) (t .c .y) p q r
-  pub right-fall : s .right .fall ≡ behind (t .a .y) (t .b .y) (t .c .y) p q r
-  pub up-rise : s .up .rise ≡ behind (t .a .x) (t .b .x) (t .c .x) p q r
-  pub up-fall : s .up .fall ≡ ahead (t .a .x) (t .b .x) (t .c .x) p q r
+  pub at : (s .at + 2 * minusAt t p q r y) % 2 ^ 64 ≡ (2 * plusAt t p q r y + areaOf t) % 2 ^ 64
+  pub right : Leans t p q r (s .right)
+  pub up : (s .up + 2 * ahead (t .a .x) (t .b .x) (t .c .x) p q r) % 2 ^ 64 ≡ 2 * behind (t .a .x) (t .b .x) (t .c .x) p q r
 
 -- what is carried from row to row, in row y
 pub record Rises (t : Corners) (y : ℕ) (w : Rising) : Type 0 where
@@ -205,3 +233,12 @@ Serves constant t y s Each = (constant ≡ false) × Large t
 pub record InRows (pen : Pen) (y : ℕ) : Type 0 where
   pub above : pen .bottom ≤ y
   pub below : y ≤ pen .top
+
+-- what row y of a triangle is drawn with: its corners and doubled area, how numbers come to its pixels, what is carried to the row, and whether nothing but a
+-- nearer depth decides
+pub record Drawable (pen : Pen) (constant plain : Bool) (t : Corners) (d : ℕ) (shades : Shades) (w : Rising) (y : ℕ) : Type 0 where
+  pub sized : Sized t d
+  pub shaded : Shaded constant t shades
+  pub carried : Rises t y w
+  pub row : InRows pen y
+  pub fast : plain ≡ isPlain pen (kindOf constant)

@@ -6,7 +6,7 @@ ghost use Prim.Native.Nat.{ℕ, _+_, _≤_, _<_};
 ghost use Rattle.picture.specs.Draw.{carriedTo, isPlain};
 ghost use Rattle.picture.specs.Picture.{picture};
 ghost use Rattle.triangle.specs.Edge.{covers, areaOf};
-ghost use Rattle.triangle.specs.Loops.{endOf, startOf, Turned, Spanned, Carries, Shaded, Told, Serves, InRows, Rises, Large};
+ghost use Rattle.triangle.specs.Loops.{endOf, startOf, Turned, Sized, Spanned, Carries, LeansBoth, Shaded, Told, Serves, InRows, Rises, Drawable, Large};
 ghost use Rattle.triangle.specs.Offers.{kindOf, pixelOffers, rowOffers, turnedOffers, cornersOf, triangleOffers};
 ghost use Rattle.picture.specs.Lent.{Draws};
 use crate::Corners;
@@ -147,7 +147,7 @@ fn divided_pixel(
     im: &mut [u16],
     zm: &mut [u16],
 ) -> u64
-    requires { ⌜ (Turned t) × (d ≡ areaOf t) × (d ≤ 12884508675) × (covers t x y ≡ true) × (x ≤ 65535) × (Large t) ⌝ }
+    requires { ⌜ (Sized t d) × (covers t x y ≡ true) × (x ≤ 65535) × (Large t) ⌝ }
     ensures { λ r. ⌜ Draws pen (λ rows. pixelOffers pen rows false t x y) im zm 0 r ⌝ }
 {
     let e = edges_at(t, x, y as usize);
@@ -167,7 +167,7 @@ fn divided_row(
     im: &mut [u16],
     zm: &mut [u16],
 ) -> u64
-    requires { ⌜ (Turned t) × (d ≡ areaOf t) × (d ≤ 12884508675) × (Spanned pen t y s) × (InRows pen y) × (s .lo < s .hi) × (Large t) ⌝ }
+    requires { ⌜ (Sized t d) × (Spanned pen t y s) × (InRows pen y) × (s .lo < s .hi) × (Large t) ⌝ }
     ensures { λ r. ⌜ Draws pen (λ rows. rowOffers pen rows false t y) im zm 0 r ⌝ }
 {
     let hi = s.hi;
@@ -193,7 +193,7 @@ fn draw_row(
     im: &mut [u16],
     zm: &mut [u16],
 ) -> u64
-    requires { ⌜ (Turned t) × (d ≡ areaOf t) × (d ≤ 12884508675) × (Shaded constant t shades) × (Rises t y w) × (InRows pen y) × (plain ≡ isPlain pen (kindOf constant)) ⌝ }
+    requires { ⌜ Drawable pen constant plain t d shades w y ⌝ }
     ensures { λ r. ⌜ Draws pen (λ rows. rowOffers pen rows constant t y) im zm 0 r ⌝ }
 {
     let s = spanned(pen, t, w, y);
@@ -208,22 +208,22 @@ fn draw_row(
 }
 
 // How the numbers of a triangle come to its pixels.
-fn shades_of(constant: bool, t: Corners, d: usize) -> Shades
-    requires { ⌜ (Turned t) × (d ≡ areaOf t) ⌝ }
+fn shades_of(constant: bool, t: Corners, d: usize, right_i: usize, right_z: usize) -> Shades
+    requires { ⌜ (Turned t) × (d ≡ areaOf t) × (LeansBoth t «right_i» «right_z») ⌝ }
     ensures { λ r. ⌜ Shaded constant t r ⌝ }
 {
     if constant {
         return Shades::Flat;
     }
     if d <= 2147483648 {
-        return Shades::Carried(slopes_of(t, d));
+        return Shades::Carried(slopes_of(t, d, right_i, right_z));
     }
     Shades::Divided
 }
 
 // What is carried from row to row, in row y.
-fn rising_of(t: Corners, y: usize) -> Rising
-    requires { ⌜ y ≤ 65535 ⌝ }
+fn rising_of(t: Corners, d: usize, y: usize) -> Rising
+    requires { ⌜ (Sized t d) × (y ≤ 65535) ⌝ }
     ensures { λ w. ⌜ Rises t y w ⌝ }
 {
     let a = t.a;
@@ -232,8 +232,8 @@ fn rising_of(t: Corners, y: usize) -> Rising
     let ab = side_of(a, b, y);
     let bc = side_of(b, c, y);
     let ca = side_of(c, a, y);
-    let i = sum_of(t, y, a.i, b.i, c.i);
-    let z = sum_of(t, y, a.z, b.z, c.z);
+    let i = sum_of(t, d, y, a.i, b.i, c.i);
+    let z = sum_of(t, d, y, a.z, b.z, c.z);
     Rising { ab, bc, ca, i, z }
 }
 
@@ -285,16 +285,16 @@ fn draw_turned(
     im: &mut [u16],
     zm: &mut [u16],
 ) -> u64
-    requires { ⌜ (Turned t) × (d ≡ areaOf t) × (d ≤ 12884508675) ⌝ }
+    requires { ⌜ Sized t d ⌝ }
     ensures { λ r. ⌜ Draws pen (λ rows. turnedOffers pen rows constant t) im zm 0 r ⌝ }
 {
     let frame = pen.frame;
     let rows = rows_of(frame, im.len(), zm.len());
     let top = end_of(rows, pen.top, t.a.y, t.c.y, t.b.y);
-    let shades = shades_of(constant, t, d);
     let plain = is_plain(pen, kind_of(constant));
     let mut y = least(start_of(pen.bottom, t.a.y, t.c.y, t.b.y), top);
-    let mut w = rising_of(t, y);
+    let mut w = rising_of(t, d, y);
+    let shades = shades_of(constant, t, d, w.i.right, w.z.right);
     let mut n: u64 = 0;
     while y < top {
         n += draw_row(pen, constant, plain, t, d, shades, w, y as u16, im, zm);

@@ -11,6 +11,9 @@ use picture::Vertex;
 // What 1 is as a carried number, among sums.
 pub(crate) const CARRIED_ONE: usize = picture::CARRIED_ONE as usize;
 
+// What stands for 0 among numbers that may fall below it, so large that none does.
+pub(crate) const MIDDLE: usize = 68719476736;
+
 // Three corners that turn anticlockwise, and the vertex that completed them.
 pub(crate) struct Corners {
     pub(crate) a: Vertex,
@@ -54,18 +57,12 @@ pub(crate) struct Side {
     pub(crate) height: Height,
 }
 
-// What a step adds to the weighted sum of three corner numbers, and takes from it.
-pub(crate) struct Change {
-    pub(crate) rise: usize,
-    pub(crate) fall: usize,
-}
-
-// The weighted sum N of three corner numbers at column 0 of a row: what is added and what is taken away, and what a pixel to the right and a row up change.
+// 2 N + D at column 0 of a row, where N is the weighted sum of three corner numbers, and what a row up adds to it, both modulo 2^64; what a pixel to the right
+// adds is counted from `MIDDLE` on, since a product takes no numbers modulo 2^64.
 pub(crate) struct Sum {
-    pub(crate) plus: usize,
-    pub(crate) minus: usize,
-    pub(crate) right: Change,
-    pub(crate) up: Change,
+    pub(crate) at: usize,
+    pub(crate) right: usize,
+    pub(crate) up: usize,
 }
 
 // What is carried from row to row: the three edges, and the sums of I and Z.

@@ -7,15 +7,13 @@ ghost use mathlib.Core.Bool.{true, false};
 ghost use Prim.Native.Nat.{_+_, _*_, _<_, _≤_};
 ghost use Rattle.triangle.specs.Edge.{amount, areaOf};
 ghost use Rattle.triangle.specs.Number.{massOf, mixed};
-ghost use Rattle.triangle.specs.Loops.{Turned, Ready, ahead, behind, massBy, Covered, Sums, Begins, Begun, Paces, Drifts, Carries};
+ghost use Rattle.triangle.specs.Loops.{Turned, Ready, Sized, massBy, Covered, Slants, Leans, LeansBoth, Sums, Begins, Begun, Paces, Drifts, Carries};
 use crate::CARRIED_ONE;
-use crate::Change;
 use crate::Corners;
 use crate::Edges;
+use crate::MIDDLE;
 use crate::Slopes;
 use crate::Sum;
-use crate::cover::edge_at;
-use crate::cover::times;
 use ground::least;
 
 // The sum of the corner numbers p, q, r at a covered pixel.
@@ -67,66 +65,65 @@ pub(crate) fn begin(d: usize, g: Slopes, n: usize) -> usize
     n * g.f
 }
 
-// What a step along an axis changes, from the corners' coordinates u, v, w along the other.
-fn change_of(u: u16, v: u16, w: u16, p: u16, q: u16, r: u16) -> Change
-    ensures { λ k. ⌜ (k .rise ≡ ahead u v w p q r) × (k .fall ≡ behind u v w p q r) × (k .rise ≤ 12884508675) × (k .fall ≤ 12884508675) ⌝ }
+// A coordinate, a corner number or a difference of two times another, or times a slant or an area.
+fn reach(x: usize, s: usize) -> usize
+    requires { ⌜ (x ≤ 131071) × (s ≤ 137438953472) ⌝ }
+    ensures { λ r. ⌜ (r ≡ x * s) × (r ≤ 18014261070528512) ⌝ }
 {
-    let u = u as usize;
-    let v = v as usize;
-    let w = w as usize;
-    let p = p as usize;
-    let q = q as usize;
-    let r = r as usize;
-    let rise = times(p, v) + times(q, w) + times(r, u);
-    let fall = times(p, w) + times(q, u) + times(r, v);
-    Change { rise, fall }
+    x * s
 }
 
-// The corner numbers p, q, r times as much each.
-fn weighed(p: u16, q: u16, r: u16, u: usize, v: usize, w: usize) -> usize
-    requires { ⌜ (u ≤ 12884508675) × (v ≤ 12884508675) × (w ≤ 12884508675) ⌝ }
-    ensures { λ n. ⌜ n ≡ p * u + q * v + r * w ⌝ }
+// How far a is above b, from 65,536 on.
+fn over(a: u16, b: u16) -> usize
+    ensures { λ r. ⌜ (r + b ≡ a + 65536) × (r ≤ 131071) ⌝ }
 {
-    (p as usize) * u + (q as usize) * v + (r as usize) * w
+    a as usize + 65536 - b as usize
 }
 
-// The sum of the corner numbers p, q, r in row y.
-pub(crate) fn sum_of(t: Corners, y: usize, p: u16, q: u16, r: u16) -> Sum
-    requires { ⌜ y ≤ 65535 ⌝ }
+// What a step along an axis adds to 2 N, from `MIDDLE` on; u, v, w are the corners' coordinates along the other. By differences it takes two products, and
+// not six.
+fn slant(u: u16, v: u16, w: u16, p: u16, q: u16, r: u16) -> usize
+    ensures { λ s. ⌜ Slants u v w p q r s ⌝ }
+{
+    let m = over(q, p);
+    let n = over(w, u);
+    let k = over(r, p);
+    let l = over(v, u);
+    let rise = reach(m, n) + 65536 * (k + l);
+    let fall = reach(k, l) + 65536 * (m + n);
+    MIDDLE + 2 * rise - 2 * fall
+}
+
+// The sum of the corner numbers p, q, r in row y, from corner a: there N is its number times the doubled area.
+pub(crate) fn sum_of(t: Corners, d: usize, y: usize, p: u16, q: u16, r: u16) -> Sum
+    requires { ⌜ (Sized t d) × (y ≤ 65535) ⌝ }
     ensures { λ s. ⌜ Sums t p q r y s ⌝ }
 {
-    let a = t.a;
-    let b = t.b;
-    let c = t.c;
-    let ab = edge_at(a, b, 0, y);
-    let bc = edge_at(b, c, 0, y);
-    let ca = edge_at(c, a, 0, y);
-    let right = change_of(a.y, b.y, c.y, p, q, r);
-    let across = change_of(a.x, b.x, c.x, p, q, r);
-    let up = Change {
-        rise: across.fall,
-        fall: across.rise,
-    };
+    let x = t.a.x as usize;
+    let low = t.a.y as usize;
+    let right = slant(t.a.y, t.b.y, t.c.y, p, q, r);
+    let lean = slant(t.a.x, t.b.x, t.c.x, p, q, r);
+    let up = 2 * MIDDLE - lean;
+    let more = reach(2 * (p as usize) + 1, d) + reach(y, up) + (x + low) * MIDDLE;
+    let less = reach(x, right) + reach(low, up) + y * MIDDLE;
+    let at = std::num::wrapping_sub_usize(more, less);
+    let by_row = std::num::wrapping_sub_usize(up, MIDDLE);
     Sum {
-        plus: weighed(p, q, r, bc.plus, ca.plus, ab.plus),
-        minus: weighed(p, q, r, bc.minus, ca.minus, ab.minus),
+        at,
         right,
-        up,
+        up: by_row,
     }
 }
 
 // The same sum a row on.
 pub(crate) fn summed_up(t: Corners, y: usize, p: u16, q: u16, r: u16, s: Sum) -> Sum
-    requires { ⌜ (y ≤ 65535) × (Sums t p q r y s) ⌝ }
+    requires { ⌜ Sums t p q r y s ⌝ }
     ensures { λ n. ⌜ Sums t p q r (y + 1) n ⌝ }
 {
-    let right = s.right;
-    let up = s.up;
     Sum {
-        plus: s.plus + up.rise,
-        minus: s.minus + up.fall,
-        right,
-        up,
+        at: std::num::wrapping_add_usize(s.at, s.up),
+        right: s.right,
+        up: s.up,
     }
 }
 
@@ -144,47 +141,40 @@ pub(crate) fn sum_at(
     requires { ⌜ (Covered t d x y) × (Sums t p q r y s) ⌝ }
     ensures { λ n. ⌜ (n ≡ massBy t p q r x y) × (n ≤ 131071 * d) ⌝ }
 {
-    let plus = s.plus + x * s.right.rise;
-    let minus = s.minus + x * s.right.fall;
-    2 * (plus - minus) + d
+    let n = std::num::wrapping_add_usize(s.at, reach(x, s.right));
+    std::num::wrapping_sub_usize(n, x * MIDDLE)
 }
 
 // What one pixel to the right adds to a scaled sum, modulo 2^64.
-fn pace_of(t: Corners, d: usize, f: usize, p: u16, q: u16, r: u16) -> usize
-    requires { ⌜ (Turned t) × (d ≡ areaOf t) × (2 * d ≤ 65536) × (f * (2 * d) ≤ carriedOne + 2 * d) ⌝ }
+fn pace_of(t: Corners, d: usize, f: usize, p: u16, q: u16, r: u16, right: usize) -> usize
+    requires { ⌜ (Turned t) × (d ≡ areaOf t) × (2 * d ≤ 65536) × (f * (2 * d) ≤ carriedOne + 2 * d) × (Leans t p q r right) ⌝ }
     ensures { λ g. ⌜ Paces t f p q r g ⌝ }
 {
-    let c = change_of(t.a.y, t.b.y, t.c.y, p, q, r);
-    let rise = c.rise;
-    let fall = c.fall;
-    if fall <= rise {
-        return least(rise - fall, 65535 * d) * (2 * f);
+    if MIDDLE <= right {
+        return least(right - MIDDLE, 131070 * d) * f;
     }
-    std::num::wrapping_sub_usize(0, least(fall - rise, 65535 * d) * (2 * f))
+    std::num::wrapping_sub_usize(0, least(MIDDLE - right, 131070 * d) * f)
 }
 
 // What one pixel to the right adds to a long sum, modulo 2^64.
-fn drift_of(t: Corners, d: usize, p: u16, q: u16, r: u16) -> usize
-    requires { ⌜ (Turned t) × (d ≡ areaOf t) × (d ≤ 2147483648) ⌝ }
+fn drift_of(t: Corners, d: usize, p: u16, q: u16, r: u16, right: usize) -> usize
+    requires { ⌜ (Turned t) × (d ≡ areaOf t) × (d ≤ 2147483648) × (Leans t p q r right) ⌝ }
     ensures { λ g. ⌜ Drifts t p q r g ⌝ }
 {
-    let c = change_of(t.a.y, t.b.y, t.c.y, p, q, r);
-    let rise = c.rise;
-    let fall = c.fall;
-    if fall <= rise {
-        return fixed(2 * least(rise - fall, 65535 * d), 2 * d) + 1;
+    if MIDDLE <= right {
+        return fixed(least(right - MIDDLE, 131070 * d), 2 * d) + 1;
     }
-    std::num::wrapping_sub_usize(0, fixed(2 * least(fall - rise, 65535 * d), 2 * d))
+    std::num::wrapping_sub_usize(0, fixed(least(MIDDLE - right, 131070 * d), 2 * d))
 }
 
-// How the numbers of a triangle are carried along its rows.
-pub(crate) fn slopes_of(t: Corners, d: usize) -> Slopes
-    requires { ⌜ (Turned t) × (d ≡ areaOf t) × (d ≤ 2147483648) ⌝ }
+// How the numbers of a triangle are carried along its rows; `right_i` and `right_z` are what a pixel to the right adds to the sums of I and Z.
+pub(crate) fn slopes_of(t: Corners, d: usize, right_i: usize, right_z: usize) -> Slopes
+    requires { ⌜ (Turned t) × (d ≡ areaOf t) × (d ≤ 2147483648) × (LeansBoth t «right_i» «right_z») ⌝ }
     ensures { λ g. ⌜ Carries t g ⌝ }
 {
     if 32768 < d {
-        let i = drift_of(t, d, t.a.i, t.b.i, t.c.i);
-        let z = drift_of(t, d, t.a.z, t.b.z, t.c.z);
+        let i = drift_of(t, d, t.a.i, t.b.i, t.c.i, right_i);
+        let z = drift_of(t, d, t.a.z, t.b.z, t.c.z, right_z);
         return Slopes {
             long: true,
             f: 0,
@@ -193,8 +183,8 @@ pub(crate) fn slopes_of(t: Corners, d: usize) -> Slopes
         };
     }
     let f = CARRIED_ONE / (2 * d) + 1;
-    let i = pace_of(t, d, f, t.a.i, t.b.i, t.c.i);
-    let z = pace_of(t, d, f, t.a.z, t.b.z, t.c.z);
+    let i = pace_of(t, d, f, t.a.i, t.b.i, t.c.i, right_i);
+    let z = pace_of(t, d, f, t.a.z, t.b.z, t.c.z, right_z);
     Slopes {
         long: false,
         f,

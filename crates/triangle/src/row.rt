@@ -8,6 +8,7 @@ ghost use Rattle.triangle.specs.Loops.{short, Measures, Stands, Bounds, 
 use crate::CARRIED_ONE;
 use crate::Corners;
 use crate::Height;
+use crate::MIDDLE;
 use crate::Rising;
 use crate::Side;
 use crate::Span;
@@ -18,9 +19,6 @@ use ground::least;
 use ground::most;
 use picture::Pen;
 use picture::Vertex;
-
-// The number of a side whose edge just keeps column 0, so large that none falls below 0.
-const MIDDLE: usize = 68719476736;
 
 // What an edge must exceed the other side by.
 fn short_of(a: Vertex, b: Vertex) -> usize
@@ -96,12 +94,12 @@ fn bound(a: Vertex, b: Vertex, y: usize, s: Side) -> usize
     requires { ⌜ (y ≤ 65535) × (Stands a b y s) ⌝ }
     ensures { λ r. ⌜ Bounds a b y r ⌝ }
 {
-    if s.at < MIDDLE {
-        return 0;
-    }
-    let v = s.at - MIDDLE;
+    let v = std::num::wrapping_sub_usize(s.at, MIDDLE);
     if v < 65536 * s.height.tall {
         return v * s.height.inv / CARRIED_ONE + 1;
+    }
+    if s.at < MIDDLE {
+        return 0;
     }
     65536
 }

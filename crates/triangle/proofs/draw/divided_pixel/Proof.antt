@@ -12,10 +12,18 @@ edges-at-requires : tie.Need-edges-at-requires
 edges-at-requires c κs = search needs
 
 number-requires : tie.Need-number-requires
-number-requires c κs = let s = c .before .before .before in let a = s .args in ready-of (a .t) (a .x) (a .y) (a .d) _ (s .pre .0) (s .pre .1) (s .pre .2) (s .pre .3) (c .edges-at .ensures)
+number-requires c κs =
+    let s = c .before .before .before in
+    let a = s .args in
+    let k = s .pre .0 in
+    ready-of (a .t) (a .x) (a .y) (a .d) _ (k .turned) (k .area) (k .small) (s .pre .1) (c .edges-at .ensures)
 
 number-requires-2 : tie.Need-number-requires-2
-number-requires-2 c κs = let s = c .before .before .before .before in let a = s .args in ready-of (a .t) (a .x) (a .y) (a .d) _ (s .pre .0) (s .pre .1) (s .pre .2) (s .pre .3) (c .before .edges-at .ensures)
+number-requires-2 c κs =
+    let s = c .before .before .before .before in
+    let a = s .args in
+    let k = s .pre .0 in
+    ready-of (a .t) (a .x) (a .y) (a .d) _ (k .turned) (k .area) (k .small) (s .pre .1) (c .before .edges-at .ensures)
 
 cast-put : tie.Need-cast-put
 cast-put c = search needs
@@ -38,9 +46,9 @@ returns c =
     let a = s .args in
     let t = a .t in
     let e = at-number .before .edges-at .ensures in
-    pixel-drawn (a .pen) (rowsOf (a .pen .frame) (length (a .im .now)) (length (a .zm .now))) t (a .x) (a .y) _ _ (picture (a .im .now) (a .zm .now) 0) _ (s .pre .3)
-    (number-told t (t .a .i) (t .b .i) (t .c .i) (a .x) (a .y) (a .d) _ _ (s .pre .1) e (at-number .number .ensures))
-    (number-told t (t .a .z) (t .b .z) (t .c .z) (a .x) (a .y) (a .d) _ _ (s .pre .1) e (at-number2 .number2 .ensures))
+    pixel-drawn (a .pen) (rowsOf (a .pen .frame) (length (a .im .now)) (length (a .zm .now))) t (a .x) (a .y) _ _ (picture (a .im .now) (a .zm .now) 0) _ (s .pre .1)
+    (number-told t (t .a .i) (t .b .i) (t .c .i) (a .x) (a .y) (a .d) _ _ (s .pre .0 .area) e (at-number .number .ensures))
+    (number-told t (t .a .z) (t .b .z) (t .c .z) (a .x) (a .y) (a .d) _ _ (s .pre .0 .area) e (at-number2 .number2 .ensures))
     (at-put .put .ensures)
 
 pub divided-pixel-spec : {M : Type 1} → statement M

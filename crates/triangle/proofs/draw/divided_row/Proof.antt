@@ -25,10 +25,10 @@ loop-holds : tie.Need-loop-holds Inv-loop μ-loop
 loop-holds c =
     let s = c .before .before in
     let a = s .args in
-    let k = s .pre .3 in (
+    let k = s .pre .1 in (
       le-refl _,
-      omega (arith, s .pre .5),
-      reached-start (λ x h. row-quiet (a .pen) (rowsOf (a .pen .frame) (length (a .im .now)) (length (a .zm .now))) false (a .t) (a .y) (a .s) k x (omega (arith, k .wide, s .pre .5)) (λ u v. omega arith)),
+      omega (arith, s .pre .3),
+      reached-start (λ x h. row-quiet (a .pen) (rowsOf (a .pen .frame) (length (a .im .now)) (length (a .zm .now))) false (a .t) (a .y) (a .s) k x (omega (arith, k .wide, s .pre .3)) (λ u v. omega arith)),
       omega (arith, k .wide, s .good .0),
     )
 
@@ -36,9 +36,9 @@ divided-pixel-requires : tie.Need-divided-pixel-requires Inv-loop μ-loop
 divided-pixel-requires c κs =
     let s = c .before .before .before .before .before .before in
     let l = c .before .before .before .loop in
-    let k = s .pre .3 in
+    let k = s .pre .1 in
     let h = c .before .before .loop-test .taken in
-    (s .pre .0, s .pre .1, s .pre .2, k .columns (l .x) (l .inv .0) h .2, omega (arith, h, k .wide), s .pre .6)
+    (s .pre .0, k .columns (l .x) (l .inv .0) h .2, omega (arith, h, k .wide), s .pre .4)
 
 add-n : tie.Need-add-n Inv-loop μ-loop
 add-n c =
@@ -87,7 +87,7 @@ returns c =
     let s = c .before .before .before .before in
     let a = s .args in
     let l = c .before .loop in
-    let k = s .pre .3 in
+    let k = s .pre .1 in
     reached-end (a .pen .frame .line) (l .inv .2) (omega (arith, l .inv .1, k .wide))
     (λ x h m. row-quiet (a .pen) (rowsOf (a .pen .frame) (length (a .im .now)) (length (a .zm .now))) false (a .t) (a .y) (a .s) k x m (λ u v. omega (arith, c .loop-test .left)))
 

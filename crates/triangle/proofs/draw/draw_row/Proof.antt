@@ -12,7 +12,11 @@ spanned-requires : tie.Need-spanned-requires
 spanned-requires c κs = search needs
 
 way-of-requires : tie.Need-way-of-requires
-way-of-requires c κs = search needs
+way-of-requires c κs =
+    let at-spanned = c .before .before in
+    let s = at-spanned .before .before .before in
+    let k = s .pre in
+    (k .sized .turned, k .sized .area, k .shaded, k .carried, at-spanned .spanned .ensures, c .if1 .taken)
 
 enum-known-way : tie.Need-enum-known-way
 enum-known-way c = search needs
@@ -23,7 +27,7 @@ run-row-requires c κs =
     let at-if1 = at-way-of .before in
     let at-spanned = at-if1 .before .before in
     let s = at-spanned .before .before .before in
-    (s .pre .6, at-spanned .spanned .ensures, s .pre .5, at-if1 .if1 .taken, rw (c .before .before .before .way .given .1) at (at-way-of .way-of .ensures))
+    (s .pre .fast, at-spanned .spanned .ensures, s .pre .row, at-if1 .if1 .taken, rw (c .before .before .before .way .given .1) at (at-way-of .way-of .ensures))
 
 same-length : tie.Need-same-length
 same-length c = search needs
@@ -44,7 +48,7 @@ divided-row-requires c κs =
     let at-spanned = at-if1 .before .before in
     let s = at-spanned .before .before .before in
     let w = rw (c .before .before .enum-told .given .1) at (at-way-of .way-of .ensures) in
-    (s .pre .0, s .pre .1, s .pre .2, at-spanned .spanned .ensures, s .pre .5, at-if1 .if1 .taken, w .1)
+    (s .pre .sized, at-spanned .spanned .ensures, s .pre .row, at-if1 .if1 .taken, w .1)
 
 same-length-3 : tie.Need-same-length-3
 same-length-3 c = search needs
@@ -61,7 +65,10 @@ returns-2 c =
     rw (w .0) (at-divided-row .divided-row .ensures)
 
 returns-3 : tie.Need-returns-3
-returns-3 c = let a = c .before .before .before .before .before .args in row-empty (a .pen) (rowsOf (a .pen .frame) (length (a .im .now)) (length (a .zm .now))) (a .constant) (a .t) (a .y) _ (c .before .before .spanned .ensures) (omega (arith, c .if1 .left)) (picture (a .im .now) (a .zm .now) 0)
+returns-3 c =
+    let a = c .before .before .before .before .before .args in
+    row-empty (a .pen) (rowsOf (a .pen .frame) (length (a .im .now)) (length (a .zm .now))) (a .constant) (a .t) (a .y) _
+    (c .before .before .spanned .ensures) (omega (arith, c .if1 .left)) (picture (a .im .now) (a .zm .now) 0)
 
 pub draw-row-spec : {M : Type 1} → statement M
 draw-row-spec =

@@ -26,7 +26,8 @@ use Rattle.triangle.proofs.draw.draw_turned.Statement.{statement}
 use Rattle.triangle.proofs.draw.draw_turned.Tie as tie
 
 -- how far the triangle is drawn before row y
-pub record Going (pen : Pen) (constant : Bool) (t : Corners) (im₀ zm₀ : List ℕ) (rows top : ℕ) (shades : Shades) (plain : Bool) (y₀ : ℕ) (im zm : List ℕ) (y : ℕ) (w : Rising) (n : ℕ) : Type 0 where
+pub record Going (pen : Pen) (constant : Bool) (t : Corners) (im₀ zm₀ : List ℕ) (rows top : ℕ) (shades : Shades) (plain : Bool) (y₀ : ℕ)
+    (im zm : List ℕ) (y : ℕ) (w : Rising) (n : ℕ) : Type 0 where
   pub in-use : rows ≡ rowsOf (pen .frame) (length im₀) (length zm₀)
   pub end : top ≡ endOf rows (pen .top) (t .a .y) (t .c .y) (t .b .y)
   pub start : y₀ ≡ min (startOf (pen .bottom) (t .a .y) (t .c .y) (t .b .y)) (endOf rows (pen .top) (t .a .y) (t .c .y) (t .b .y))
@@ -41,19 +42,16 @@ pub record Going (pen : Pen) (constant : Bool) (t : Corners) (im₀ zm₀ : List
   pub so-far : Reached pen (rowOffers pen rows constant t) im₀ zm₀ im zm n y
 
 abbrev Inv-loop : tie.InvT-loop
-Inv-loop pen constant t d im₀ zm₀ rows top shades plain y₀ w₀ n₀ im zm y w n = Going pen constant t im₀ zm₀ rows top shades plain y₀ im zm y w n
+Inv-loop pen constant t d im₀ zm₀ rows top plain y₀ w₀ shades n₀ im zm y w n = Going pen constant t im₀ zm₀ rows top shades plain y₀ im zm y w n
 
 abbrev μ-loop : tie.MeasureT-loop
-μ-loop pen constant t d im₀ zm₀ rows top shades plain y₀ w₀ n₀ im zm y w n = top - y
+μ-loop pen constant t d im₀ zm₀ rows top plain y₀ w₀ shades n₀ im zm y w n = top - y
 
 rows-of-requires : tie.Need-rows-of-requires Inv-loop μ-loop
 rows-of-requires c κs = search needs
 
 end-of-requires : tie.Need-end-of-requires Inv-loop μ-loop
 end-of-requires c κs = search needs
-
-shades-of-requires : tie.Need-shades-of-requires Inv-loop μ-loop
-shades-of-requires c κs = search needs
 
 kind-of-requires : tie.Need-kind-of-requires Inv-loop μ-loop
 kind-of-requires c κs = search needs
@@ -68,41 +66,58 @@ least-requires : tie.Need-least-requires Inv-loop μ-loop
 least-requires c κs = search needs
 
 -- the first row is at most the last, which is in use
-first-row : (k : tie.After-least Inv-loop μ-loop) → let top = k .before .before .before .before .before .end-of .result in (k .least .result ≤ top) × (top ≤ k .before .before .before .before .before .before .rows-of .result) × (k .before .before .before .before .before .before .rows-of .result ≤ mostRows)
+first-row : (k : tie.After-least Inv-loop μ-loop) →
+    let at-end-of = k .before .before .before .before in
+    let top = at-end-of .end-of .result in
+    let rows = at-end-of .before .rows-of .result in
+    (k .least .result ≤ top) × (top ≤ rows) × (rows ≤ mostRows)
 first-row k =
-    let a = k .before .before .before .before .before .before .before .before .before .before .args in (
+    let at-end-of = k .before .before .before .before in
+    let at-rows-of = at-end-of .before in
+    let a = at-rows-of .before .before .before .before .args in (
       rw (k .least .ensures) (min-le-right _ _),
-      rw (k .before .before .before .before .before .end-of .ensures) (min-le-left _ _),
-      rw (k .before .before .before .before .before .before .rows-of .ensures) (rows-low (a .pen .frame) (length (a .im .now)) (length (a .zm .now))),
+      rw (at-end-of .end-of .ensures) (min-le-left _ _),
+      rw (at-rows-of .rows-of .ensures) (rows-low (a .pen .frame) (length (a .im .now)) (length (a .zm .now))),
     )
 
 rising-of-requires : tie.Need-rising-of-requires Inv-loop μ-loop
-rising-of-requires c κs = let f = first-row c in omega (arith, f .0, f .1, f .2)
+rising-of-requires c κs =
+    let s = c .before .before .before .before .before .before .before .before .before in
+    let f = first-row c in
+    (s .pre, omega (arith, f .0, f .1, f .2))
+
+shades-of-requires : tie.Need-shades-of-requires Inv-loop μ-loop
+shades-of-requires c κs =
+    let s = c .before .before .before .before .before .before .before .before .before .before in
+    let w = c .rising-of .ensures in
+    (s .pre .turned, s .pre .area, record { of-i = w .i .right; of-z = w .z .right })
 
 loop-holds : tie.Need-loop-holds Inv-loop μ-loop
 loop-holds c =
-    let at-kind-of = c .before .before .before .before in
-    let at-shades-of = at-kind-of .before in
-    let k = c .before in
-    let s = at-shades-of .before .before .before .before .before .before in
+    let k = c .before .before in
+    let at-is-plain = k .before .before in
+    let at-kind-of = at-is-plain .before in
+    let at-end-of = at-kind-of .before in
+    let at-rows-of = at-end-of .before in
+    let s = at-rows-of .before .before .before .before in
     let a = s .args in
-    let rows = at-shades-of .before .before .rows-of in
-    let end = at-shades-of .before .end-of .ensures in
+    let rows = at-rows-of .rows-of in
+    let end = at-end-of .end-of .ensures in
     let start = k .least .ensures ∙ ap₂ (λ (p q : ℕ). min p q) (k .before .start-of .ensures) end in
     let f = first-row k in
     record {
       in-use = rows .ensures;
       end = end;
       start = start;
-      shaded = at-shades-of .shades-of .ensures;
-      fast = c .before .before .before .is-plain .ensures ∙ ap (λ (k : Kind). isPlain (a .pen) k) (at-kind-of .kind-of .ensures);
+      shaded = c .shades-of .ensures;
+      fast = at-is-plain .is-plain .ensures ∙ ap (λ (k : Kind). isPlain (a .pen) k) (at-kind-of .kind-of .ensures);
       line = omega (arith, s .good .0);
       since = le-refl _;
       until = f .0;
       below = f .1;
       few = f .2;
-      carried = c .rising-of .ensures;
-      so-far = reached-start (λ y h. row-below (a .pen) (rows .result) (a .constant) (a .t) (s .pre .0) y (rw start at h));
+      carried = c .before .rising-of .ensures;
+      so-far = reached-start (λ y h. row-below (a .pen) (rows .result) (a .constant) (a .t) (s .pre .turned) y (rw start at h));
     }
 
 cast-draw-row : tie.Need-cast-draw-row Inv-loop μ-loop
@@ -115,10 +130,19 @@ draw-row-requires c κs =
     let a = s .args in
     let k = at-loop .loop .inv in
     let h = c .before .before .loop-test .taken in
-    (s .pre .0, s .pre .1, s .pre .2, k .shaded, k .carried, row-within (a .pen) _ (a .constant) (a .t) (s .pre .0) (at-loop .loop .y) (rw (k .start) at (k .since)) (rw (k .end) at h), k .fast)
+    record {
+      sized = s .pre;
+      shaded = k .shaded;
+      carried = k .carried;
+      row = row-within (a .pen) _ (a .constant) (a .t) (s .pre .turned) (at-loop .loop .y) (rw (k .start) at (k .since)) (rw (k .end) at h);
+      fast = k .fast;
+    }
 
 -- the rows in use stay, whatever is drawn
-row-same : (l : tie.At-loop Inv-loop μ-loop) → let a = l .before .before .before .before .before .before .before .before .before .before .before .before .args in let k = l .loop in let p = picture (k .im) (k .zm) 0 in
+row-same : (l : tie.At-loop Inv-loop μ-loop) →
+    let a = l .before .before .before .before .before .before .before .before .before .before .before .before .args in
+    let k = l .loop in
+    let p = picture (k .im) (k .zm) 0 in
     drawn (a .pen) (rowOffers (a .pen) (rowsOf (a .pen .frame) (length (k .im)) (length (k .zm))) (a .constant) (a .t) (k .y)) p
     ≡ drawn (a .pen) (rowOffers (a .pen) (l .before .before .before .before .before .before .before .before .rows-of .result) (a .constant) (a .t) (k .y)) p
 row-same l =
@@ -189,7 +213,7 @@ returns c =
     let s = c .before .before .before .before .before .before .before .before .before .before .before .before .before in
     let a = s .args in
     let k = c .before .loop .inv in
-    let e = reached-end _ (k .so-far) (omega (arith, k .until, k .below)) (λ y h l. row-above (a .pen) _ (a .constant) (a .t) (s .pre .0) y (omega (arith, k .end, c .loop-test .left)) l) in
+    let e = reached-end _ (k .so-far) (omega (arith, k .until, k .below)) (λ y h l. row-above (a .pen) _ (a .constant) (a .t) (s .pre .turned) y (omega (arith, k .end, c .loop-test .left)) l) in
     rw (k .in-use) at e
 
 pub draw-turned-spec : {M : Type 1} → statement M
@@ -200,12 +224,12 @@ draw-turned-spec =
     μ-loop
     rows-of-requires
     end-of-requires
-    shades-of-requires
     kind-of-requires
     is-plain-requires
     start-of-requires
     least-requires
     rising-of-requires
+    shades-of-requires
     loop-holds
     cast-draw-row
     draw-row-requires

@@ -14,10 +14,10 @@ raised-requires-3 : tie.Need-raised-requires-3
 raised-requires-3 c κs = search needs
 
 summed-up-requires : tie.Need-summed-up-requires
-summed-up-requires c κs = let s = c .before .before .before .before .before .before .before .before .before .before .before in (s .pre .0, s .pre .1 .i)
+summed-up-requires c κs = let s = c .before .before .before .before .before .before .before .before .before .before .before in s .pre .1 .i
 
 summed-up-requires-2 : tie.Need-summed-up-requires-2
-summed-up-requires-2 c κs = let s = c .before .before .before .before .before .before .before .before .before .before .before .before in (s .pre .0, s .pre .1 .z)
+summed-up-requires-2 c κs = let s = c .before .before .before .before .before .before .before .before .before .before .before .before in s .pre .1 .z
 
 returns : tie.Need-returns
 returns c = search needs

@@ -29,7 +29,7 @@ draw-turned-requires c κs =
     let e = c .before .before .before .before .before .edge-at in
     let far = c .before .before .before .before .gap .ensures in
     let turned = named-turned (a .a) (a .b) (a .c) _ (e .ensures .0) _ far (c .before .before .if1 .taken) (c .before .before .before .named .ensures) in
-    (turned .0, turned .1, omega (arith, far, e .ensures .1, e .ensures .2))
+    record { turned = turned .0; area = turned .1; small = omega (arith, far, e .ensures .1, e .ensures .2) }
 
 same-length : tie.Need-same-length
 same-length c = search needs
@@ -45,12 +45,16 @@ returns c =
     let at-gap = at-named .before in
     let at-edge-at = at-gap .before in
     let a = at-edge-at .before .before .before .before .before .args in
-    named-drawn (a .pen) (rowsOf (a .pen .frame) (length (a .im .now)) (length (a .zm .now))) (a .constant) (a .a) (a .b) (a .c) _ (at-edge-at .edge-at .ensures .0) _ (at-gap .gap .ensures) (at-if1 .if1 .taken) (picture (a .im .now) (a .zm .now) 0) _ (at-named .named .ensures) (at-draw-turned .draw-turned .ensures)
+    let rows = rowsOf (a .pen .frame) (length (a .im .now)) (length (a .zm .now)) in
+    named-drawn (a .pen) rows (a .constant) (a .a) (a .b) (a .c) _ (at-edge-at .edge-at .ensures .0) _ (at-gap .gap .ensures) (at-if1 .if1 .taken)
+    (picture (a .im .now) (a .zm .now) 0) _ (at-named .named .ensures) (at-draw-turned .draw-turned .ensures)
 
 returns-2 : tie.Need-returns-2
 returns-2 c =
     let a = c .before .before .before .before .before .before .before .before .args in
-    flat-drawn (a .pen) (rowsOf (a .pen .frame) (length (a .im .now)) (length (a .zm .now))) (a .constant) (a .a) (a .b) (a .c) _ (c .before .before .before .edge-at .ensures .0) (picture (a .im .now) (a .zm .now) 0) (omega (arith, c .before .before .gap .ensures, c .if1 .left))
+    let rows = rowsOf (a .pen .frame) (length (a .im .now)) (length (a .zm .now)) in
+    flat-drawn (a .pen) rows (a .constant) (a .a) (a .b) (a .c) _ (c .before .before .before .edge-at .ensures .0)
+    (picture (a .im .now) (a .zm .now) 0) (omega (arith, c .before .before .gap .ensures, c .if1 .left))
 
 pub triangle-spec : {M : Type 1} → statement M
 triangle-spec =

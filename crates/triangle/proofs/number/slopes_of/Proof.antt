@@ -11,10 +11,10 @@ use Rattle.triangle.proofs.number.slopes_of.Statement.{statement}
 use Rattle.triangle.proofs.number.slopes_of.Tie as tie
 
 drift-of-requires : tie.Need-drift-of-requires
-drift-of-requires c κs = search needs
+drift-of-requires c κs = let s = c .before in (s .pre .0, s .pre .1, s .pre .2, s .pre .3 .of-i)
 
 drift-of-requires-2 : tie.Need-drift-of-requires-2
-drift-of-requires-2 c κs = search needs
+drift-of-requires-2 c κs = let s = c .before .before in (s .pre .0, s .pre .1, s .pre .2, s .pre .3 .of-z)
 
 returns : tie.Need-returns
 returns c =
@@ -34,10 +34,10 @@ add-f : tie.Need-add-f
 add-f c = omega (arith, div-le-self carriedOne (2 * c .before .args .d))
 
 pace-of-requires : tie.Need-pace-of-requires
-pace-of-requires c κs = let s = c .before in (s .pre .0, s .pre .1, omega (arith, c .if1 .left), factor-most (2 * s .args .d))
+pace-of-requires c κs = let s = c .before in (s .pre .0, s .pre .1, omega (arith, c .if1 .left), factor-most (2 * s .args .d), s .pre .3 .of-i)
 
 pace-of-requires-2 : tie.Need-pace-of-requires-2
-pace-of-requires-2 c κs = let s = c .before .before in (s .pre .0, s .pre .1, omega (arith, c .before .if1 .left), factor-most (2 * s .args .d))
+pace-of-requires-2 c κs = let s = c .before .before in (s .pre .0, s .pre .1, omega (arith, c .before .if1 .left), factor-most (2 * s .args .d), s .pre .3 .of-z)
 
 returns-2 : tie.Need-returns-2
 returns-2 c =
