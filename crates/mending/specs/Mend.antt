@@ -9,7 +9,7 @@ use Rattle.stream.specs.Calls.{badTail, over}
 use Rattle.registers.specs.declared.Registers.{Registers}
 use Rattle.registers.specs.Record.{resetOf}
 use Rattle.registers.specs.Word.{wordOf}
-use Rattle.registers.specs.Refusal.{refusalOf, next}
+use Rattle.refusals.specs.Refusal.{refusalOf, next}
 use Rattle.machine.specs.Machine.{Memories, stepOf}
 use Rattle.machine.specs.Offers.{allOf}
 use Rattle.chip.specs.Chip.{chip}
