@@ -1,5 +1,5 @@
 // What is refused: the numbers that a word and the read call get. Each kind of word can get only some of them; an arm asks for these, lowest
-// first. What is allowed of a word's data (allow.rt), and the bounds on the record (bounds.rt).
+// first. What is allowed of a word's data is in allow.rt, and the bounds on the record are in bounds.rt.
 ghost use mathlib.Core.Path.{_≡_};
 ghost use mathlib.Core.Bool.{false, not};
 ghost use mathlib.Core.List.{[], _∷_};
