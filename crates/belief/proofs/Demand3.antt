@@ -14,7 +14,7 @@ use Rattle.registers.specs.declared.word.Word.{Word}
 use Rattle.registers.specs.Record.{resetAs}
 use Rattle.registers.specs.Word.{wordOf}
 use Rattle.registers.specs.Next.{completedBy}
-use Rattle.registers.specs.Refusal.{isPtrn}
+use Rattle.refusals.specs.Refusal.{isPtrn}
 use Rattle.ground.proofs.Truth.{both, either}
 use Rattle.machine.specs.Run.{Outcome, Ran}
 use Rattle.machine.specs.Machine.{Memories, memories, stepOf}

@@ -24,11 +24,12 @@ use Rattle.registers.specs.Record.{noVertex, settings, resetAs}
 use Rattle.registers.specs.Word.{commands, decode, wordOf}
 use Rattle.registers.specs.Figure.{shapeOf, vertexOf, isPair, grownOf, figureAfter}
 use Rattle.registers.specs.Next.{parmOf, coordinateOf, recordAfter, completedBy}
-use Rattle.registers.specs.Refusal.{refusalOf}
+use Rattle.refusals.specs.Refusal.{refusalOf}
 use Rattle.ground.proofs.Truth.{either}
 use Rattle.registers.proofs.Table.{everywhere}
 use Rattle.registers.proofs.Effects.{parm-leaves}
-use Rattle.registers.proofs.Completing.{AllVertices, completed-has}
+use Rattle.registers.proofs.Completing.{AllVertices}
+use Rattle.refusals.proofs.Vertices.{completed-has}
 
 -- ---- words
 

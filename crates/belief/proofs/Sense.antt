@@ -15,7 +15,7 @@ use Rattle.picture.specs.Picture.{isEdge}
 use Rattle.picture.specs.Cell.{Cell, there}
 use Rattle.registers.specs.declared.Registers.{Registers}
 use Rattle.registers.specs.declared.word.Word.{Word}
-use Rattle.registers.proofs.Refusals.{accepted-when}
+use Rattle.refusals.proofs.Refusals.{accepted-when}
 use Rattle.machine.specs.Offers.{nextIn, offersAt}
 use Rattle.machine.proofs.Offers.{offers-refused}
 use Rattle.chip.specs.Chip.{chip}

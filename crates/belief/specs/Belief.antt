@@ -18,7 +18,7 @@ use Rattle.registers.specs.declared.shape.Completed.the-variants.{Nothing, Tria
 use Rattle.registers.specs.Record.{resetAs}
 use Rattle.registers.specs.Word.{wordOf}
 use Rattle.registers.specs.Next.{completedBy, penOf}
-use Rattle.registers.specs.Refusal.{isPtrn}
+use Rattle.refusals.specs.Refusal.{isPtrn}
 use Rattle.machine.specs.Machine.{Memories, memories, stepOf}
 use Rattle.machine.specs.Touched.{cellIn}
 use Rattle.machine.specs.Offers.{allOf, offersAt, takenOf, eachIn}

@@ -13,9 +13,9 @@ use Rattle.registers.specs.declared.word.Word.{Word}
 use Rattle.registers.specs.declared.word.Word.the-variants.{Init, Unmodelled}
 use Rattle.registers.specs.Lines.{chipsIn, unitIn}
 use Rattle.registers.specs.Record.{laid}
-use Rattle.registers.specs.Allowed.{initAllowed}
-use Rattle.registers.specs.Bounds.{inBounds}
-use Rattle.registers.specs.Refusal.{isUnknown, isCold, refusalOf}
+use Rattle.refusals.specs.Allowed.{initAllowed}
+use Rattle.refusals.specs.Bounds.{inBounds}
+use Rattle.refusals.specs.Refusal.{isUnknown, isCold, refusalOf}
 use Rattle.ground.proofs.Truth.{both}
 use Rattle.machine.specs.Run.{Outcome}
 use Rattle.machine.specs.Machine.{Memories}

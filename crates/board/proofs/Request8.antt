@@ -14,7 +14,7 @@ use Rattle.stream.specs.Calls.{checked}
 use Rattle.registers.specs.declared.Registers.{Registers}
 use Rattle.registers.specs.declared.word.Word.{Word}
 use Rattle.registers.specs.Record.{laid, settings, resetOf}
-use Rattle.registers.specs.Refusal.{refusalOf}
+use Rattle.refusals.specs.Refusal.{refusalOf}
 use Rattle.ground.proofs.Truth.{and-both}
 use Rattle.machine.specs.Run.{Outcome, outcome, Step, Ran, ran, advance, runFrom, runOf}
 use Rattle.machine.specs.Along.{Along}

@@ -10,7 +10,7 @@ use borrow.Author.Tests.{eqb-true, ne-eqb}
 use Rattle.registers.specs.declared.word.Word.{Word}
 use Rattle.registers.specs.declared.word.Word.the-variants.{Unmodelled, Unknown}
 use Rattle.registers.specs.Word.{commands, decode}
-use Rattle.registers.specs.Bounds.{largestLayout}
+use Rattle.refusals.specs.Bounds.{largestLayout}
 use Rattle.registers.proofs.Table.{everywhere}
 use Rattle.chip.specs.Units.{Ways, unitLayout}
 use Rattle.board.specs.Door.{isBoard, isSeveral, soloCode, soloWord, isTransfer, unitWord, commandOf, dataOf}

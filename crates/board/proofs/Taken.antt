@@ -7,7 +7,7 @@ use lib.Dec.{eqb, ltb}
 use borrow.Author.Tests.{not-true, not-false, ne-eqb}
 use Rattle.registers.specs.declared.word.Word.{Word}
 use Rattle.registers.specs.Word.{decode, wordOf}
-use Rattle.registers.proofs.Commands.{decode-unknown}
+use Rattle.refusals.proofs.Commands.{decode-unknown}
 use Rattle.ground.proofs.Truth.{both}
 use Rattle.machine.specs.Run.{Outcome, outcome}
 use Rattle.machine.specs.Machine.{memories}

@@ -7,7 +7,7 @@ use lib.Dec.{eqb, ltb}
 use Rattle.registers.specs.declared.Registers.{Registers}
 use Rattle.registers.specs.declared.word.Word.{Word}
 use Rattle.registers.specs.Record.{laid}
-use Rattle.registers.specs.Refusal.{isUnknown}
+use Rattle.refusals.specs.Refusal.{isUnknown}
 use Rattle.machine.specs.Run.{Outcome, outcome, Step}
 use Rattle.machine.specs.Machine.{Memories, stepOf}
 use Rattle.chip.specs.Chip.{chip}

@@ -6,8 +6,8 @@ use Prim.Native.Nat.{ℕ}
 use lib.Dec.{eqb}
 use Rattle.stream.specs.Calls.{checked}
 use Rattle.registers.specs.Record.{resetOf}
-use Rattle.registers.specs.Bounds.{inBounds}
-use Rattle.registers.specs.Refusal.{isCold, lowest}
+use Rattle.refusals.specs.Bounds.{inBounds}
+use Rattle.refusals.specs.Refusal.{isCold, lowest}
 use Rattle.machine.specs.Run.{Ran, ran, runOf}
 use Rattle.chip.specs.declared.transfer.Reading.{Reading}
 use Rattle.chip.specs.Read.{reading}

@@ -6,8 +6,8 @@ use Prim.Native.Nat.{ℕ}
 use Rattle.registers.specs.declared.word.Word.{Word}
 use Rattle.registers.specs.declared.word.Word.the-variants.{Init}
 use Rattle.registers.specs.Lines.{chipsIn, unitIn}
-use Rattle.registers.specs.Bounds.{inBounds}
-use Rattle.registers.specs.Refusal.{isUnknown, isCold}
+use Rattle.refusals.specs.Bounds.{inBounds}
+use Rattle.refusals.specs.Refusal.{isUnknown, isCold}
 use Rattle.board.specs.declared.Board.{Board}
 use Rattle.board.specs.Bank.{Bank, isEven}
 use Rattle.board.specs.Door.{isBoard, isSeveral, ownCode, isTransfer}

@@ -10,7 +10,7 @@ use Rattle.stream.specs.Calls.{checked}
 use Rattle.registers.specs.declared.Registers.{Registers}
 use Rattle.registers.specs.declared.word.Word.{Word}
 use Rattle.registers.specs.Record.{laid, resetOf}
-use Rattle.registers.specs.Refusal.{isInit}
+use Rattle.refusals.specs.Refusal.{isInit}
 use Rattle.machine.specs.Run.{Step, ran, runOf}
 use Rattle.machine.specs.Along.{Along}
 use Rattle.machine.specs.Machine.{Memories, memories, Even, numberOf, stepOf}

@@ -6,6 +6,7 @@ use crate::Board;
 use crate::step::is_whole;
 use crate::unit::is_even;
 use chip::transfer::read;
+use refusals::bounds::is_sound;
 
 // The answer to a read: the number that refuses it, 0 for accepted; the pixel, 0 where it is refused; and the next board.
 #[repr(C)]
@@ -20,7 +21,7 @@ fn read_number(board: Board, even: bool) -> u64
     ensures { λ r. ⌜ r ≡ readNumberBy board even ⌝ }
 {
     let registers = board.registers;
-    if !is_whole(board, even) | !registers.is_sound() {
+    if !is_whole(board, even) | !is_sound(registers) {
         return 2;
     }
     if registers.started == 0 {

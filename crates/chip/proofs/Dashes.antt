@@ -27,10 +27,10 @@ use Rattle.registers.specs.declared.shape.Completed.the-variants.{Nothing, Segm
 use Rattle.registers.specs.Record.{isOn, invBit, endBit}
 use Rattle.registers.specs.Figure.{shapeOf, vertexOf, isDashed, advanced, grownOf, completes, figureAfter, vertexCompletes}
 use Rattle.registers.specs.Next.{coordinateOf, coordinateCompletes, recordAfter, completedBy, penOf}
-use Rattle.registers.specs.Allowed.{xFits, pxFits, fits}
-use Rattle.registers.specs.Refusal.{refusalOf}
+use Rattle.refusals.specs.Allowed.{xFits, pxFits, fits}
+use Rattle.refusals.specs.Refusal.{refusalOf}
 use Rattle.ground.proofs.Truth.{both}
-use Rattle.registers.proofs.Refusals.{accepted-when}
+use Rattle.refusals.proofs.Refusals.{accepted-when}
 use Rattle.registers.proofs.Effects.{parm-leaves}
 use Rattle.registers.proofs.Begun.{end-closes}
 use Rattle.machine.specs.Offers.{nextIn, eachIn}

@@ -36,13 +36,14 @@ use Rattle.registers.specs.Record.{isOn, invBit, iBit, zBit, resetAs}
 use Rattle.registers.specs.Figure.{shapeOf, vertexOf, completes, vertexCompletes}
 use Rattle.registers.specs.Next.{awaited, recordAfter, completedBy, penOf}
 use Rattle.registers.specs.Lines.{shortestLine, longestLine, lineUnit}
-use Rattle.registers.specs.Bounds.{largestLayout, frameFits, inBounds}
-use Rattle.registers.specs.Refusal.{isInit, isParm, isPtrn, refusalOf}
+use Rattle.refusals.specs.Bounds.{largestLayout, frameFits, inBounds}
+use Rattle.refusals.specs.Refusal.{isInit, isParm, isPtrn, refusalOf}
 use Rattle.ground.proofs.Truth.{both, either}
-use Rattle.registers.proofs.Kept.{parts, reset-kept-as, after-kept}
-use Rattle.registers.proofs.Refusals.{accepted-when}
-use Rattle.registers.proofs.Enables.{hcontrol-alone, hcontrol-init}
-use Rattle.registers.proofs.Completing.{only-x-and-px, AllVertices, Near, completed-near}
+use Rattle.refusals.proofs.Kept.{parts, reset-kept-as, after-kept}
+use Rattle.refusals.proofs.Refusals.{accepted-when}
+use Rattle.refusals.proofs.Enables.{hcontrol-alone, hcontrol-init}
+use Rattle.registers.proofs.Completing.{only-x-and-px, AllVertices}
+use Rattle.refusals.proofs.Vertices.{Near, completed-near}
 use Rattle.machine.specs.Run.{Ran, runFrom, runOf}
 use Rattle.machine.specs.Along.{Along}
 use Rattle.machine.specs.Machine.{Memories, rowsIn, stepOf}

@@ -9,8 +9,8 @@ use borrow.Author.Tests.{eq-eqb, ne-eqb}
 use Rattle.registers.specs.declared.Registers.{Registers}
 use Rattle.registers.specs.Record.{resetAs}
 use Rattle.registers.specs.Next.{transferredOf}
-use Rattle.registers.specs.Bounds.{largestLayout, inBounds}
-use Rattle.registers.proofs.Kept.{reset-kept-as, read-kept}
+use Rattle.refusals.specs.Bounds.{largestLayout, inBounds}
+use Rattle.refusals.proofs.Kept.{reset-kept-as, read-kept}
 use Rattle.machine.specs.Machine.{Memories}
 use Rattle.machine.specs.Offers.{State, state}
 use Rattle.machine.proofs.Runs.{zero-or-not}

@@ -17,7 +17,7 @@ use Rattle.registers.specs.declared.shape.Completed.the-variants.{Nothing, Tria
 use Rattle.registers.specs.Record.{isOn, sectionBit, invBit}
 use Rattle.registers.specs.Figure.{shapeOf, vertexOf, isPair, completes, vertexCompletes}
 use Rattle.registers.specs.Next.{completedBy, penOf}
-use Rattle.registers.specs.Refusal.{isPtrn}
+use Rattle.refusals.specs.Refusal.{isPtrn}
 use Rattle.ground.proofs.Truth.{either}
 use Rattle.registers.proofs.Completing.{only-x-and-px}
 use Rattle.machine.specs.Machine.{Memories, rowsIn, stepOf}

@@ -14,7 +14,7 @@ use Rattle.stream.proofs.Calls.{next-told, flaw-told, good}
 use Rattle.registers.specs.declared.Registers.{Registers}
 use Rattle.registers.specs.declared.word.Word.{Word}
 use Rattle.registers.specs.Word.{wordOf}
-use Rattle.registers.specs.Bounds.{inBounds}
+use Rattle.refusals.specs.Bounds.{inBounds}
 use Rattle.machine.specs.Run.{Outcome, outcome, Ran, ran, runFrom}
 use Rattle.machine.specs.Machine.{Memories, stepOf}
 use Rattle.machine.proofs.Runs.{turn-accepted, turn-none}

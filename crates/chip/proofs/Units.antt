@@ -25,11 +25,12 @@ use Rattle.registers.specs.declared.Registers.{Registers}
 use Rattle.registers.specs.declared.word.Word.{Word}
 use Rattle.registers.specs.Lines.{lineUnit}
 use Rattle.registers.specs.Record.{laid}
-use Rattle.registers.specs.Bounds.{largestLayout}
+use Rattle.refusals.specs.Bounds.{largestLayout}
 use Rattle.registers.specs.Next.{recordAfter, penOf}
-use Rattle.registers.specs.Refusal.{isInit, refusalOf}
-use Rattle.registers.proofs.Refusals.{accepted-when}
-use Rattle.registers.proofs.Layouts.{after-laid, number-laid, number-even}
+use Rattle.refusals.specs.Refusal.{isInit, refusalOf}
+use Rattle.refusals.proofs.Refusals.{accepted-when}
+use Rattle.registers.proofs.Layouts.{after-laid}
+use Rattle.refusals.proofs.Layouts.{number-laid, number-even}
 use Rattle.machine.specs.Run.{Outcome}
 use Rattle.machine.specs.Machine.{Memories, memories, Even, rowsIn, drawing, accepted, refused, numberOf, stepOf}
 use Rattle.machine.specs.Touched.{cellIn}

@@ -12,7 +12,7 @@ use Rattle.registers.specs.declared.word.Word.{Word}
 use Rattle.registers.specs.declared.shape.Completed.{Completed}
 use Rattle.registers.specs.declared.shape.Completed.the-variants.{Nothing}
 use Rattle.registers.specs.Next.{recordAfter, completedBy}
-use Rattle.registers.specs.Refusal.{refusalOf}
+use Rattle.refusals.specs.Refusal.{refusalOf}
 use Rattle.picture.proofs.Stores.{filled-nil}
 use mathlib.Core.Path.{sym}
 use Rattle.registers.specs.Next.{penOf}

@@ -10,9 +10,9 @@ use Rattle.registers.specs.Subcommand.{subcommandOf}
 use Rattle.registers.specs.Word.{decode, wordOf}
 use Rattle.registers.specs.Figure.{shapeOf, grownOf, completes}
 use Rattle.registers.specs.Next.{effectOf, parmOf, coordinateOf, coordinateCompletes, recordAfter, completedBy}
-use Rattle.registers.specs.Allowed.{initAllowed}
-use Rattle.registers.specs.Bounds.{frameFits, modesFit, windowFits, vertexFits, figureFits, parkedFits, regionFits, inBounds}
-use Rattle.registers.specs.Refusal.{refusalOf}
+use Rattle.refusals.specs.Allowed.{initAllowed}
+use Rattle.refusals.specs.Bounds.{frameFits, modesFit, windowFits, vertexFits, figureFits, parkedFits, regionFits, inBounds}
+use Rattle.refusals.specs.Refusal.{refusalOf}
 use Rattle.machine.specs.Offers.{nextIn, offersIn, registersIn, eachIn}
 use Rattle.chip.specs.Chip.{wholeOffers, isCut, figureOffers}
 use Rattle.chip.specs.Dashes.{offersAlong}

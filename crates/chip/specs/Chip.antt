@@ -16,7 +16,7 @@ use Rattle.registers.specs.declared.shape.Completed.{Completed}
 use Rattle.registers.specs.declared.shape.Completed.the-variants.{Nothing, Triangle, Segment}
 use Rattle.registers.specs.Record.{isOn, sectionBit}
 use Rattle.registers.specs.Next.{recordAfter, completedBy, penOf, isDeepPicture}
-use Rattle.registers.specs.Refusal.{refusalOf}
+use Rattle.refusals.specs.Refusal.{refusalOf}
 use Rattle.machine.specs.Machine.{Machine}
 
 -- PMODE 1: constant triangles

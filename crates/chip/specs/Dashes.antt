@@ -21,7 +21,7 @@ use Rattle.registers.specs.declared.shape.Completed.the-variants.{Nothing, Tria
 use Rattle.registers.specs.Record.{isOn, invBit, endBit, patternLength, noFigure}
 use Rattle.registers.specs.Figure.{shapeOf, vertexOf, isDashed}
 use Rattle.registers.specs.Next.{recordAfter, completedBy, penOf}
-use Rattle.registers.specs.Refusal.{refusalOf}
+use Rattle.refusals.specs.Refusal.{refusalOf}
 use Rattle.machine.specs.Offers.{nextIn, offersIn, eachIn}
 use Rattle.chip.specs.Chip.{styleOf, chip}
 

@@ -16,7 +16,7 @@ use Rattle.stream.specs.declared.Coded.the-variants.{Done}
 use Rattle.registers.specs.declared.Registers.{Registers}
 use Rattle.registers.specs.Word.{decode, wordOf}
 use Rattle.registers.specs.Next.{recordAfter, completedBy, penOf}
-use Rattle.registers.specs.Refusal.{refusalOf}
+use Rattle.refusals.specs.Refusal.{refusalOf}
 use Rattle.machine.specs.Run.{ran, runOf}
 use Rattle.machine.specs.Along.{Stopped}
 use Rattle.machine.specs.Machine.{memories, stepOf}

@@ -6,7 +6,7 @@ use lib.Dec.{eqb}
 use Rattle.picture.specs.Store.{readOf}
 use Rattle.registers.specs.declared.Registers.{Registers}
 use Rattle.registers.specs.Next.{isDeepPicture, transferredOf}
-use Rattle.registers.specs.Refusal.{readRefusalOf}
+use Rattle.refusals.specs.Refusal.{readRefusalOf}
 use Rattle.machine.specs.Machine.{Memories, stepOf}
 use Rattle.machine.specs.Offers.{State, state, onward}
 use Rattle.registers.specs.declared.word.Word.{Word}

@@ -8,7 +8,7 @@ use Rattle.registers.specs.declared.shape.Shape.the-variants.{Line}
 use Rattle.registers.specs.Record.{isOn, sectionBit}
 use Rattle.registers.specs.Figure.{shapeOf}
 use Rattle.registers.specs.Next.{recordAfter, completedBy, penOf}
-use Rattle.registers.specs.Refusal.{refusalOf}
+use Rattle.refusals.specs.Refusal.{refusalOf}
 use Rattle.machine.specs.Machine.{Machine, Memories, stepOf}
 use Rattle.chip.specs.Chip.{isConstant, wholeOffers, isCut, wordStores, chip}
 

@@ -13,9 +13,9 @@ use Rattle.registers.specs.declared.Registers.{Registers}
 use Rattle.registers.specs.declared.word.Word.{Word}
 use Rattle.registers.specs.Lines.{lineUnit}
 use Rattle.registers.specs.Record.{laid}
-use Rattle.registers.specs.Bounds.{largestLayout}
+use Rattle.refusals.specs.Bounds.{largestLayout}
 use Rattle.registers.specs.Next.{recordAfter}
-use Rattle.registers.specs.Refusal.{isInit, isPtrn, refusalOf}
+use Rattle.refusals.specs.Refusal.{isInit, isPtrn, refusalOf}
 use Rattle.machine.specs.Run.{Outcome}
 use Rattle.machine.specs.Machine.{Memories, Even, stepOf}
 use Rattle.machine.specs.Shares.{heldBy, storesHeldBy, sumOf, ReadTogether}

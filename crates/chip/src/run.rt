@@ -3,7 +3,7 @@ ghost use mathlib.Core.Path.{_≡_};
 ghost use mathlib.Core.Bool.{true};
 ghost use lib.ListN.{length};
 ghost use Rattle.stream.specs.Format.{wordAt};
-ghost use Rattle.registers.specs.Bounds.{inBounds};
+ghost use Rattle.refusals.specs.Bounds.{inBounds};
 ghost use Rattle.registers.specs.Word.{wordOf};
 ghost use Rattle.registers.specs.Record.{resetAs, resetOf};
 ghost use Rattle.machine.specs.Run.{ran};

@@ -2,13 +2,15 @@
 ghost use mathlib.Core.Path.{_≡_};
 ghost use mathlib.Core.Bool.{true};
 ghost use lib.ListN.{length};
-ghost use Rattle.registers.specs.Bounds.{inBounds};
-ghost use Rattle.registers.specs.Refusal.{refusalOf};
+ghost use Rattle.refusals.specs.Bounds.{inBounds};
+ghost use Rattle.refusals.specs.Refusal.{refusalOf};
 ghost use Rattle.registers.specs.Word.{decode};
 ghost use Rattle.machine.specs.Lent.{found, left};
 ghost use Rattle.chip.specs.Promises.{Takes};
 use crate::draw::draw;
 use crate::transfer::load;
+use refusals::judged;
+use refusals::refusal;
 use registers::Registers;
 use registers::word::Word;
 use registers::word::decoded;
@@ -70,7 +72,7 @@ pub fn step(r: Registers, command: u8, data: u16, im: &mut [u16], zm: &mut [u16]
     ensures { λ a. ⌜ Takes r (decode command «data») (found im zm) (a .refusal) (a .passed) (a .registers) (left im zm) ⌝ }
 {
     let word = decoded(command, data);
-    let number = r.refusal(word, im.len(), zm.len());
+    let number = refusal(r, word, im.len(), zm.len());
     take(r, word, number, im, zm)
 }
 
@@ -80,6 +82,6 @@ pub(crate) fn step_kept(r: Registers, word: Word, im: &mut [u16], zm: &mut [u16]
     requires { ⌜ (inBounds r ≡ true) × (length (now im) ≡ length (now zm)) ⌝ }
     ensures { λ a. ⌜ Takes r word (found im zm) (a .refusal) (a .passed) (a .registers) (left im zm) ⌝ }
 {
-    let number = r.judged(word);
+    let number = judged(r, word);
     take(r, word, number, im, zm)
 }

@@ -8,6 +8,7 @@ ghost use Rattle.picture.specs.Lent.{Fills};
 ghost use Rattle.machine.specs.Lent.{found};
 use picture::transfer::fetch;
 use picture::transfer::store;
+use refusals::read_refusal;
 use registers::Registers;
 
 // Stores PTRN's number at the region's pixel.
@@ -39,7 +40,7 @@ pub struct Reading {
 pub fn read(r: Registers, im: &[u16], zm: &[u16]) -> Reading
     ensures { λ a. ⌜ a ≡ reading r (found im zm) ⌝ }
 {
-    let number = r.read_refusal(im.len(), zm.len());
+    let number = read_refusal(r, im.len(), zm.len());
     if number != 0 {
         return Reading {
             refusal: number,

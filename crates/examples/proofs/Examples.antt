@@ -30,10 +30,10 @@ use Rattle.registers.specs.Lines.{lineOf, codeIn, chipsIn, unitIn, pageIn}
 use Rattle.registers.specs.Word.{decode}
 use Rattle.registers.specs.Record.{settings}
 use Rattle.registers.specs.Next.{recordAfter}
-use Rattle.registers.specs.Allowed.{initAllowed}
-use Rattle.registers.specs.Bounds.{inBounds}
-use Rattle.registers.specs.Refusal.{refusalOf, next}
-use Rattle.registers.proofs.Kept.{reset-kept}
+use Rattle.refusals.specs.Allowed.{initAllowed}
+use Rattle.refusals.specs.Bounds.{inBounds}
+use Rattle.refusals.specs.Refusal.{refusalOf, next}
+use Rattle.refusals.proofs.Kept.{reset-kept}
 use Rattle.examples.specs.Examples.{Pixel, at, corner, through, walk, among, covered, holds, gives, transparency, triangle, line, numbers, codeGives, codeIs, lineThere, triangleThere, pixelsOf, numbered, initData, Says, table, done, _also_, Claim}
 
 -- ---- packed lengths

@@ -19,8 +19,8 @@ use Rattle.triangle.specs.Offers.{cornersOf, triangleOffers}
 use Rattle.registers.specs.declared.Registers.{Registers}
 use Rattle.registers.specs.Word.{decode}
 use Rattle.registers.specs.Record.{resetOf}
-use Rattle.registers.specs.Bounds.{inBounds}
-use Rattle.registers.specs.Refusal.{refusalOf, next}
+use Rattle.refusals.specs.Bounds.{inBounds}
+use Rattle.refusals.specs.Refusal.{refusalOf, next}
 
 -- ---- pixels and points
 

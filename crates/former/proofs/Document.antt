@@ -20,11 +20,11 @@ use Rattle.registers.specs.Record.{window, settings, resetOf, withWindow, initO
 use Rattle.registers.specs.Subcommand.{subcommandOf}
 use Rattle.registers.specs.Figure.{shapeOf}
 use Rattle.registers.specs.Next.{awaited, transferredOf, recordAfter}
-use Rattle.registers.specs.Allowed.{isBorder, parameterAllowed, allowed}
-use Rattle.registers.specs.Bounds.{frameFits, modesFit, windowFits, vertexFits, figureFits, parkedFits, regionFits, inBounds}
-use Rattle.registers.specs.Refusal.{isInit}
-use Rattle.registers.proofs.Refusals.{accepted-when, read-when}
-use Rattle.registers.proofs.Kept.{parts, whole, sound-window, reset-kept, after-kept, read-kept}
+use Rattle.refusals.specs.Allowed.{isBorder, parameterAllowed, allowed}
+use Rattle.refusals.specs.Bounds.{frameFits, modesFit, windowFits, vertexFits, figureFits, parkedFits, regionFits, inBounds}
+use Rattle.refusals.specs.Refusal.{isInit}
+use Rattle.refusals.proofs.Refusals.{accepted-when, read-when}
+use Rattle.refusals.proofs.Kept.{parts, whole, sound-window, reset-kept, after-kept, read-kept}
 use Rattle.former.specs.Former.{formerCoordinate, formerBorder, formerRows, wasCoordinate, wasBorder, wasValue, wasNumber, wasWord, wasWindow, wasVertex, wasRegion, wasRecord, wasUnfit, wasBarred, wasRefused, formerWindow, formerReset, wasAfter, wasRows, former, wasReadRefused}
 use Rattle.former.specs.Document.{numberAfter, Document01}
 use Rattle.former.specs.Request.{kept}

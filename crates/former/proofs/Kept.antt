@@ -32,8 +32,8 @@ use Rattle.registers.specs.Subcommand.{subcommandOf, wants}
 use Rattle.registers.specs.Figure.{shapeOf, vertexOf, isPair, grownOf}
 use Rattle.registers.specs.Next.{value, awaited, effectOf, parmOf, coordinateOf, transferredOf, recordAfter}
 use Rattle.ground.proofs.Truth.{and-both, either}
-use Rattle.registers.proofs.Chains.{All, chain-all, all-chain}
-use Rattle.registers.proofs.Parking.{came-each, came-more}
+use Rattle.refusals.proofs.Chains.{All, chain-all, all-chain}
+use Rattle.refusals.proofs.Came.{came-each, came-more}
 use Rattle.former.specs.Former.{formerCoordinate, formerWindow, wasCoordinate, wasBorder, wasValue, wasNumber, wasWord, wasWindow, wasVertex, wasParked, wasRegion, wasRecord, wasAfter}
 
 -- ---- a record, part by part

@@ -16,13 +16,13 @@ use Rattle.registers.specs.declared.subcommand.Subcommand.{Subcommand}
 use Rattle.registers.specs.Record.{nothingAwaited, settings, withWindow, withParked}
 use Rattle.registers.specs.Subcommand.{wants}
 use Rattle.registers.specs.Next.{awaited, joinedOf, counted, effectOf, parmOf, coordinateOf, recordAfter}
-use Rattle.registers.specs.Allowed.{allowed, fits}
-use Rattle.registers.specs.Bounds.{windowFits}
-use Rattle.registers.specs.Refusal.{tableOf, table, isUnfit, refusalOf, readTable, readRefusalOf}
+use Rattle.refusals.specs.Allowed.{allowed, fits}
+use Rattle.refusals.specs.Bounds.{windowFits}
+use Rattle.refusals.specs.Refusal.{tableOf, table, isUnfit, refusalOf, readTable, readRefusalOf}
 use Rattle.ground.proofs.Truth.{neither}
 use Rattle.registers.proofs.Effects.{effect-has}
-use Rattle.registers.proofs.Refusals.{accepted-when, read-when, lowest-none}
-use Rattle.registers.proofs.Kept.{parts, whole, sound-window}
+use Rattle.refusals.proofs.Refusals.{accepted-when, read-when, lowest-none}
+use Rattle.refusals.proofs.Kept.{parts, whole, sound-window}
 use Rattle.former.specs.Former.{wasWord, wasRecord, wasUnfit, wasBarred, wasRefused, wasAfter, wasReadRefused}
 use Rattle.former.specs.Request.{Widened, kept, first, Alike}
 

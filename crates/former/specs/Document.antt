@@ -13,8 +13,8 @@ use Rattle.registers.specs.declared.word.Coordinate.the-variants.{Y, X}
 use Rattle.registers.specs.declared.subcommand.Subcommand.the-variants.{Window, Load, Save}
 use Rattle.registers.specs.Record.{window, withWindow, resetOf, initOf}
 use Rattle.registers.specs.Next.{awaited, transferredOf, recordAfter}
-use Rattle.registers.specs.Allowed.{allowed}
-use Rattle.registers.specs.Refusal.{isInit}
+use Rattle.refusals.specs.Allowed.{allowed}
+use Rattle.refusals.specs.Refusal.{isInit}
 use Rattle.former.specs.Former.{formerCoordinate, formerBorder, formerRows, wasCoordinate, wasBorder, wasNumber, wasWord, wasUnfit, wasBarred, formerReset, wasRows, former, wasReadRefused}
 
 -- the number that the last of some words got from reset on, over memories of one length, where those before it were accepted

@@ -20,9 +20,9 @@ use Rattle.registers.specs.declared.subcommand.Subcommand.the-variants.{Nothing
 use Rattle.registers.specs.Record.{window, withWindow, resetOf}
 use Rattle.registers.specs.Subcommand.{subcommandOf}
 use Rattle.registers.specs.Next.{awaited, isDeepPicture, transferredOf, recordAfter, completedBy, penOf}
-use Rattle.registers.specs.Allowed.{allowed}
-use Rattle.registers.specs.Bounds.{eachCame}
-use Rattle.registers.specs.Refusal.{isInit, tableOf, lowest, isUnfit, readTable}
+use Rattle.refusals.specs.Allowed.{allowed}
+use Rattle.refusals.specs.Bounds.{eachCame}
+use Rattle.refusals.specs.Refusal.{isInit, tableOf, lowest, isUnfit, readTable}
 use Rattle.machine.specs.Machine.{Machine, Memories}
 use Rattle.chip.specs.declared.transfer.Reading.{Reading}
 use Rattle.chip.specs.Chip.{figureOffers, wordStores}

@@ -21,8 +21,8 @@ use Rattle.stream.proofs.Round.{unpack-fits}
 use Rattle.registers.specs.declared.Registers.{Registers}
 use Rattle.registers.specs.Record.{resetOf}
 use Rattle.registers.specs.Word.{wordOf}
-use Rattle.registers.specs.Refusal.{refusalOf}
-use Rattle.registers.proofs.Refusals.{given-2}
+use Rattle.refusals.specs.Refusal.{refusalOf}
+use Rattle.refusals.proofs.Refusals.{given-2}
 use Rattle.machine.specs.Run.{Ran, ran, advance, runFrom, runOf}
 use Rattle.machine.specs.Machine.{Memories, stepOf}
 use Rattle.machine.proofs.Runs.{zero-or-not, advance-refused, stays, index-low}

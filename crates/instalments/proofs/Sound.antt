@@ -13,9 +13,9 @@ use Rattle.stream.specs.Format.{bits, number}
 use Rattle.stream.proofs.Bits.{Fits, fits-append, fits-drop, fits-take, bits-fit, length-bits, number-lt}
 use Rattle.registers.specs.declared.Registers.{Registers}
 use Rattle.registers.specs.Record.{settings}
-use Rattle.registers.specs.Bounds.{inBounds}
+use Rattle.refusals.specs.Bounds.{inBounds}
 use Rattle.ground.proofs.Truth.{both, and-both}
-use Rattle.registers.proofs.Kept.{reset-kept}
+use Rattle.refusals.proofs.Kept.{reset-kept}
 use Rattle.machine.specs.Run.{Ran}
 use Rattle.machine.specs.Machine.{Memories}
 use Rattle.machine.proofs.Runs.{zero-or-not}

@@ -12,12 +12,12 @@ use lib.ListN.{length}
 use borrow.Author.Tests.{eq-eqb, ne-eqb, eqb-true, le-ltb, ltb-false}
 use Rattle.registers.specs.declared.Registers.{Registers}
 use Rattle.registers.specs.Word.{wordOf}
-use Rattle.registers.specs.Bounds.{inBounds}
-use Rattle.registers.specs.Refusal.{isUnknown, isCold, refusalOf}
+use Rattle.refusals.specs.Bounds.{inBounds}
+use Rattle.refusals.specs.Refusal.{isUnknown, isCold, refusalOf}
 use Rattle.ground.proofs.Truth.{both, and-both}
-use Rattle.registers.proofs.Commands.{decode-unknown}
-use Rattle.registers.proofs.Refusals.{given-1, given-11, given-12, given-13, given-most}
-use Rattle.registers.proofs.Begun.{accepted-begun}
+use Rattle.refusals.proofs.Commands.{decode-unknown}
+use Rattle.refusals.proofs.Refusals.{given-1, given-11, given-12, given-13, given-most}
+use Rattle.refusals.proofs.Begun.{accepted-begun}
 use Rattle.machine.specs.Run.{Outcome, outcome, Ran, ran, advance, runFrom}
 use Rattle.machine.specs.Machine.{Memories, stepOf}
 use Rattle.machine.proofs.Runs.{advance-accepted, advance-refused, advance-stays, Comes, took, halted, stood, comes}

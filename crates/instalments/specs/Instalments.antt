@@ -9,8 +9,8 @@ use Rattle.stream.specs.Format.{bits, number}
 use Rattle.registers.specs.declared.Registers.{Registers}
 use Rattle.registers.specs.Record.{resetOf}
 use Rattle.registers.specs.Word.{wordOf}
-use Rattle.registers.specs.Bounds.{inBounds}
-use Rattle.registers.specs.Refusal.{isCold}
+use Rattle.refusals.specs.Bounds.{inBounds}
+use Rattle.refusals.specs.Refusal.{isCold}
 use Rattle.machine.specs.Run.{Ran, ran, advance}
 use Rattle.machine.specs.Machine.{Memories, stepOf}
 use Rattle.chip.specs.Chip.{chip}

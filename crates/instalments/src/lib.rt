@@ -90,7 +90,7 @@ fn is_sound(s: Intake) -> bool
     let cold = registers.started == 0;
     bits_fit(is_closed(s.refusal, s.over), s.index, s.held, s.count)
         & (number_fits(s.over, s.index, s.refusal)
-            & ((!cold | ((s.index == 0) & (s.sum == 0))) & registers.is_sound()))
+            & ((!cold | ((s.index == 0) & (s.sum == 0))) & refusals::bounds::is_sound(registers)))
 }
 
 // The same words run, with another number, other bits held and another end.

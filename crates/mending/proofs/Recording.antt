@@ -18,8 +18,8 @@ use Rattle.stream.proofs.Round.{unpack-fits, unpack-pack, pack-unpack, packed-g
 use Rattle.registers.specs.declared.Registers.{Registers}
 use Rattle.registers.specs.Record.{resetOf}
 use Rattle.registers.specs.Word.{wordOf}
-use Rattle.registers.specs.Refusal.{refusalOf, next}
-use Rattle.registers.proofs.Kept.{next-refused}
+use Rattle.refusals.specs.Refusal.{refusalOf, next}
+use Rattle.refusals.proofs.Kept.{next-refused}
 use Rattle.machine.specs.Run.{Outcome, Ran, ran, runFrom, runOf}
 use Rattle.machine.specs.Machine.{Memories, stepOf}
 use Rattle.machine.specs.Offers.{State, state, allOf, nextIn}

@@ -23,8 +23,8 @@ use Rattle.stream.proofs.Settled.{settled}
 use Rattle.registers.specs.declared.Registers.{Registers}
 use Rattle.registers.specs.Record.{resetOf}
 use Rattle.registers.specs.Word.{wordOf}
-use Rattle.registers.specs.Refusal.{next}
-use Rattle.registers.proofs.Refusals.{given-most}
+use Rattle.refusals.specs.Refusal.{next}
+use Rattle.refusals.proofs.Refusals.{given-most}
 use Rattle.machine.specs.Run.{Outcome, outcome}
 use Rattle.machine.specs.Machine.{Memories, memories, stepOf}
 use Rattle.machine.specs.Offers.{nextIn}

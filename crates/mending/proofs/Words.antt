@@ -14,10 +14,10 @@ use Rattle.stream.proofs.Bits.{Fits, none, more}
 use Rattle.registers.specs.declared.Registers.{Registers}
 use Rattle.registers.specs.declared.word.Word.{Word}
 use Rattle.registers.specs.Record.{resetOf}
-use Rattle.registers.specs.Bounds.{inBounds}
+use Rattle.refusals.specs.Bounds.{inBounds}
 use Rattle.registers.specs.Word.{wordOf}
 use Rattle.registers.specs.Next.{recordAfter}
-use Rattle.registers.specs.Refusal.{table, lowest, refusalOf, next}
+use Rattle.refusals.specs.Refusal.{table, lowest, refusalOf, next}
 use Rattle.machine.proofs.Runs.{zero-or-not}
 use Rattle.mending.specs.Mend.{numberIn, afterIn, keptIn, Dropped, dropped, droppedIn, droppedOf, indicesOf}
 

@@ -6,13 +6,13 @@ use Prim.Native.Nat.{ℕ}
 use Rattle.stream.specs.Format.{bits, number, joined, cut, whole, closing, unpackOf, packOf}
 use Rattle.stream.specs.Calls.{badTail}
 use Rattle.registers.specs.Lines.{lineOf}
-use Rattle.registers.specs.Bounds.{inBounds, frameFits, modesFit, windowFits, figureFits, vertexFits, parkedFits, regionFits}
+use Rattle.refusals.specs.Bounds.{inBounds, frameFits, modesFit, windowFits, figureFits, vertexFits, parkedFits, regionFits}
 use Rattle.registers.specs.Subcommand.{subcommandOf}
 use Rattle.registers.specs.Record.{settings, resetOf}
 use Rattle.registers.specs.Word.{decode, wordOf}
-use Rattle.registers.specs.Allowed.{initAllowed}
+use Rattle.refusals.specs.Allowed.{initAllowed}
 use Rattle.registers.specs.Next.{recordAfter}
-use Rattle.registers.specs.Refusal.{refusalOf, next}
+use Rattle.refusals.specs.Refusal.{refusalOf, next}
 use Rattle.mending.specs.Mend.{keptIn, dropped, droppedIn, keptOf, mendedOf, droppedOf, cutOf, clearedOf}
 
 -- the recording: F0000, 70000 and 10005 hex, and then 9

@@ -11,7 +11,7 @@ use Rattle.stream.specs.Calls.{badTail, over}
 use Rattle.registers.specs.declared.Registers.{Registers}
 use Rattle.registers.specs.Record.{resetOf}
 use Rattle.registers.specs.Word.{wordOf}
-use Rattle.registers.specs.Refusal.{refusalOf, next}
+use Rattle.refusals.specs.Refusal.{refusalOf, next}
 use Rattle.picture.specs.Lent.{Memory, Lent}
 use Rattle.machine.specs.Machine.{Memories, stepOf}
 use Rattle.machine.specs.Lent.{found, left}

@@ -1,10 +1,8 @@
--- What INIT and LX begin: behind an accepted word an INIT was accepted, and after INIT no region is open; LX starts a line visible and not at its end, and
--- END 1 closes it. Assumes nothing.
+-- What INIT and LX begin: after INIT no region is open; LX starts a line visible and not at its end, and END 1 closes it. Assumes nothing.
 use mathlib.Core.Path.{_≡_, refl, ap₂}
-use mathlib.Core.Bool.{true, false, not, _&&_}
+use mathlib.Core.Bool.{true, false}
 use Prim.Native.Nat.{ℕ}
-use Rattle.registers.specs.declared.word.Word.{Word}
-use Rattle.registers.specs.declared.word.Word.the-variants.{Init, Aux, Parm, At, Img, Ptrn, Reserved, Unmodelled, Unknown}
+use Rattle.registers.specs.declared.word.Word.the-variants.{Init, At}
 use Rattle.registers.specs.declared.word.Coordinate.the-variants.{Lx}
 use Rattle.registers.specs.declared.shape.Shape.the-variants.{Line}
 use Rattle.registers.specs.declared.shape.Completed.the-variants.{Segment}
@@ -13,9 +11,6 @@ use Rattle.registers.specs.declared.Registers.{Registers}
 use Rattle.registers.specs.Record.{noFigure, invBit, endBit, isOn, noRegion, settings}
 use Rattle.registers.specs.Figure.{shapeOf, vertexOf, grownOf, completes, figureAfter, vertexCompletes}
 use Rattle.registers.specs.Next.{coordinateOf, recordAfter}
-use Rattle.registers.specs.Refusal.{isInit, isCold, refusalOf}
-use Rattle.registers.proofs.Effects.{parm-leaves, coordinate-leaves}
-use Rattle.registers.proofs.Refusals.{accepted-when}
 
 -- ---- INIT
 
@@ -23,23 +18,6 @@ use Rattle.registers.proofs.Refusals.{accepted-when}
 pub init-drops : (r : Registers) (d : ℕ) → recordAfter r (Init d) .region ≡ noRegion
 unfolding recordAfter settings
 init-drops r d = refl
-
--- INIT starts the record, and no other word changes whether it is started
-begun-after : (r : Registers) (w : Word) → not (isInit w) && isCold r ≡ false → isCold (recordAfter r w) ≡ false
-unfolding recordAfter settings
-begun-after r (Init d) h = refl
-begun-after r (Aux n) h = h
-begun-after r (Parm v) h = rw (parm-leaves r v .started) h
-begun-after r (At c n) h = rw (coordinate-leaves r c n .0) h
-begun-after r (Img d) h = h
-begun-after r (Ptrn v) h = h
-begun-after r Reserved h = h
-begun-after r Unmodelled h = h
-begun-after r Unknown h = h
-
--- so behind an accepted word an INIT was accepted
-pub accepted-begun : (ni nz : ℕ) (r : Registers) (w : Word) → refusalOf ni nz r w ≡ 0 → isCold (recordAfter r w) ≡ false
-accepted-begun ni nz r w e = begun-after r w (accepted-when ni nz r w .0 e .begun)
 
 -- ---- lines
 

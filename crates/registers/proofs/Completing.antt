@@ -1,10 +1,7 @@
 -- What words complete: X and PX what their vertex completes, all others nothing; and the vertices of it. Assumes nothing.
-use mathlib.Core.Path.{_≡_}
-use mathlib.Core.Bool.{Bool, true, cond}
-use Prim.Native.Nat.{ℕ, _≤_}
-use borrow.Author.Tests.{leb-true}
+use mathlib.Core.Bool.{Bool, cond}
+use Prim.Native.Nat.{ℕ}
 use Rattle.picture.specs.declared.Vertex.{Vertex}
-use Rattle.picture.specs.Limits.{largestCoordinate}
 use Rattle.registers.specs.declared.word.Word.{Word}
 use Rattle.registers.specs.declared.word.Word.the-variants.{Init, Aux, Parm, At, Img, Ptrn, Reserved, Unmodelled, Unknown}
 use Rattle.registers.specs.declared.word.Coordinate.{Coordinate}
@@ -16,12 +13,7 @@ use Rattle.registers.specs.declared.shape.Completed.the-variants.{Nothin
 use Rattle.registers.specs.declared.Registers.{Registers}
 use Rattle.registers.specs.Figure.{shapeOf, vertexOf, isPair, completes, vertexCompletes}
 use Rattle.registers.specs.Next.{coordinateCompletes, completedBy}
-use Rattle.registers.specs.Allowed.{isCoordinate, allowed}
-use Rattle.registers.specs.Bounds.{vertexFits}
-use Rattle.registers.specs.Refusal.{refusalOf}
-use Rattle.ground.proofs.Truth.{both, either}
-use Rattle.registers.proofs.Refusals.{accepted-when}
-use Rattle.registers.proofs.Kept.{parts, vertices, vertex-fits}
+use Rattle.ground.proofs.Truth.{either}
 
 -- ---- only X and PX complete
 
@@ -73,25 +65,3 @@ module _ (P : Vertex → Type 0) (r : Registers) (first : P (r .figure .first)) 
   -- what the open figure's vertices have, and the one that an x makes, the vertices have of what it completes
   pub vertex-has : (n : ℕ) → P (vertexOf r n) → AllVertices P (vertexCompletes r n)
   vertex-has n h = completes-has (shapeOf (r .figure .shape)) _ (vertexOf r n) h
-
-  -- and so of what an accepted word completes, if each vertex has it that an allowed x makes
-  pub completed-has : ((n : ℕ) → isCoordinate n ≡ true → P (vertexOf r n)) → (ni nz : ℕ) (w : Word) → refusalOf ni nz r w ≡ 0 → AllVertices P (completedBy r w)
-  completed-has new ni nz w e =
-      only-x-and-px (λ w f. allowed r w ≡ true → AllVertices P (f r)) (λ w h. tt) (λ n h. vertex-has n (new n h)) (λ n h. vertex-has n (new n h)) w
-      (accepted-when ni nz r w .0 e .valued)
-
--- a vertex whose coordinates are at most the largest
-pub record Near (v : Vertex) : Type 0 where
-  pub across : v .x ≤ largestCoordinate
-  pub up : v .y ≤ largestCoordinate
-
-near : (v : Vertex) → vertexFits v ≡ true → Near v
-unfolding vertexFits
-near v h = let q = both (isCoordinate (v .x)) (isCoordinate (v .y)) h in record { across = leb-true _ _ (q .0); up = leb-true _ _ (q .1) }
-
--- the vertices of what an accepted word completes have coordinates of at most the largest
-pub completed-near : (ni nz : ℕ) (r : Registers) (w : Word) → refusalOf ni nz r w ≡ 0 → AllVertices Near (completedBy r w)
-completed-near ni nz r w e =
-    let s = parts r (accepted-when ni nz r w .0 e .sound) in
-    let q = vertices (r .figure) (s .figure) in
-    completed-has Near r (near (r .figure .first) (q .0)) (near (r .figure .second) (q .1)) (λ n h. near (vertexOf r n) (vertex-fits r s n h)) ni nz w e

@@ -1,13 +1,7 @@
 pub mod Begun
-pub mod Chains
-pub mod Commands
 pub mod Completing
 pub mod Effects
-pub mod Enables
-pub mod Kept
 pub mod Layouts
 pub mod Lengths
 pub mod Parking
-pub mod Refusals
 pub mod Table
-pub mod Tidy

@@ -5,6 +5,3 @@ pub mod Record
 pub mod Region
 pub mod Figure
 pub mod Next
-pub mod Allowed
-pub mod Bounds
-pub mod Refusal

@@ -16,7 +16,9 @@ use Rattle.registers.specs.declared.Parked.{Parked}
 use Rattle.registers.specs.declared.Registers.{Registers}
 use Rattle.registers.specs.declared.shape.Completed.{Completed}
 use Rattle.registers.specs.declared.shape.Completed.the-variants.{Nothing as None}
-use Rattle.registers.specs.Record.{isOn, depthBit, iBit, zBit, pictureBit, loadNumber, awaiting, nothingAwaited, opened, regionOf, withPmode, withLmode, withZcontrol, withHcontrol, withLstatus, withTransparency, withPlanes, withSection, latch, window, dash, withModes, withWindow, withDash, withLatch, withFigure, withParked, withRegion, initOf}
+use Rattle.registers.specs.Record.{isOn, depthBit, iBit, zBit, pictureBit, loadNumber, awaiting, nothingAwaited, opened, regionOf, initOf}
+use Rattle.registers.specs.Record.{withPmode, withLmode, withZcontrol, withHcontrol, withLstatus, withTransparency, withPlanes, withSection}
+use Rattle.registers.specs.Record.{latch, window, dash, withModes, withWindow, withDash, withLatch, withFigure, withParked, withRegion}
 use Rattle.registers.specs.Region.{nextPixel}
 use Rattle.registers.specs.Subcommand.{subcommandOf, wants}
 use Rattle.registers.specs.Figure.{vertexOf, figureAfter, vertexCompletes}

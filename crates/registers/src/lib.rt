@@ -1,11 +1,8 @@
-// The command machine without its drawing: words, the register record, what is refused, the record after a word, and the figure that a
-// word completes.
-mod allow;
-mod bounds;
-mod lines;
+// The command machine without its drawing: words, the register record, the record after an accepted word, and the figure that a word
+// completes. Which words are refused is asked elsewhere (the crate `refusals`).
+pub mod lines;
 mod next;
-mod refuse;
-mod regions;
+pub mod regions;
 pub mod shape;
 pub mod subcommand;
 pub mod word;
@@ -33,10 +30,10 @@ pub(crate) const END: u16 = 16;
 pub(crate) const ALL_BITS: u16 = 65535;
 
 // The bits of a line's pattern, by which its steps are counted.
-pub(crate) const PATTERN_LENGTH: u16 = 32;
+pub const PATTERN_LENGTH: u16 = 32;
 
 // In place of an AUX number: nothing is awaited; IMG's parameters are, for a region to memory; with one more, from memory.
-pub(crate) const NOTHING: u16 = 13;
+pub const NOTHING: u16 = 13;
 
 pub(crate) const LOAD: u16 = 14;
 

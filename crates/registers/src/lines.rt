@@ -3,11 +3,11 @@ ghost use mathlib.Core.Path.{_≡_};
 ghost use Rattle.registers.specs.Lines.{codeIn, lineOf};
 
 // The shortest and the longest that are listed, and what all are multiples of.
-pub(crate) const SHORTEST_LINE: u16 = 256;
+pub const SHORTEST_LINE: u16 = 256;
 
-pub(crate) const LONGEST_LINE: u16 = 8768;
+pub const LONGEST_LINE: u16 = 8768;
 
-pub(crate) const LINE_UNIT: u16 = 64;
+pub const LINE_UNIT: u16 = 64;
 
 // From a line length code to the line length; 0 for a code that is not listed.
 const LENGTHS: [u16; 64] = [
@@ -78,7 +78,7 @@ const LENGTHS: [u16; 64] = [
 ];
 
 // The line length that INIT's data name; 0 for a code that is not listed.
-pub(crate) fn line_length(data: u16) -> u16
+pub fn line_length(data: u16) -> u16
     ensures { λ r. ⌜ r ≡ lineOf (codeIn «data») ⌝ }
 {
     let code = (data / 256 % 64) as usize;

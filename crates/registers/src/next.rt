@@ -1,5 +1,5 @@
 // The record after a word, one method for each family of commands, and the figure that a word completes. Whether a word is refused is
-// asked elsewhere (refuse.rt).
+// asked elsewhere (the crate `refusals`).
 ghost use mathlib.Core.Path.{_≡_};
 ghost use Rattle.registers.specs.Record.{awaiting, withParked, withFigure, withRegion, laid, settings, resetAs, resetOf, initOf};
 ghost use Rattle.registers.specs.Figure.{vertexOf, figureAfter, vertexCompletes};

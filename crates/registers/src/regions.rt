@@ -1,9 +1,16 @@
 // Regions: the pixels of a picture, from the first corner towards the second, along x first.
 ghost use mathlib.Core.Path.{_≡_};
+ghost use Prim.Native.Nat.{_-_};
 ghost use Rattle.registers.specs.Record.{noRegion, regionOf};
 ghost use Rattle.registers.specs.Region.{toward, nextPixel};
 use crate::Region;
-use crate::bounds::less_one;
+
+// One less, and 0 for 0.
+pub fn less_one(n: u16) -> u16
+    ensures { λ r. ⌜ r ≡ n - 1 ⌝ }
+{
+    if n == 0 { 0 } else { n - 1 }
+}
 
 // One step from a coordinate towards another.
 fn step_toward(a: u16, b: u16) -> u16

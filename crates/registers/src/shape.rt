@@ -24,7 +24,7 @@ pub enum Completed {
 }
 
 // The shape that the record's number stands for.
-pub(crate) fn shape_of(number: u16) -> Shape
+pub fn shape_of(number: u16) -> Shape
     ensures { λ r. ⌜ r ≡ shapeOf number ⌝ }
 {
     match number {

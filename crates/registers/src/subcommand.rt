@@ -3,9 +3,9 @@ ghost use mathlib.Core.Path.{_≡_};
 ghost use Rattle.registers.specs.Subcommand.{subcommandOf, wants};
 
 // The largest AUX number, and the one that is not modelled.
-pub(crate) const LARGEST_AUX: u16 = 12;
+pub const LARGEST_AUX: u16 = 12;
 
-pub(crate) const UNMODELLED_AUX: u16 = 11;
+pub const UNMODELLED_AUX: u16 = 11;
 
 // The subcommands that are modelled, and none.
 pub enum Subcommand {

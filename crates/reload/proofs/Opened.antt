@@ -14,11 +14,11 @@ use Rattle.registers.specs.declared.shape.Completed.the-variants.{Nothing}
 use Rattle.registers.specs.Record.{nothingAwaited, regionOf, withParked, withRegion}
 use Rattle.registers.specs.Subcommand.{subcommandOf}
 use Rattle.registers.specs.Next.{awaited, effectOf, parmOf, recordAfter, completedBy}
-use Rattle.registers.specs.Allowed.{onlyBits, imgBits, parameterAllowed}
-use Rattle.registers.specs.Bounds.{inBounds}
-use Rattle.registers.specs.Refusal.{isCold, awaits, refusalOf}
-use Rattle.registers.proofs.Refusals.{Accepted, accepted-when}
-use Rattle.registers.proofs.Kept.{after-kept}
+use Rattle.refusals.specs.Allowed.{onlyBits, imgBits, parameterAllowed}
+use Rattle.refusals.specs.Bounds.{inBounds}
+use Rattle.refusals.specs.Refusal.{isCold, awaits, refusalOf}
+use Rattle.refusals.proofs.Refusals.{Accepted, accepted-when}
+use Rattle.refusals.proofs.Kept.{after-kept}
 use Rattle.machine.specs.Run.{Outcome, outcome}
 use Rattle.machine.specs.Machine.{Memories, stepOf}
 use Rattle.machine.specs.Offers.{State, state}

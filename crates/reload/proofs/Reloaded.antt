@@ -20,10 +20,10 @@ use Rattle.registers.specs.Record.{isOn, iBit, zBit, nothingAwaited, regionOf, 
 use Rattle.registers.specs.Region.{moved, nextPixel}
 use Rattle.registers.specs.Subcommand.{subcommandOf}
 use Rattle.registers.specs.Next.{penOf, isDeepPicture, recordAfter, completedBy}
-use Rattle.registers.specs.Bounds.{inBounds}
-use Rattle.registers.specs.Refusal.{isCold, awaits, isUnfit, refusalOf}
-use Rattle.registers.proofs.Refusals.{accepted-when, given-14, read-when, read-14}
-use Rattle.registers.proofs.Kept.{after-kept, read-kept}
+use Rattle.refusals.specs.Bounds.{inBounds}
+use Rattle.refusals.specs.Refusal.{isCold, awaits, isUnfit, refusalOf}
+use Rattle.refusals.proofs.Refusals.{accepted-when, given-14, read-when, read-14}
+use Rattle.refusals.proofs.Kept.{after-kept, read-kept}
 use Rattle.machine.specs.Run.{Outcome, outcome}
 use Rattle.machine.specs.Machine.{Memories, memories, numberOf, stepOf}
 use Rattle.machine.specs.Offers.{State, state, onward}

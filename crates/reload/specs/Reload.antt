@@ -17,8 +17,8 @@ use Rattle.registers.specs.declared.word.Word.the-variants.{Img, Parm, Ptrn}
 use Rattle.registers.specs.Record.{isOn, iBit, zBit, regionOf}
 use Rattle.registers.specs.Region.{nextPixel}
 use Rattle.registers.specs.Next.{isDeepPicture}
-use Rattle.registers.specs.Bounds.{inBounds}
-use Rattle.registers.specs.Refusal.{isCold, awaits}
+use Rattle.refusals.specs.Bounds.{inBounds}
+use Rattle.refusals.specs.Refusal.{isCold, awaits}
 use Rattle.machine.specs.Machine.{Memories, numberOf, stepOf}
 use Rattle.machine.specs.Offers.{State, allOf}
 use Rattle.chip.specs.Chip.{chip}

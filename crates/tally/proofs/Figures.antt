@@ -28,8 +28,8 @@ use Rattle.registers.specs.declared.shape.Completed.{Completed}
 use Rattle.registers.specs.declared.shape.Completed.the-variants.{Nothing, Triangle, Segment}
 use Rattle.registers.specs.Record.{isOn, sectionBit}
 use Rattle.registers.specs.Next.{completedBy, penOf}
-use Rattle.registers.proofs.Refusals.{accepted-when}
-use Rattle.registers.proofs.Completing.{completed-near}
+use Rattle.refusals.proofs.Refusals.{accepted-when}
+use Rattle.refusals.proofs.Vertices.{completed-near}
 use Rattle.machine.specs.Machine.{Memories, rowsIn, numberOf}
 use Rattle.chip.specs.Chip.{isConstant, styleOf, wholeOffers, isCut, figureOffers, chip}
 use Rattle.chip.proofs.Laws.{figure-counts, line-low}

@@ -24,9 +24,10 @@ use Rattle.registers.specs.declared.shape.Completed.{Completed}
 use Rattle.registers.specs.declared.shape.Completed.the-variants.{Nothing}
 use Rattle.registers.specs.Record.{laid, settings, resetAs, resetOf}
 use Rattle.registers.specs.Next.{isDeepPicture, recordAfter, completedBy, penOf}
-use Rattle.registers.specs.Refusal.{isInit, isPtrn, isCold, refusalOf, readRefusalOf}
-use Rattle.registers.proofs.Refusals.{accepted-when, read-when}
-use Rattle.registers.proofs.Layouts.{after-laid, completed-laid, number-laid, number-even, read-laid, read-even}
+use Rattle.refusals.specs.Refusal.{isInit, isPtrn, isCold, refusalOf, readRefusalOf}
+use Rattle.refusals.proofs.Refusals.{accepted-when, read-when}
+use Rattle.registers.proofs.Layouts.{after-laid, completed-laid}
+use Rattle.refusals.proofs.Layouts.{number-laid, number-even, read-laid, read-even}
 use Rattle.machine.specs.Run.{Ran, ran, runOf}
 use Rattle.machine.specs.Along.{Along}
 use Rattle.machine.specs.Machine.{Memories, memories, Even, rowsIn, drawing, accepted, numberOf, stepOf}

@@ -9,7 +9,7 @@ use lib.ListN.{length}
 use borrow.Author.Needs.{needs}
 use Rattle.stream.specs.Format.{unpackOf}
 use Rattle.registers.specs.declared.Registers.{Registers}
-use Rattle.registers.specs.Bounds.{inBounds}
+use Rattle.refusals.specs.Bounds.{inBounds}
 use Rattle.machine.specs.Machine.{memories}
 use Rattle.chip.proofs.Streams.{Reached, reached-start, reached-more, reached-kept, reached-halt, reached-end}
 use Rattle.chip.proofs.run.run_words.Statement.{statement}

@@ -1,6 +1,6 @@
 -- `step::step_kept` meets its contract: within the bounds, over memories of one length, what is judged is what a word gets. Assumes nothing.
 use mathlib.Core.Path.{_∙_}
-use Rattle.registers.proofs.Kept.{kept-judged}
+use Rattle.refusals.proofs.Kept.{kept-judged}
 use borrow.Author.Needs.{needs}
 use Rattle.chip.proofs.step.step_kept.Statement.{statement}
 use Rattle.chip.proofs.step.step_kept.Tie as tie

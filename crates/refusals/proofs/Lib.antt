@@ -1,0 +1,11 @@
+pub mod Begun
+pub mod Came
+pub mod Chains
+pub mod Commands
+pub mod Enables
+pub mod Frames
+pub mod Kept
+pub mod Layouts
+pub mod Refusals
+pub mod Tidy
+pub mod Vertices

@@ -1,0 +1,4 @@
+pub mod Allowed
+pub mod Bounds
+pub mod Refusal
+pub mod Rows
