@@ -3,7 +3,7 @@ use denote.Ref.{now}
 use Prim.Native.Nat.{ℕ, zero, suc, _+_, _-_, _*_, _/_, _%_, _^_, _≤_, _<_}
 use mathlib.Core.Path.{_≡_}
 use mathlib.Core.Logic.{_⊎_}
-use mathlib.Core.Bool.{Bool, true, false, cond}
+use mathlib.Core.Bool.{Bool, true, false, cond, _||_}
 use mathlib.Core.List.{List}
 use lib.ListN.{getD, set}
 use Rattle.picture.specs.declared.Carried.{Carried}
@@ -14,10 +14,10 @@ use Rattle.picture.specs.declared.Kind.{Kind}
 use Rattle.picture.specs.declared.Kind.the-variants.{Gouraud}
 use Rattle.picture.specs.declared.Compared.{Compared}
 use Rattle.picture.specs.declared.Compared.the-variants.{Nearer, Equal, Farther}
-use Rattle.picture.specs.Place.{Layout, plain, tiled, share, layoutOf, rowsOf}
+use Rattle.picture.specs.Place.{Layout, plain, tiled, share, layoutOf, liesPlain, liesTiled, rowsOf, mine}
 use Rattle.picture.specs.Offer.{Offer, offer, letsThrough}
 use Rattle.picture.specs.Draw.{spans, shown, carriedTo, spanOffers, nearerPen}
-use Rattle.picture.specs.Picture.{isDeep, comparedOf, isEdge, Picture, picture, drawn}
+use Rattle.picture.specs.Picture.{isDeep, comparedOf, isEdge, Picture, picture, stepAt, drawn}
 use Rattle.picture.specs.Lent.{Lent}
 
 -- nothing but a nearer depth decides, and both numbers are stored whole
@@ -45,7 +45,17 @@ unfoldable pub runOver : (ℕ → ℕ) → Carried → Carried → ℕ → Pictu
 runOver place i z zero p = p
 runOver place i z (suc n) p = nearerAt (place n) (carriedTo i n) (carriedTo z n) (runOver place i z n p)
 
--- these were drawn over two lent memories, and the count of passed pixels went from one number to another
+-- an offer of any sort was drawn at a place of two lent memories, and the count of passed pixels went from one number to another
+abbrev pub Puts : Pen → Kind → ℕ → ℕ → ℕ → Lent → Lent → ℕ → ℕ → Type 0
+Puts pen kind at i z im zm from to =
+    picture (now (im .exit)) (now (zm .exit)) to ≡ stepAt pen kind at i z (picture (now (im .entry)) (now (zm .entry)) from)
+
+-- the same of an offer that only a nearer depth decides
+abbrev pub PutsNearer : ℕ → ℕ → ℕ → Lent → Lent → ℕ → ℕ → Type 0
+PutsNearer at i z im zm from to =
+    picture (now (im .exit)) (now (zm .exit)) to ≡ nearerAt at i z (picture (now (im .entry)) (now (zm .entry)) from)
+
+-- so many offers of that sort were drawn over two lent memories, and the count of passed pixels went from one number to another
 abbrev pub Runs : (ℕ → ℕ) → Carried → Carried → ℕ → Lent → Lent → ℕ → ℕ → Type 0
 Runs place i z count im zm from to =
     picture (now (im .exit)) (now (zm .exit)) to ≡ runOver place i z count (picture (now (im .entry)) (now (zm .entry)) from)
@@ -81,7 +91,15 @@ pub record FitsTiles (base lo hi ni nz : ℕ) : Type 0 where
   pub i : base + alongTiles (hi - 1) < ni
   pub z : base + alongTiles (hi - 1) < nz
 
+-- columns from lo up to and without hi of row y, which is in use, in a memory that has every column
+abbrev pub InWhole : Frame → ℕ → ℕ → ℕ → ℕ → Type 0
+InWhole frame lo hi y rows = (lo < hi) × (hi ≤ frame .line) × (y < rows) × (liesPlain frame || liesTiled frame ≡ true)
+
 -- ---- what a unit of a board has of a row
+
+-- the same columns, where the memory is a unit's
+abbrev pub InShares : Frame → ℕ → ℕ → ℕ → ℕ → Type 0
+InShares frame lo hi y rows = (lo < hi) × (hi ≤ frame .line) × (y < rows) × (liesPlain frame ≡ false) × (liesTiled frame ≡ false)
 
 -- the frame is that of a unit of so many, two or four
 pub record Shares (frame : Frame) (ways : ℕ) : Type 0 where
@@ -89,6 +107,10 @@ pub record Shares (frame : Frame) (ways : ℕ) : Type 0 where
   pub least : ways ≤ frame .layout
   pub most : frame .layout < 2 * ways
   pub is : layoutOf frame ≡ share ways (frame .layout - ways)
+
+-- so many columns of row y, which is in use, that a unit has, from its column x on
+abbrev pub OwnColumns : Frame → ℕ → ℕ → ℕ → ℕ → ℕ → Type 0
+OwnColumns frame ways x count y rows = (Shares frame ways) × (mine (layoutOf frame) x ≡ true) × (x + ways * count < frame .line + ways) × (y < rows)
 
 -- how many columns from column lo on the first one that it has is
 unfoldable pub untilOwn : ℕ → ℕ → ℕ → ℕ

@@ -1,14 +1,13 @@
 // What figures are drawn with: a pixel, and a run of pixels of one row.
 ghost use mathlib.Core.Path.{_≡_};
-ghost use mathlib.Core.Bool.{true, false, _||_};
-ghost use Prim.Native.Nat.{_+_, _*_, _≤_, _<_, min};
+ghost use Prim.Native.Nat.{_+_, _≤_, _<_, min};
 ghost use lib.ListN.{length};
 ghost use Rattle.picture.specs.Draw.{placed, shown, spanOffers};
-ghost use Rattle.picture.specs.Loops.{Shares, ownOffers};
-ghost use Rattle.picture.specs.Place.{liesPlain, liesTiled, layoutOf, placeOf, rowsOf, mine};
+ghost use Rattle.picture.specs.Loops.{InWhole, InShares, OwnColumns, ownOffers};
+ghost use Rattle.picture.specs.Place.{placeOf};
 ghost use Rattle.picture.specs.Offer.{keep, offer};
 ghost use Rattle.picture.specs.Picture.{picture};
-ghost use Rattle.picture.specs.Lent.{Draws};
+ghost use Rattle.picture.specs.Lent.{Draws, rowsOver};
 use crate::Carried;
 use crate::Kind;
 use crate::Pen;
@@ -99,7 +98,7 @@ fn fill(
     im: &mut [u16],
     zm: &mut [u16],
 ) -> u64
-    requires { ⌜ (lo < hi) × (hi ≤ pen .frame .line) × (y < rowsOf (pen .frame) (length (now im)) (length (now zm))) × ((liesPlain (pen .frame) || liesTiled (pen .frame)) ≡ true) ⌝ }
+    requires { ⌜ InWhole (pen .frame) lo hi y (rowsOver (pen .frame) im zm) ⌝ }
     ensures { λ r. ⌜ Draws pen (λ rows. spanOffers pen rows kind lo hi y i z) im zm 0 r ⌝ }
 {
     let frame = pen.frame;
@@ -143,7 +142,7 @@ fn fill_own(
     im: &mut [u16],
     zm: &mut [u16],
 ) -> u64
-    requires { ⌜ (Shares (pen .frame) ways) × (mine (layoutOf (pen .frame)) x ≡ true) × (x + ways * count < pen .frame .line + ways) × (y < rowsOf (pen .frame) (length (now im)) (length (now zm))) ⌝ }
+    requires { ⌜ OwnColumns (pen .frame) ways x count y (rowsOver (pen .frame) im zm) ⌝ }
     ensures { λ r. ⌜ Draws pen (λ _. ownOffers pen kind ways x count y i z) im zm 0 r ⌝ }
 {
     let frame = pen.frame;
@@ -184,7 +183,7 @@ fn fill_shared(
     im: &mut [u16],
     zm: &mut [u16],
 ) -> u64
-    requires { ⌜ (lo < hi) × (hi ≤ pen .frame .line) × (y < rowsOf (pen .frame) (length (now im)) (length (now zm))) × (liesPlain (pen .frame) ≡ false) × (liesTiled (pen .frame) ≡ false) ⌝ }
+    requires { ⌜ InShares (pen .frame) lo hi y (rowsOver (pen .frame) im zm) ⌝ }
     ensures { λ r. ⌜ Draws pen (λ rows. spanOffers pen rows kind lo hi y i z) im zm 0 r ⌝ }
 {
     let frame = pen.frame;
@@ -212,7 +211,7 @@ fn fill_row(
     im: &mut [u16],
     zm: &mut [u16],
 ) -> u64
-    requires { ⌜ (lo < hi) × (hi ≤ pen .frame .line) × (y < rowsOf (pen .frame) (length (now im)) (length (now zm))) ⌝ }
+    requires { ⌜ (lo < hi) × (hi ≤ pen .frame .line) × (y < rowsOver (pen .frame) im zm) ⌝ }
     ensures { λ r. ⌜ Draws pen (λ rows. spanOffers pen rows kind lo hi y i z) im zm 0 r ⌝ }
 {
     let frame = pen.frame;

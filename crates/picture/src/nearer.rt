@@ -6,7 +6,7 @@ ghost use lib.ListN.{length};
 ghost use Rattle.picture.specs.declared.Kind.the-variants.{Gouraud};
 ghost use Rattle.picture.specs.Draw.{carriedOne, isPlain, nearerPen, spanOffers};
 ghost use Rattle.picture.specs.Place.{liesPlain, liesTiled, rowsOf};
-ghost use Rattle.picture.specs.Loops.{alongTiles, nearerAt, Runs, Fits, FitsTiles, Beside};
+ghost use Rattle.picture.specs.Loops.{alongTiles, PutsNearer, Runs, Fits, FitsTiles, Beside};
 ghost use Rattle.picture.specs.Picture.{picture};
 ghost use Rattle.picture.specs.Lent.{Draws};
 use crate::Carried;
@@ -55,7 +55,7 @@ fn pick(near: bool, new: u16, old: u16) -> u16
 // numbers are taken out behind the reads: so those that are left have no branch either. n is the count so far.
 fn put_chosen(at: usize, ki: u64, kz: u64, im: &mut [u16], zm: &mut [u16], n: u16) -> u16
     requires { ⌜ (at < length (now im)) × (at < length (now zm)) × (n < 65535) ⌝ }
-    ensures { λ r. ⌜ (picture (now (im .exit)) (now (zm .exit)) r ≡ nearerAt at (ki / carriedOne) (kz / carriedOne) (picture (now (im .entry)) (now (zm .entry)) n)) × (r ≤ n + 1) ⌝ }
+    ensures { λ r. ⌜ (PutsNearer at (ki / carriedOne) (kz / carriedOne) im zm n r) × (r ≤ n + 1) ⌝ }
 {
     let deep = zm[at];
     let stood = im[at];

@@ -5,8 +5,8 @@ ghost use Prim.Native.Nat.{_+_, _<_, _≤_};
 ghost use lib.ListN.{length, set, getD};
 ghost use Rattle.picture.specs.Offer.{isMasked, inWindow, shows, offered, offer};
 ghost use Rattle.picture.specs.Place.{rowsOf};
-ghost use Rattle.picture.specs.Loops.{isNearer, nearerAt};
-ghost use Rattle.picture.specs.Picture.{isDeep, inPlanes, comparedOf, isEdge, wins, passes, newI, newZ, picture, stepAt};
+ghost use Rattle.picture.specs.Loops.{isNearer, Puts, PutsNearer};
+ghost use Rattle.picture.specs.Picture.{isDeep, inPlanes, comparedOf, isEdge, wins, passes, newI, newZ};
 use crate::Compared;
 use crate::Kind;
 use crate::Pen;
@@ -159,7 +159,7 @@ pub(crate) fn put_at(
     n: u64,
 ) -> u64
     requires { ⌜ (at < length (now im)) × (at < length (now zm)) × (n ≤ 65535) ⌝ }
-    ensures { λ r. ⌜ (picture (now (im .exit)) (now (zm .exit)) r ≡ stepAt pen kind at i z (picture (now (im .entry)) (now (zm .entry)) n)) × (r ≤ n + 1) ⌝ }
+    ensures { λ r. ⌜ (Puts pen kind at i z im zm n r) × (r ≤ n + 1) ⌝ }
 {
     if is_passed(pen, kind, at, z, zm) {
         store_i(pen, at, i, im);
@@ -172,7 +172,7 @@ pub(crate) fn put_at(
 // One offer at a place, of the sort that `is_plain` finds.
 pub(crate) fn put_nearer(at: usize, i: u16, z: u16, im: &mut [u16], zm: &mut [u16], n: u64) -> u64
     requires { ⌜ (at < length (now im)) × (at < length (now zm)) × (n ≤ 65535) ⌝ }
-    ensures { λ r. ⌜ (picture (now (im .exit)) (now (zm .exit)) r ≡ nearerAt at i z (picture (now (im .entry)) (now (zm .entry)) n)) × (r ≤ n + 1) ⌝ }
+    ensures { λ r. ⌜ (PutsNearer at i z im zm n r) × (r ≤ n + 1) ⌝ }
 {
     if is_nearer(compare(z, zm[at])) {
         im[at] = i;
