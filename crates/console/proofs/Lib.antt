@@ -1,1 +1,2 @@
+-- the promises of `recording`, `words` and `blank` settle one array each
 pub mod Settled

@@ -87,10 +87,12 @@ module _ (pen : Pen) (kind : Kind) (bare : isBare pen kind ≡ true) where
     chosen-at d e true t = bare-near d e (leb-true z (getD zm at 0) t)
     chosen-at d e false t = ap₂ (λ (k l : List ℕ). picture k l n) (set-getD im at 0) (set-getD zm at 0) ∙ bare-far d (leb-false z (getD zm at 0) t)
 
+    -- storing what is chosen so, and counting so, is what an offer of an edge with depth does
     pub bare-chosen : {vi vz m : ℕ} {t : Bool} → isDeep kind ≡ true → isEdge kind ≡ true → t ≡ leb z (getD zm at 0) → vi ≡ cond t i (getD im at 0)
         → vz ≡ cond t z (getD zm at 0) → m ≡ cond t (n + 1) n → picture (set im at vi) (set zm at vz) m ≡ stepAt pen kind at i z (picture im zm n)
     bare-chosen {vi} {vz} {m} {t} d e p ei ez em = rw (ei, ez, em) (chosen-at d e t (sym p))
 
+    -- storing the number in I alone, and counting one, is what an offer without depth does
     pub bare-ink : isDeep kind ≡ false → picture (set im at i) zm (n + 1) ≡ stepAt pen kind at i z (picture im zm n)
     unfolding stepAt
     bare-ink d =

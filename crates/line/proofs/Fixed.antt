@@ -67,6 +67,7 @@ module _ (n k first second : ℕ) (h : k ≤ n) (p : 0 < n) (u : n ≤ 65535) (f
         (omega (arith, rise-sum, rise-times, mul-le-mul-left k low, mul-assoc k (second - first) carriedOne))
         (omega (arith, rise-sum, rise-times, mul-le-mul-left k high, mul-add k ((second - first) * carriedOne) (n - 1), mul-assoc k (second - first) carriedOne, few))
 
+    -- so between numbers that rise, what is carried from the first number and one half on tells the number of step k
     pub rise-told : carriedTo (carriedBy (first * carriedOne + 140737488355328) g) k ≡ numberAt n k first second
     unfolding carriedTo
     rise-told =
@@ -100,6 +101,7 @@ module _ (n k first second : ℕ) (h : k ≤ n) (p : 0 < n) (u : n ≤ 65535) (f
         (omega (arith, fall-sum, fall-times, mul-le-mul-left k high, mul-assoc k (first - second) carriedOne))
         (omega (arith, fall-sum, fall-times, mul-le-mul-left k low, mul-add k (q * n) (n - 1), mul-assoc k (first - second) carriedOne, few))
 
+    -- so between numbers that fall, what is carried from the first number and one half on tells the number of step k
     pub fall-told : carriedTo (carriedBy (first * carriedOne + 140737488355328) g) k ≡ numberAt n k first second
     unfolding carriedTo
     fall-told =
@@ -124,6 +126,7 @@ still-tells first second s = record { told = λ k h. still k (omega arith) }
     still k e = rw e (still-told first second s)
 
 module _ (n first second : ℕ) (p : 0 < n) (u : n ≤ 65535) (f : first ≤ 65535) (s : second ≤ 65535) where
+  -- from the first number and one half on, where numbers rise and a step adds the carried difference over n, rounded up, each number is told
   pub rise-tells : first ≤ second
       → Tells n first second (carriedBy (first * carriedOne + 140737488355328) (((second - first) * carriedOne + (n - 1)) / n))
   rise-tells l =
@@ -134,6 +137,7 @@ module _ (n first second : ℕ) (p : 0 < n) (u : n ≤ 65535) (f : first ≤ 655
             (omega (arith, div-add-mod' ((second - first) * carriedOne + (n - 1)) n));
       }
 
+  -- and so it is where numbers fall, and what a step adds and the carried difference over n, rounded down, make 0 modulo 2 ^ 64
   pub fall-tells : second < first → (g : ℕ) → (g + (first - second) * carriedOne / n) % 18446744073709551616 ≡ 0
       → Tells n first second (carriedBy (first * carriedOne + 140737488355328) g)
   fall-tells l g w =

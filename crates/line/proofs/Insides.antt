@@ -79,6 +79,7 @@ whole-mine frame x h = go (liesPlain frame) refl h
     go true e l = plain-mine frame x e
     go false e l = tiled-mine frame x l
 
+-- so where the memory has every column and the pattern hides nothing, a pixel is offered just where it is inside window, line and rows in use
 pub direct-offered : (pen : Pen) (rows : ℕ) (kind : Kind) (x y : ℕ) → liesWhole (pen .frame) && isOpen pen kind ≡ true
     → offered pen rows (offer kind x y 0 0) ≡ inField pen rows x y
 direct-offered pen rows kind x y h =

@@ -38,6 +38,7 @@ use Rattle.line.proofs.Rounding.{number-side}
 pub begins : (w : Walk) → w .side .first < 2 ^ 64 → w .i .first < 2 ^ 64 → w .z .first < 2 ^ 64 → Stands w (startOf w)
 begins w s i z = record { side = carried-start (w .side) s; i = carried-start (w .i) i; z = carried-start (w .z) z }
 
+-- where a walk of single steps stands at a step, it stands at the next one with what a step adds
 pub stands-next : (w : Walk) (p : Step) → w .stride ≡ 1 → Stands w p → Stands w (nextOf w p)
 stands-next w p e h =
     rw e
@@ -49,6 +50,7 @@ stands-next w p e h =
 
 -- where a walk stands, it tells the side
 module _ {deep : Bool} {a b : Vertex} {s : Slope} {w : Walk} {p : Step} (on : OnStep a b s (p .k)) (c : Carries deep a b s w) (h : Stands w p) where
+  -- what is carried to a step of the segment tells how far that moves to the side
   pub on-walk : OnWalk a b s p
   on-walk =
       let m : s .m ≤ s .n = rw (on .slope) (smaller-le a b) in
@@ -71,6 +73,7 @@ module _ {deep : Bool} {a b : Vertex} {s : Slope} {w : Walk} {p : Step} (on : On
 abbrev rows : Pen → List ℕ → List ℕ → ℕ
 rows pen i z = rowsOf (pen .frame) (length i) (length z)
 
+-- a loop at step p, its first or a later one, has drawn what f has for the steps before, passed no more pixels than these, and carries what stands at p
 pub record Walked (pen : Pen) (f : ℕ → ℕ → List Offer) (first : ℕ) (deep : Bool) (a b : Vertex) (s : Slope) (w : Walk) (n : ℕ) (i₀ z₀ i z : List ℕ) (p : Step) (passed : ℕ) : Type 0 where
   pub so-far : Reached pen (f (rows pen i₀ z₀)) i₀ z₀ i z passed (min (p .k) (n + 1))
   pub slope : s ≡ slopeOf a b
@@ -82,6 +85,7 @@ pub record Walked (pen : Pen) (f : ℕ → ℕ → List Offer) (first : ℕ) (de
   pub stands : Stands w p
 
 module _ {pen : Pen} {f : ℕ → ℕ → List Offer} {first : ℕ} {deep : Bool} {a b : Vertex} {s : Slope} {w : Walk} {n : ℕ} {i₀ z₀ : List ℕ} where
+  -- a loop may start at its first step with nothing counted, where f has nothing before it
   pub walked-start : {p : Step} → ((j : ℕ) → j < first → f (rows pen i₀ z₀) j ≡ []) → first ≤ 1 → s ≡ slopeOf a b → n ≡ s .n → n ≤ 65535
       → Carries deep a b s w → Stands w p × (p .k ≡ first) → Walked pen f first deep a b s w n i₀ z₀ i₀ z₀ p 0
   walked-start {p} q u e l h c t =
@@ -100,9 +104,11 @@ module _ {pen : Pen} {f : ℕ → ℕ → List Offer} {first : ℕ} {deep : Bool
     walked-step-on : p .k ≤ n → OnStep a b s (p .k)
     walked-step-on l = record { slope = h .slope; step = rw (h .last) at l }
 
+    -- up to the last step, the one that a loop is at is a step of the segment, and its side is told
     pub walked-on : p .k ≤ n → OnWalk a b s p
     walked-on l = on-walk (walked-step-on l) (h .carries) (h .stands)
 
+    -- so it is one that is drawn, or that would be if it had ink
     pub walked-reaches : {style : Style} → first ≡ firstOf (joinedIn style (style .mode)) → p .k ≤ n → Reaches style deep s a b p
     walked-reaches e l =
         record { walk = walked-on l; numbers = on-numbers (walked-step-on l) (h .carries) (h .stands); begun = rw e at (h .begun) }
@@ -138,6 +144,7 @@ module _ {pen : Pen} {f : ℕ → ℕ → List Offer} {first : ℕ} {deep : Bool
         rw e
         (walked-next l d c (stands-next w p (h .carries .single) (h .stands)) (omega (arith, h .carries .single)) (λ k x y g. absurd (omega (arith, x, y, h .carries .single))))
 
+    -- past the last step, all that f has for the steps of the segment is drawn
     pub walked-end : n < p .k → picture i z passed ≡ drawn pen (spans (f (rows pen i₀ z₀)) (larger a b + 1)) (picture i₀ z₀ 0)
     walked-end l =
         let e : min (p .k) (n + 1) ≡ larger a b + 1 = omega (arith, h .last, ap (λ (s : Slope). s .n) (h .slope)) in
@@ -169,6 +176,7 @@ ink-deep style Zero set i z e = absurd (true≢false (sym e))
 ink-deep style One set i z e = absurd (true≢false (sym e))
 ink-deep style Two set i z e = refl
 
+-- without depths a step has the colour of its pattern bit, and is drawn where the bit is set or the mode has a ground
 pub ink-flat : (style : Style) (m : Mode) (set : Bool) (i z : ℕ) → isDeep (kindOf m) ≡ false
     → ink (set || hasGround m) (cond set (style .foreground) (style .background)) 0 ≡ inkOf style m set i z
 ink-flat style Zero true i z e = refl
@@ -236,6 +244,7 @@ module _ (pen : Pen) (rows : ℕ) (style : Style) (a b : Vertex) where
 
   -- by the pixel, the kind and the ink that were computed
   module _ (s : Slope) (p : Step) (q : Pixel) (kind : Kind) (ink : Ink) where
+    -- a step with ink offers its pixel, with the two numbers of the ink
     pub inked-step : Reaches style (isDeep (kindOf (style .mode))) s a b p → q ≡ stepPixel a b (p .k) → kind ≡ kindOf (style .mode)
         → ink ≡ inkOf style (style .mode) (isSet style (p .k)) (p .i / carriedOne) (p .z / carriedOne) → ink .drawn ≡ true
         → keep pen rows (offer kind (q .x) (q .y) (ink .i) (ink .z)) ≡ stepOffers pen rows style (style .mode) a b (p .k)
@@ -246,6 +255,7 @@ module _ (pen : Pen) (rows : ℕ) (style : Style) (a b : Vertex) where
         (λ t. on .numbers .z t ∙ ap (λ (s : Slope). numberAt (s .n) (p .k) (a .z) (b .z)) (on .walk .on .slope))
         (sym (ap (λ (i : Ink). i .drawn) ei) ∙ d))
 
+  -- a step whose computed ink is not drawn offers nothing
   pub blank-step : (p : Step) (ink : Ink) → firstOf (joinedIn style (style .mode)) ≤ p .k
       → ink ≡ inkOf style (style .mode) (isSet style (p .k)) (p .i / carriedOne) (p .z / carriedOne) → ink .drawn ≡ false
       → stepOffers pen rows style (style .mode) a b (p .k) ≡ []

@@ -35,6 +35,7 @@ side-first (suc n) m =
     rw (ne-eqb (suc n) 0 (λ e. omega arith))
     (le-antisymm (round-le (suc n) (0 * m) 0 (zero-lt-suc n) (omega (arith, zero-mul m))) zero-le)
 
+-- the last step moves by all of the smaller distance
 pub side-last : (n m : ℕ) → m ≤ n → sideAt n m n ≡ m
 unfolding sideAt
 side-last zero m h = omega arith
@@ -54,6 +55,7 @@ module _ (n k first second q : ℕ) (h : k ≤ n) where
   mean-ge : q ≤ first → q ≤ second → n * q ≤ (n - k) * first + k * second
   mean-ge f s = omega (arith, parts, mul-le-mul-left (n - k) f, mul-le-mul-left k s)
 
+-- a number is at most what both ends are at most
 pub number-le : (n k first second q : ℕ) → k ≤ n → first ≤ q → second ≤ q → numberAt n k first second ≤ q
 unfolding numberAt
 number-le zero k first second q h f s = s
@@ -61,6 +63,7 @@ number-le (suc n) k first second q h f s =
     rw (ne-eqb (suc n) 0 (λ e. omega arith))
     (round-le (suc n) ((suc n - k) * first + k * second) q (zero-lt-suc n) (mean-le (suc n) k first second q h f s))
 
+-- a number is at least what both ends are at least
 pub number-ge : (n k first second q : ℕ) → k ≤ n → q ≤ first → q ≤ second → q ≤ numberAt n k first second
 unfolding numberAt
 number-ge zero k first second q h f s = s
@@ -83,6 +86,7 @@ number-first n first second p =
     let e : (n - 0) * first + 0 * second ≡ n * first = omega (arith, ap (λ (x : ℕ). x * first) (sub-zero n), zero-mul second) in
     rw (ne-eqb n 0 (λ e. omega arith), e) (le-antisymm (round-le n (n * first) first p (le-refl _)) (round-ge n (n * first) first p (le-refl _)))
 
+-- the last step has the second number, even where it is the only one
 pub number-last : (n first second : ℕ) → numberAt n n first second ≡ second
 unfolding numberAt
 number-last zero first second = refl

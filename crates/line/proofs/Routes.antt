@@ -234,10 +234,12 @@ module _ (pen : Pen) (ni nz : ℕ) (style : Style) (deep ground : Bool) (way : �
 
   -- by what was computed
   module _ (k : ℕ) (on : OnStep a b (r .slope) k) (l : Low a b) {at : ℕ} (is : at ≡ spot k) where
+    -- what was asked of a step's spot tells whether the step's pixel is offered
     pub here-offered : {t : Bool} → t ≡ isHere pen (r .rows) way (r .part) at
         → offered pen rows-in-use (offer (kindOf (style .mode)) (xAt a b k) (yAt a b k) 0 0) ≡ t
     here-offered e = step-here k on l ∙ sym (e ∙ ap (isHere pen (r .rows) way (r .part)) is)
 
+    -- the place that was found for a step's spot is that of the step's pixel
     pub here-placed : {p : ℕ} → p ≡ placedAt (pen .frame) way (r .part) at → p ≡ placeOf (pen .frame) (xAt a b k) (yAt a b k)
     here-placed e = e ∙ ap (placedAt (pen .frame) way (r .part)) is ∙ step-placed k on l
 
@@ -254,6 +256,7 @@ module _ (pen : Pen) (ni nz : ℕ) (style : Style) (deep ground : Bool) (way : �
       not-here j
       (inside-offered j onj i ∙ part-between (pen .frame) p t (xAt a b k) (xAt a b j) (j - k) (omega arith) (omega arith) (steps-apart a b (r .slope) k j onk onj v l) m)
 
+  -- a loop that goes on from a step comes to a later one where its walk stands, and no step of the segment between the two offers anything
   pub goes-on : {p q : Step} → Stands (r .near) p → OnStep a b (r .slope) (p .k) → q ≡ onwardOf way r (spot (p .k)) p
       → Onward (r .near) p q (λ j. j ≤ r .slope .n → stepOffers pen rows-in-use style (style .mode) a b j ≡ [])
   unfolding onwardOf

@@ -21,6 +21,7 @@ towards-first from to = go (leb from to)
     go true = omega arith
     go false = omega arith
 
+-- all of the distance from one number towards another comes to the other
 pub towards-last : (from to : ℕ) → towards from to (distance from to) ≡ to
 towards-last from to = go (leb from to) refl
   where
@@ -40,6 +41,7 @@ module _ (a b : Vertex) where
   unfolding xLeads larger smaller
   x-first h = (le-leb _ _ h, max-eq-left h, min-eq-right h)
 
+  -- where the distance along y is the larger, y leads, n is that distance, and m is the one along x
   pub y-first : across < up → (xLeads a b ≡ false) × (larger a b ≡ up) × (smaller a b ≡ across)
   unfolding xLeads larger smaller
   y-first h = (lt-leb _ _ h, max-eq-right (le-of-lt h), min-eq-left (le-of-lt h))
@@ -53,6 +55,7 @@ module _ (a b : Vertex) where
       go true e = let s = x-first (leb-true _ _ e) in (sym (s .1), sym (s .2))
       go false e = let s = y-first (leb-false _ _ e) in (sym (s .2), sym (s .1))
 
+  -- the smaller distance is at most the larger
   pub smaller-le : smaller a b ≤ larger a b
   unfolding smaller larger
   smaller-le = omega arith
@@ -81,10 +84,12 @@ module _ (a b : Vertex) where
 
   -- in mode 2 the first step is the first vertex, if there is a step to take, and the last is always the second
   module _ (pen : Pen) (rows : ℕ) where
+    -- with a step to take, step 0 offers the first vertex with its own two numbers
     pub first-vertex : 0 < larger a b → shadeOffers pen rows a b 0 ≡ keep pen rows (offer Line2 (a .x) (a .y) (a .i) (a .z))
     unfolding shadeOffers
     first-vertex p = rw (first-point .0, first-point .1, number-first (larger a b) (a .i) (b .i) p, number-first (larger a b) (a .z) (b .z) p)
 
+    -- the last step offers the second vertex with its own two numbers
     pub last-vertex : shadeOffers pen rows a b (larger a b) ≡ keep pen rows (offer Line2 (b .x) (b .y) (b .i) (b .z))
     unfolding shadeOffers
     last-vertex = rw (last-point .0, last-point .1, number-last (larger a b) (a .i) (b .i), number-last (larger a b) (a .z) (b .z))

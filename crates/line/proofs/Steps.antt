@@ -22,9 +22,11 @@ use Rattle.line.proofs.Segments.{x-first, y-first, reaches}
 -- ---- the slope that two distances give
 
 module _ (a b : Vertex) (dx dy : ℕ) (e : dx ≡ distance (a .x) (b .x)) (f : dy ≡ distance (a .y) (b .y)) where
+  -- where the distance along x is no less than that along y, x leads, n is the distance along x and m the one along y
   pub slope-level : dy ≤ dx → record { level = true; n = dx; m = dy } ≡ slopeOf a b
   slope-level h = let s = x-first a b (rw (e, f) at h) in rw (s .0, s .1, s .2, e, f)
 
+  -- where the distance along x is less than that along y, y leads, n is the distance along y and m the one along x
   pub slope-steep : dx < dy → record { level = false; n = dy; m = dx } ≡ slopeOf a b
   slope-steep h = let s = y-first a b (rw (e, f) at h) in rw (s .0, s .1, s .2, e, f)
 
@@ -47,6 +49,7 @@ module _ (a b : Vertex) (s : Slope) (k side : ℕ) (h : OnStep a b s k) (e : sid
   side-fits : side ≤ smaller a b
   side-fits = rw side-is (side-le (larger a b) (smaller a b) k k-le)
 
+  -- where x leads, step k is k far along x, and as far along y as it moves to the side
   pub lands-level : s .level ≡ true → Lands a b k k side
   unfolding xAt yAt
   lands-level t =
@@ -54,6 +57,7 @@ module _ (a b : Vertex) (s : Slope) (k side : ℕ) (h : OnStep a b s k) (e : sid
       let r = rw u at (reaches a b) in
       record { across-fits = omega (arith, r .0, k-le); up-fits = omega (arith, r .1, side-fits); x = rw u; y = rw (u, side-is) }
 
+  -- where y leads, step k is k far along y, and as far along x as it moves to the side
   pub lands-steep : s .level ≡ false → Lands a b k side k
   unfolding xAt yAt
   lands-steep t =

@@ -9,9 +9,11 @@ use Rattle.line.specs.declared.course.Move.{Move}
 use Rattle.line.specs.declared.course.Course.{Course}
 use Rattle.line.specs.Segment.{xAt, yAt}
 
+-- a move that adds one number to the spot, and takes another from it
 abbrev pub move : ℕ → ℕ → Move
 move up down = record { up = up; down = down }
 
+-- a course from a first spot on, with the move of each step along the leading axis and the one to the side
 abbrev pub course : ℕ → Move → Move → Course
 course first ahead aside = record { first = first; ahead = ahead; aside = aside }
 

@@ -6,6 +6,7 @@ use Rattle.line.specs.declared.Mode.the-variants.{Zero, One, Two}
 use Rattle.line.specs.declared.Style.{Style}
 use Rattle.line.specs.declared.pattern.Ink.{Ink}
 
+-- ink that says whether a step is drawn, and with which two numbers
 abbrev pub ink : Bool → ℕ → ℕ → Ink
 ink drawn i z = record { drawn = drawn; i = i; z = z }
 

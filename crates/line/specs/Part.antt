@@ -6,6 +6,7 @@ use lib.Bits.{bitAnd}
 use Rattle.picture.specs.declared.Frame.{Frame}
 use Rattle.line.specs.declared.part.Part.{Part}
 
+-- a part whose places are those that the mask takes to the unit's number; shifted right, each is the place in the unit's memory
 abbrev pub part : ℕ → ℕ → ℕ → Part
 part shift mask unit = record { shift = shift; mask = mask; unit = unit }
 

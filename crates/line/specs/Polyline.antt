@@ -29,6 +29,7 @@ pub record Leg : Type 0 where
 abbrev pub legMode : Leg → Mode
 legMode leg = cond (leg .ground) Zero One
 
+-- the kind of its pixels is that of lines of mode 0 where there is a ground, and of mode 1 where there is none
 abbrev pub legKind : Leg → Kind
 legKind leg = cond (leg .ground) Line0 Line1
 

@@ -34,9 +34,11 @@ wayOf frame inside = cond inside (liesOf frame) 3
 unfoldable pub widthOf : ℕ → Frame → ℕ
 widthOf way frame = cond (eqb way 1 || eqb way 3) 65536 (frame .line)
 
+-- the column of a spot whose width is 65,536
 abbrev pub columnOf : ℕ → ℕ
 columnOf at = at % 65536
 
+-- the row of a spot whose width is 65,536
 abbrev pub rowOf : ℕ → ℕ
 rowOf at = at / 65536 % 65536
 

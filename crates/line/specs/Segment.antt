@@ -45,6 +45,7 @@ sideAt n m k = cond (eqb n 0) 0 ((2 * (k * m) + n) / (2 * n))
 unfoldable pub xAt : Vertex → Vertex → ℕ → ℕ
 xAt a b k = towards (a .x) (b .x) (cond (xLeads a b) k (sideAt (larger a b) (smaller a b) k))
 
+-- so along y it moves to the side where x leads, and k where y does
 unfoldable pub yAt : Vertex → Vertex → ℕ → ℕ
 yAt a b k = towards (a .y) (b .y) (cond (xLeads a b) (sideAt (larger a b) (smaller a b) k) k)
 

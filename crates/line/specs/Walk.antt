@@ -35,6 +35,7 @@ pub record Stands (w : Walk) (p : Step) : Type 0 where
 abbrev pub doubled : Carried → Carried
 doubled c = record { first = c .first; add = (c .add + c .add) % 2 ^ 64 }
 
+-- a walk whose stride is twice as long, with twice as much to add
 abbrev pub twiceOf : Walk → Walk
 twiceOf w = record { stride = w .stride + w .stride; side = doubled (w .side); i = doubled (w .i); z = doubled (w .z) }
 
@@ -42,6 +43,7 @@ twiceOf w = record { stride = w .stride + w .stride; side = doubled (w .side); i
 abbrev pub startOf : Walk → Step
 startOf w = record { k = 0; side = w .side .first; i = w .i .first; z = w .z .first }
 
+-- the step a stride on, with what a stride adds, modulo 2 ^ 64
 abbrev pub nextOf : Walk → Step → Step
 nextOf w p =
     record {

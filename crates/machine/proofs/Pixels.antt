@@ -74,6 +74,7 @@ store-cell pen ni nz ss p li lz held x y h =
 
 -- ---- two pens that do the same with an offer and with a store, wherever they lie
 
+-- with either pen the same depths pass, and an offer and a store leave the same of the two numbers at a place
 pub record Twins (pen pen′ : Pen) : Type 0 where
   pub pass : (kind : Kind) (z old : ℕ) → passes pen kind z old ≡ passes pen′ kind z old
   pub leave : (c : Cell) (o : Offer) → offerLeaves pen c o ≡ offerLeaves pen′ c o

@@ -28,11 +28,13 @@ use Rattle.machine.proofs.Pixels.{Twins, Sized, fold-same, step-sized, 
 
 -- ---- sums
 
+-- sums of the same terms are the same
 pub sum-same : (n : ℕ) (f g : ℕ → ℕ) → ((u : ℕ) → u < n → f u ≡ g u) → sumOf n f ≡ sumOf n g
 unfolding sumOf
 sum-same zero f g h = refl
 sum-same (suc n) f g h = ap₂ _+_ (sum-same n f g (λ u l. h u (omega (arith, l)))) (h n (omega arith))
 
+-- a sum of noughts is 0
 pub sum-none : (n : ℕ) → sumOf n (λ (u : ℕ). 0) ≡ 0
 unfolding sumOf
 sum-none zero = refl
@@ -100,6 +102,7 @@ unfolding heldBy
 held-all k every [] = refl
 held-all k every (o ∷ os) = rw (every (o .x)) (ap (λ (rest : List Offer). o ∷ rest) (held-all k every os))
 
+-- and holds all that is to be stored
 pub stores-all : (k : Layout) → ((x : ℕ) → mine k x ≡ true) → (ss : List Store) → storesHeldBy k ss ≡ ss
 unfolding storesHeldBy
 stores-all k every [] = refl

@@ -8,5 +8,6 @@ use Rattle.machine.specs.Machine.{Memories, memories}
 abbrev pub found : {X Y : Type 0} → Both Memory X → Both Memory Y → Memories
 found im zm = memories (now (im .entry)) (now (zm .entry))
 
+-- the two memories as a call leaves them
 abbrev pub left : Lent → Lent → Memories
 left im zm = memories (now (im .exit)) (now (zm .exit))

@@ -13,6 +13,7 @@ use Rattle.picture.specs.Picture.{Picture, picture, drawn}
 use Rattle.picture.specs.Store.{Store, filled}
 use Rattle.machine.specs.Run.{Outcome, outcome, Step}
 
+-- a machine has registers and words, and says of each word whether it is refused, what registers it leaves, and what it draws and stores
 pub record Machine : Type 1 where
   pub Registers : Type 0
   pub Word : Type 0
@@ -31,6 +32,7 @@ pub record Memories : Type 0 where
   pub i : List ℕ
   pub z : List ℕ
 
+-- two lists of numbers, as the memories I and Z
 abbrev pub memories : List ℕ → List ℕ → Memories
 memories i z = record { i = i; z = z }
 

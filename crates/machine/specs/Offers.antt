@@ -18,6 +18,7 @@ pub record State (R M : Type 0) : Type 0 where
   pub registers : R
   pub memories : M
 
+-- a state of registers and memories
 abbrev pub state : {R M : Type 0} → R → M → State R M
 state r m = record { registers = r; memories = m }
 
@@ -47,6 +48,7 @@ offersThere M ni nz at r w = there (M .pen r .frame) at (offersIn M ni nz r w)
 unfoldable pub storesIn : (M : Machine) → ℕ → ℕ → M .Registers → M .Word → List Store
 storesIn M ni nz r w = cond (eqb (M .refusal ni nz r w) 0) (M .stores (rowsOf (M .pen r .frame) ni nz) r w) []
 
+-- those of the pixels that it stores whose place is this one
 abbrev pub storesThere : (M : Machine) → ℕ → ℕ → ℕ → M .Registers → M .Word → List Store
 storesThere M ni nz at r w = storesAt (M .pen r) at (storesIn M ni nz r w)
 

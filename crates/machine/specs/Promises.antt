@@ -22,6 +22,7 @@ Above M at r w m = rowsIn M r m * widthOf (layoutOf (M .pen r .frame)) (M .pen r
 abbrev pub OffI : (M : Machine) → M .Registers → M .Word → Memories → Type 0
 OffI M r w m = M .pen r .ienable ≡ false
 
+-- the Z enable is off
 abbrev pub OffZ : (M : Machine) → M .Registers → M .Word → Memories → Type 0
 OffZ M r w m = M .pen r .zenable ≡ false
 

@@ -11,9 +11,11 @@ pub record Outcome (R M : Type 0) : Type 0 where
   pub registers : R
   pub memories : M
 
+-- an outcome with its four parts: the number, the count, the registers and the memories
 abbrev pub outcome : {R M : Type 0} → ℕ → ℕ → R → M → Outcome R M
 outcome number passed r m = record { refusal = number; passed = passed; registers = r; memories = m }
 
+-- what makes of registers, a word and memories the outcome of the word
 abbrev pub Step : Type 0 → Type 0 → Type 0 → Type 0
 Step W R M = R → W → M → Outcome R M
 
@@ -26,6 +28,7 @@ pub record Ran (R M : Type 0) : Type 0 where
   pub registers : R
   pub memories : M
 
+-- how far a run has come, by its five parts: the number, the words, the sum, the registers and the memories
 abbrev pub ran : {R M : Type 0} → ℕ → ℕ → ℕ → R → M → Ran R M
 ran number index sum r m = record { refusal = number; index = index; sum = sum; registers = r; memories = m }
 

@@ -21,6 +21,7 @@ few-parts n k two l t true false p q = let e : k ≡ 1 = omega (arith, l, eqb-tr
 few-parts n k two l t false true p q = let e : k ≡ 2 = omega (arith, l, eqb-false (k % 2) 1 p, leb-true 2 k q) in rw e (omega (arith, t))
 few-parts n k two l t false false p q = let e : k ≡ 0 = omega (arith, l, eqb-false (k % 2) 1 p, leb-false 2 k q) in rw e (omega arith)
 
+-- so for k below 4 the number where k is odd, and twice the number where k is 2 or 3, sum to k times the number modulo 2 ^ 64
 pub few-sum : (n k : ℕ) → k < 4 → {odd even two r : ℕ} → odd ≡ cond (eqb (k % 2) 1) n 0 → even ≡ cond (leb 2 k) two 0 → two ≡ (2 * n) % 2 ^ 64
     → r ≡ (even + odd) % 2 ^ 64 → r ≡ (k * n) % 2 ^ 64
 few-sum n k l {two = two} o e t r =

@@ -29,6 +29,7 @@ digits-same {a} {b} c q r = sym (div-add-mod' a c) ∙ ap₂ (λ (m n : ℕ). m 
 some : (line : ℕ) → not (eqb line 0) ≡ true → 0 < line
 some line e = let k = eqb-false line 0 (not-true _ e) in omega (arith, k)
 
+-- a line length that suits its layout is not 0
 pub whole-some : (k : Layout) (line : ℕ) → isWhole k line ≡ true → 0 < line
 unfolding isWhole
 whole-some plain line w = some line w
@@ -53,6 +54,7 @@ width-some plain line w = whole-some plain line w
 width-some tiled line w = whole-some tiled line w
 width-some (share ways unit) line w = part-some line ways (line / ways) refl (whole-ways ways unit line w .1) (whole-some (share ways unit) line w)
 
+-- a line length that suits tiles is a multiple of four
 pub whole-tiles : (line : ℕ) → isWhole tiled line ≡ true → line ≡ line / 4 * 4
 unfolding isWhole
 whole-tiles line w = let e = eqb-true (line % 4) 0 (both (not (eqb line 0)) (eqb (line % 4) 0) w .1) in omega (arith, e)
@@ -81,6 +83,7 @@ rows-end (share ways unit) line n y w h =
     let l = row-some ways unit line w in
     (le-div-iff-mul-le {k = line / ways} {x = y + 1} {y = n} l) .0 (omega (arith, h))
 
+-- and the other way round, a row whose band ends inside so many places is among those that they hold
 pub rows-hold : (k : Layout) (line n y : ℕ) → isWhole k line ≡ true → bandEnd k y * widthOf k line ≤ n → y < rowsIn k line n
 unfolding rowsIn bandEnd widthOf
 rows-hold plain line n y w h = let m = (le-div-iff-mul-le {k = line} {x = y + 1} {y = n} (whole-some plain line w)) .1 h in omega (arith, m)

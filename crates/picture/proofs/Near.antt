@@ -32,6 +32,7 @@ module _ (n d k : ℕ) (pos : 0 < d) (least : n * carriedOne ≤ k * d) (most : 
         mul-left-comm (n / d) carriedOne d,
       ))
 
+  -- k over 2 ^ 48, rounded down, is n over d, rounded down
   pub near-told : k / carriedOne ≡ n / d
   near-told =
       let a : n / d ≤ k / carriedOne = (le-div-iff-mul-le {k = carriedOne} {x = n / d} {y = k} (omega arith)) .1 low in

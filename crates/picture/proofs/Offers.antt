@@ -49,10 +49,12 @@ pub keep-counts : (pen : Pen) (rows : ℕ) (o : Offer) (p : Picture) → drawn p
 keep-counts pen rows o p = omega (arith, drawn-passed pen (keep pen rows o) p, keep-length pen rows o)
 
 module _ (pen : Pen) (x y : ℕ) where
+  -- a pixel between the borders, or on them, is inside the window
   pub window-in : pen .left ≤ x → x ≤ pen .right → pen .bottom ≤ y → y ≤ pen .top → inWindow pen x y ≡ true
   unfolding inWindow
   window-in a b c d = rw (le-leb _ _ a, le-leb _ _ b, le-leb _ _ c, le-leb _ _ d)
 
+  -- a pixel inside the window lies between the borders, or on them
   pub window-of : inWindow pen x y ≡ true → (pen .left ≤ x) × (x ≤ pen .right) × (pen .bottom ≤ y) × (y ≤ pen .top)
   unfolding inWindow
   window-of h =
@@ -64,17 +66,20 @@ module _ (pen : Pen) (x y : ℕ) where
 -- ---- one pixel of a figure, offered or not
 
 module _ (pen : Pen) (rows : ℕ) (kind : Kind) (x y : ℕ) where
+  -- an offered pixel is inside the memory
   pub offered-inside : offered pen rows (offer kind x y 0 0) ≡ true → inMemory (pen .frame) rows x y ≡ true
   unfolding offered
   offered-inside h =
       let k = both (inWindow pen x y && inMemory (pen .frame) rows x y) (letsThrough pen kind x y) h in
       both (inWindow pen x y) (inMemory (pen .frame) rows x y) (k .0) .1
 
+  -- where a pixel is offered, what an offer does at its place is what is drawn of the pixel
   pub keep-drawn : (i z : ℕ) (p q : Picture) → offered pen rows (offer kind x y 0 0) ≡ true → q ≡ stepAt pen kind (placeOf (pen .frame) x y) i z p
       → q ≡ drawn pen (keep pen rows (offer kind x y i z)) p
   unfolding keep offered drawOne drawn
   keep-drawn i z p q h e = rw h e
 
+  -- a pixel that is not offered leaves the picture as it was
   pub keep-left : (i z : ℕ) (p : Picture) → offered pen rows (offer kind x y 0 0) ≡ false → p ≡ drawn pen (keep pen rows (offer kind x y i z)) p
   unfolding keep offered drawOne drawn
   keep-left i z p h = rw h
@@ -82,42 +87,51 @@ module _ (pen : Pen) (rows : ℕ) (kind : Kind) (x y : ℕ) where
 -- ---- what is stored of a passed pixel
 
 module _ (pen : Pen) (l : List ℕ) (at : ℕ) where
+  -- with the I enable on, what a passed pixel leaves in I is its number in the set planes and the old one in the others
   pub store-i : (i v : ℕ) → pen .ienable ≡ true → v ≡ inPlanes (pen .planes) (getD l at 0) i → set l at v ≡ set l at (newI pen i (getD l at 0))
   unfolding newI
   store-i i v h e = rw (h, e)
 
+  -- with the I enable off, a passed pixel leaves I as it was
   pub keep-i : (i : ℕ) → pen .ienable ≡ false → l ≡ set l at (newI pen i (getD l at 0))
   unfolding newI
   keep-i i h = rw h (sym (set-getD l at 0))
 
+  -- with the Z enable on, a passed pixel of a kind with depth leaves its depth in Z
   pub store-z : (kind : Kind) (z : ℕ) → pen .zenable && isDeep kind ≡ true → set l at z ≡ set l at (newZ pen kind z (getD l at 0))
   unfolding newZ
   store-z kind z h = rw h
 
+  -- with the Z enable off, or by a kind without depth, a passed pixel leaves Z as it was
   pub keep-z : (kind : Kind) (z : ℕ) → pen .zenable && isDeep kind ≡ false → l ≡ set l at (newZ pen kind z (getD l at 0))
   unfolding newZ
   keep-z kind z h = rw h (sym (set-getD l at 0))
 
 -- ---- how depths compare
 
+-- a depth below the old one is nearer
 pub compared-nearer : (new old : ℕ) → new < old → comparedOf new old ≡ Nearer
 unfolding comparedOf
 compared-nearer new old h = rw (lt-ltb new old h)
 
+-- a depth that is the old one compares as equal
 pub compared-equal : (new old : ℕ) → new ≡ old → comparedOf new old ≡ Equal
 unfolding comparedOf
 compared-equal new old e = rw (le-ltb new old (omega (arith, e)), eq-eqb new old e)
 
+-- a depth that is neither below the old one nor equal to it is farther
 pub compared-farther : (new old : ℕ) → old ≤ new → new ≢ old → comparedOf new old ≡ Farther
 unfolding comparedOf
 compared-farther new old h e = rw (le-ltb new old h, ne-eqb new old e)
 
 -- ---- whether a pixel passes
 
+-- where depths are tested and the kind has depth, a pixel passes if its depth wins
 pub passes-tested : (pen : Pen) (kind : Kind) (z old : ℕ) → pen .depth && isDeep kind ≡ true → passes pen kind z old ≡ wins kind (comparedOf z old)
 unfolding passes
 passes-tested pen kind z old h = rw h
 
+-- where depths are not tested, or the kind has none, every pixel passes
 pub passes-free : (pen : Pen) (kind : Kind) (z old : ℕ) → pen .depth && isDeep kind ≡ false → passes pen kind z old ≡ true
 unfolding passes
 passes-free pen kind z old h = rw h
@@ -125,10 +139,12 @@ passes-free pen kind z old h = rw h
 -- ---- an offer at a place
 
 module _ (pen : Pen) (kind : Kind) (at i z : ℕ) (p : Picture) where
+  -- at a place that both memories have, an offer does what it does there
   pub placed-in : ltb at (length (p .i)) && ltb at (length (p .z)) ≡ true → placed pen kind at i z p ≡ stepAt pen kind at i z p
   unfolding placed
   placed-in h = rw h
 
+  -- at any other place an offer leaves the picture as it was
   pub placed-out : ltb at (length (p .i)) && ltb at (length (p .z)) ≡ false → placed pen kind at i z p ≡ p
   unfolding placed
   placed-out h = rw h

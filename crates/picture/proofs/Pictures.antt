@@ -36,6 +36,7 @@ own-i pen x h k = go (pen .ienable)
     go false = refl
 
 module _ (pen : Pen) (i z : List ℕ) (deep : Bool) (x y v : ℕ) where
+  -- the rows in use of the two memories, before the pixel is stored
   abbrev pub inUse : ℕ
   inUse = rowsOf (pen .frame) (length i) (length z)
 

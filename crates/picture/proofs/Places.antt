@@ -23,14 +23,17 @@ inside-parts frame rows x y h =
 
 -- the layout, by its test
 module _ (frame : Frame) where
+  -- a frame whose number is one for rows has its rows one after the other
   pub lies-plain : liesPlain frame ≡ true → layoutOf frame ≡ plain
   unfolding layoutOf
   lies-plain e = rw e
 
+  -- a frame whose number is the one for tiles lies in tiles
   pub lies-tiled : liesTiled frame ≡ true → layoutOf frame ≡ tiled
   unfolding layoutOf
   lies-tiled e = let one = eqb-true (frame .layout) 1 e in rw one
 
+  -- a frame of any other number is a unit's: the unit is what the number is above the number of units
   pub lies-shared : liesPlain frame ≡ false → liesTiled frame ≡ false → layoutOf frame ≡ share (waysOf frame) (frame .layout - waysOf frame)
   unfolding layoutOf
   lies-shared e f = rw (e, f)
@@ -45,14 +48,17 @@ module _ (frame : Frame) where
       go false = refl
 
 module _ (frame : Frame) (ni nz : ℕ) where
+  -- no row is in use where the line length does not suit the layout
   pub rows-none : isWhole (layoutOf frame) (frame .line) ≡ false → rowsOf frame ni nz ≡ 0
   unfolding rowsOf
   rows-none e = rw e
 
+  -- where the line length suits the layout, the rows in use are those that the shorter memory holds, at most `mostRows`
   pub rows-some : isWhole (layoutOf frame) (frame .line) ≡ true → rowsOf frame ni nz ≡ min (rowsIn (layoutOf frame) (frame .line) (min ni nz)) mostRows
   unfolding rowsOf
   rows-some e = rw e
 
+  -- no more than `mostRows` rows are in use
   pub rows-low : rowsOf frame ni nz ≤ mostRows
   unfolding rowsOf
   rows-low = go (isWhole (layoutOf frame) (frame .line))
@@ -71,17 +77,20 @@ module _ (frame : Frame) (ni nz : ℕ) where
 
   -- a row is in use where it is one of the first so many and its band ends inside both memories
   module _ (y : ℕ) (whole : isWhole (layoutOf frame) (frame .line) ≡ true) where
+    -- a row in use is one of the first `mostRows`, and its band ends inside both memories
     pub row-ends : y < rowsOf frame ni nz → (y < mostRows) × (bandEnd (layoutOf frame) y * widthOf (layoutOf frame) (frame .line) ≤ ni) × (bandEnd (layoutOf frame) y * widthOf (layoutOf frame) (frame .line) ≤ nz)
     row-ends h =
         let k : y < min (rowsIn (layoutOf frame) (frame .line) (min ni nz)) mostRows = rw (rows-some whole) at h in
         let m = rows-end (layoutOf frame) (frame .line) (min ni nz) y whole (omega (arith, k)) in
         (omega (arith, k), omega (arith, m), omega (arith, m))
 
+    -- one of the first `mostRows` rows whose band ends inside both memories is in use
     pub row-in : y < mostRows → bandEnd (layoutOf frame) y * widthOf (layoutOf frame) (frame .line) ≤ ni → bandEnd (layoutOf frame) y * widthOf (layoutOf frame) (frame .line) ≤ nz → y < rowsOf frame ni nz
     row-in h a b =
         let m = rows-hold (layoutOf frame) (frame .line) (min ni nz) y whole (omega (arith, a, b)) in
         rw (rows-some whole) (omega (arith, h, m))
 
+    -- so the test whether a row is in use is the three tests of these together
     pub row-test : ltb y (rowsOf frame ni nz)
         ≡ ltb y mostRows && leb (bandEnd (layoutOf frame) y * widthOf (layoutOf frame) (frame .line)) ni && leb (bandEnd (layoutOf frame) y * widthOf (layoutOf frame) (frame .line)) nz
     row-test =
@@ -104,6 +113,7 @@ module _ (frame : Frame) (ni nz : ℕ) where
     unfolding placeOf
     below-end = spot-low (layoutOf frame) (frame .line) x y inside-whole (inside-at .0)
 
+    -- so both memories have the place
     pub place-below : (placeOf frame x y < ni) × (placeOf frame x y < nz)
     place-below =
         let k = row-ends y inside-whole (inside-at .1) in
@@ -128,9 +138,11 @@ module _ (frame : Frame) (ni nz : ℕ) where
 pub place-fits : (a b : ℕ) → a ≤ 65536 → b ≤ 65535 → a * b ≤ 4294901760
 place-fits a b h k = mul-le-mul {n₁ = a} {m₁ = b} {n₂ = 65536} {m₂ = 65535} h k
 
+-- for a row and a line length of 16 bits, the whole tiles before the row's band are at most 268,402,689
 pub tile-fits : (y line : ℕ) → y ≤ 65535 → line ≤ 65535 → y / 4 * (line / 4) ≤ 268402689
 tile-fits y line h k = mul-le-mul {n₁ = y / 4} {m₁ = line / 4} {n₂ = 16383} {m₂ = 16383} (omega (arith, h)) (omega (arith, k))
 
+-- for a row and a unit's width of 16 bits, the unit's places before the row are at most 4,294,836,225
 pub part-fits : (y line ways : ℕ) → y ≤ 65535 → line / ways ≤ 65535 → y * (line / ways) ≤ 4294836225
 part-fits y line ways h k = mul-le-mul {n₁ = y} {m₁ = line / ways} {n₂ = 65535} {m₂ = 65535} h k
 
@@ -139,10 +151,12 @@ pub place-plain : (frame : Frame) (x y : ℕ) → liesPlain frame ≡ true → p
 unfolding placeOf spotOf
 place-plain frame x y e = rw (lies-plain frame e)
 
+-- in tiles, the place that tiles of the line length give it
 pub place-tiled : (frame : Frame) (x y : ℕ) → liesTiled frame ≡ true → placeOf frame x y ≡ spotOf tiled (frame .line) x y
 unfolding placeOf
 place-tiled frame x y e = rw (lies-tiled frame e)
 
+-- of a unit: y times the line length over the number of units, and x over that number
 pub place-shared : (frame : Frame) (x y : ℕ) → liesPlain frame ≡ false → liesTiled frame ≡ false
     → placeOf frame x y ≡ y * (frame .line / waysOf frame) + x / waysOf frame
 unfolding placeOf spotOf
@@ -160,6 +174,7 @@ place-along frame x y e = rw (place-tiled frame 0 y e, place-tiled frame x y e) 
     along : (q r : ℕ) → (q + 0 / 4) * 16 + (4 * r + 0 % 4) + (x + 12 * (x / 4)) ≡ (q + x / 4) * 16 + (4 * r + x % 4)
     along q r = omega arith
 
+-- a pixel in a column of the line that the memory has, and in a row in use, is inside
 pub inside-of : (frame : Frame) (rows x y : ℕ) → x < frame .line → y < rows → mine (layoutOf frame) x ≡ true → inMemory frame rows x y ≡ true
 unfolding inMemory
 inside-of frame rows x y h k m = rw (lt-ltb _ _ h, lt-ltb _ _ k, m)
@@ -191,6 +206,7 @@ pub rows-tiled : (frame : Frame) (n width : ℕ) → width ≡ widthOf (layoutOf
 unfolding widthOf rowsIn
 rows-tiled frame n width e f = rw (e, lies-tiled frame f)
 
+-- but for tiles, places hold as many rows as their number over the places of a row, rounded down
 pub rows-width : (frame : Frame) (n width : ℕ) → width ≡ widthOf (layoutOf frame) (frame .line) → liesTiled frame ≡ false
     → n / width ≡ rowsIn (layoutOf frame) (frame .line) n
 unfolding layoutOf widthOf rowsIn
@@ -219,6 +235,7 @@ or-other false b e f = sym f ∙ e
 
 -- in rows and in tiles, how far apart those of the first row lie, and that the memory has every column
 module _ (frame : Frame) (x : ℕ) (e : liesPlain frame || liesTiled frame ≡ true) where
+  -- in rows and in tiles a pixel's place is that of its row's first pixel, and how far along the row column x is
   pub along-place : (y : ℕ) → placeOf frame 0 y + cond (liesTiled frame) (alongTiles x) x ≡ placeOf frame x y
   along-place y = go (liesTiled frame) refl
     where
@@ -226,6 +243,7 @@ module _ (frame : Frame) (x : ℕ) (e : liesPlain frame || liesTiled frame ≡ t
       go true t = place-along frame x y t
       go false t = place-beside frame 0 y x (or-other (liesPlain frame) (liesTiled frame) e t) ∙ ap (λ (n : ℕ). placeOf frame n y) (zero-add x)
 
+  -- in rows and in tiles the memory has column x, whichever it is
   pub whole-mine : mine (layoutOf frame) x ≡ true
   whole-mine = go (liesTiled frame) refl
     where

@@ -29,11 +29,13 @@ use Rattle.picture.proofs.Spans.{spans-stop, spans-none, spans-alike}
 
 -- ---- one pixel
 
+-- where the pattern lets a pixel through, what an offer does at its place is what is drawn of the pixel
 pub shown-drawn : (pen : Pen) (kind : Kind) (x y i z : ℕ) (p q : Picture) → letsThrough pen kind x y ≡ true
     → q ≡ stepAt pen kind (placeOf (pen .frame) x y) i z p → q ≡ drawn pen (shown pen (offer kind x y i z)) p
 unfolding shown drawn drawOne
 shown-drawn pen kind x y i z p q h e = rw h e
 
+-- a pixel that the pattern hides leaves the picture as it was
 pub shown-left : (pen : Pen) (kind : Kind) (x y i z : ℕ) (p : Picture) → letsThrough pen kind x y ≡ false
     → p ≡ drawn pen (shown pen (offer kind x y i z)) p
 unfolding shown drawn
@@ -50,15 +52,18 @@ strict-wins kind Nearer e = refl
 strict-wins kind Equal e = e
 strict-wins kind Farther e = refl
 
+-- where nothing but a nearer depth decides, an offer of a 16-bit number stores both of its numbers whole if it is nearer, and else nothing
 pub step-nearer : (pen : Pen) (kind : Kind) → Plain pen kind → (at i z : ℕ) → i ≤ 65535 → (p : Picture) → stepAt pen kind at i z p ≡ nearerAt at i z p
 unfolding stepAt nearerAt passes newI newZ
 step-nearer pen kind k at i z h p = rw (k .depth, k .deep, strict-wins kind (comparedOf z (getD (p .z) at 0)) (k .strict), k .ienable, k .zenable, k .planes, in-all-planes (getD (p .i) at 0) i h)
 
 module _ (at i z : ℕ) (im zm : List ℕ) (n : ℕ) where
+  -- such an offer that is nearer stores both of its numbers, and counts one
   pub nearer-pass : isNearer (comparedOf z (getD zm at 0)) ≡ true → nearerAt at i z (picture im zm n) ≡ picture (set im at i) (set zm at z) (n + 1)
   unfolding nearerAt
   nearer-pass h = rw h
 
+  -- such an offer that is not nearer leaves the picture as it was
   pub nearer-fail : isNearer (comparedOf z (getD zm at 0)) ≡ false → nearerAt at i z (picture im zm n) ≡ picture im zm n
   unfolding nearerAt
   nearer-fail h = rw h
@@ -80,6 +85,7 @@ module _ (at i z : ℕ) (im zm : List ℕ) (n : ℕ) where
   chosen-at false t =
       ap₂ (λ (k l : List ℕ). picture k l n) (set-getD im at 0) (set-getD zm at 0) ∙ sym (nearer-fail at i z im zm n (nearer-is z (getD zm at 0) false t))
 
+  -- storing what is chosen so, and counting so, is one offer of that sort, and counts one at most
   pub chosen-nearer : {vi vz m : ℕ} → vi ≡ cond (ltb z (getD zm at 0)) i (getD im at 0) → vz ≡ cond (ltb z (getD zm at 0)) z (getD zm at 0)
       → m ≡ cond (ltb z (getD zm at 0)) (n + 1) n → (picture (set im at vi) (set zm at vz) m ≡ nearerAt at i z (picture im zm n)) × (m ≤ n + 1)
   chosen-nearer {vi} {vz} {m} ei ez em = (rw (ei, ez, em) (chosen-at (ltb z (getD zm at 0)) refl), rw em (bound (ltb z (getD zm at 0))))
@@ -88,13 +94,14 @@ module _ (at i z : ℕ) (im zm : List ℕ) (n : ℕ) where
       bound true = omega arith
       bound false = omega arith
 
--- numbers to which nothing is added
+-- a number that is carried: what it is at the first pixel, and what each pixel adds
 abbrev pub carry : ℕ → ℕ → Carried
 carry first add = record { first = first; add = add }
 
 steady-is : (c : Carried) → c .add ≡ 0 → carry (c .first) 0 ≡ c
 steady-is c e = ap (λ (a : ℕ). carry (c .first) a) (sym e)
 
+-- two carried numbers that are tested to add nothing are those with their first numbers and 0 to add
 pub steady-same : (i z : Carried) → (eqb (i .add) 0 && eqb (z .add) 0) ≡ true
     → (carry (i .first) 0 ≡ i) × (carry (z .first) 0 ≡ z)
 steady-same i z e =
@@ -106,6 +113,7 @@ unfoldable pub every : (ℕ → Bool) → ℕ → Bool
 every f zero = true
 every f (suc n) = every f n && f n
 
+-- where the computed test holds, it holds of each number below n
 pub each : (f : ℕ → Bool) (n : ℕ) → every f n ≡ true → (j : ℕ) → j < n → f j ≡ true
 unfolding every
 each f zero e j h = absurd (omega arith)
@@ -122,6 +130,7 @@ ones-show : (j : ℕ) → j < 16 → eqb (65535 / 2 ^ j % 2) 1 ≡ true
 unfolding every
 ones-show = each (λ j. eqb (65535 / 2 ^ j % 2) 1) 16 refl
 
+-- so a transparency pattern of all ones shows every pixel
 pub shows-all : (pen : Pen) (x y : ℕ) → pen .transparency ≡ 65535 → shows pen x y ≡ true
 unfolding shows
 shows-all pen x y e = rw e (ones-show (4 * (y % 4) + x % 4) (omega arith))
@@ -155,18 +164,22 @@ plain-of pen kind e =
 
 -- ---- a run
 
+-- inside the memory a pixel is what the pattern lets through of it
 pub seen-inside : (pen : Pen) (rows : ℕ) (o : Offer) → inMemory (pen .frame) rows (o .x) (o .y) ≡ true → seen pen rows o ≡ shown pen o
 unfolding seen
 seen-inside pen rows o h = rw h
 
+-- nothing is seen of a pixel outside the memory
 pub seen-outside : (pen : Pen) (rows : ℕ) (o : Offer) → inMemory (pen .frame) rows (o .x) (o .y) ≡ false → seen pen rows o ≡ []
 unfolding seen
 seen-outside pen rows o h = rw h
 
+-- nothing is seen of a pixel in a column from the line length on
 pub seen-right : (pen : Pen) (rows : ℕ) (o : Offer) → pen .frame .line ≤ o .x → seen pen rows o ≡ []
 unfolding seen inMemory
 seen-right pen rows o h = rw (le-ltb _ _ h)
 
+-- nothing is seen of a pixel in a row that is not in use
 pub seen-above : (pen : Pen) (rows : ℕ) (o : Offer) → ltb (o .y) rows ≡ false → seen pen rows o ≡ []
 unfolding seen inMemory
 seen-above pen rows o h = go (ltb (o .x) (pen .frame .line))
@@ -181,11 +194,13 @@ module _ (pen : Pen) (rows : ℕ) (kind : Kind) (lo y : ℕ) (i z : Carried) whe
   unfolding spanOffers
   span-above hi h = spans-none _ (hi - lo) (λ j k. seen-above pen rows (spanPixel kind lo y i z j) h)
 
+  -- so a run that goes past the line length offers what it does up to there
   pub span-right : (hi : ℕ) → spanOffers pen rows kind lo hi y i z ≡ spanOffers pen rows kind lo (min hi (pen .frame .line)) y i z
   unfolding spanOffers
   span-right hi =
       spans-stop _ (min hi (pen .frame .line) - lo) (hi - lo) (omega arith) (λ j a b. seen-right pen rows (spanPixel kind lo y i z j) (omega arith))
 
+  -- a run that ends where it begins, or before, offers nothing
   pub span-empty : (hi : ℕ) → hi ≤ lo → spanOffers pen rows kind lo hi y i z ≡ []
   unfolding spanOffers
   span-empty hi h = spans-none _ (hi - lo) (λ j k. absurd (omega arith))
@@ -232,14 +247,17 @@ plain-span pen kind e rows lo hi y i z p =
 
 -- ---- a number carried, modulo 2 ^ 64
 
+-- at the first pixel a number of 64 bits is carried as it is
 pub carried-start : (c : Carried) → c .first < 2 ^ 64 → c .first ≡ (c .first + 0 * c .add) % 2 ^ 64
 carried-start c h = rw (zero-mul, add-zero) (sym (mod-eq-of-lt h))
 
+-- what is carried to pixel j, and what a pixel adds, is what is carried to pixel j + 1
 pub carried-next : (k g j r m : ℕ) → m ≡ (k + j * g) % 2 ^ 64 → r ≡ (m + g) % 2 ^ 64 → r ≡ (k + (j + 1) * g) % 2 ^ 64
 carried-next k g j r m e h =
     h ∙ ap (λ (a : ℕ). (a + g) % 2 ^ 64) e ∙ mod-add-mod (k + j * g) (2 ^ 64) g
     ∙ ap (λ (a : ℕ). a % 2 ^ 64) (add-assoc k (j * g) g ∙ ap (λ (a : ℕ). k + a) (sym (ap (λ (b : ℕ). b * g) (add-one j) ∙ suc-mul j g)))
 
+-- what is carried to pixel j, without its part, is the number at that pixel
 pub carried-at : (c : Carried) (j m : ℕ) → m ≡ (c .first + j * c .add) % 2 ^ 64 → m / carriedOne ≡ carriedTo c j
 unfolding carriedTo
 carried-at c j m e = ap (λ (a : ℕ). a / carriedOne) e
@@ -265,6 +283,7 @@ carried-on c k m e j =
 -- ---- a turn of the loop over a row
 
 module _ (pen : Pen) (rows : ℕ) (kind : Kind) (lo y : ℕ) (i z : Carried) (j : ℕ) where
+  -- a pixel of the row inside the memory, drawn with the numbers that are carried to it, is what is drawn of pixel j of the run
   pub row-turn : (p : Picture) {q : Picture} {iw zw : ℕ} → inMemory (pen .frame) rows (lo + j) y ≡ true → iw ≡ carriedTo i j → zw ≡ carriedTo z j
       → q ≡ drawn pen (shown pen (offer kind (lo + j) y iw zw)) p → q ≡ drawn pen (seen pen rows (spanPixel kind lo y i z j)) p
   row-turn p h ei ez e =

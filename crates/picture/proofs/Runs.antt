@@ -46,10 +46,12 @@ module _ (at i z : ℕ) (p : Picture) where
 -- ---- pixels one after the other
 
 module _ (place : ℕ → ℕ) (i z : Carried) where
+  -- a run of no pixels leaves the picture as it was
   pub run-zero : (p : Picture) → runOver place i z 0 p ≡ p
   unfolding runOver
   run-zero p = refl
 
+  -- a run of one pixel more is the run, and then that pixel at its place with the numbers carried to it
   pub run-suc : (n : ℕ) (p : Picture)
       → runOver place i z (suc n) p ≡ nearerAt (place n) (carriedTo i n) (carriedTo z n) (runOver place i z n p)
   unfolding runOver
@@ -79,10 +81,12 @@ run-more place other i z i′ z′ k (suc m) h p =
 
 -- ---- a loop that has drawn j pixels, and counted n
 
+-- the memories and the count are what a run of j pixels makes of those at the start
 pub record Ran (place : ℕ → ℕ) (i z : Carried) (im₀ zm₀ : List ℕ) (n₀ : ℕ) (im zm : List ℕ) (n j : ℕ) : Type 0 where
   pub so : picture im zm n ≡ runOver place i z j (picture im₀ zm₀ n₀)
 
 module _ {place : ℕ → ℕ} {i z : Carried} {im₀ zm₀ : List ℕ} {n₀ : ℕ} where
+  -- at the start a loop has drawn no pixels
   pub ran-start : Ran place i z im₀ zm₀ n₀ im₀ zm₀ n₀ 0
   ran-start = record { so = sym (run-zero place i z (picture im₀ zm₀ n₀)) }
 
@@ -111,6 +115,7 @@ module _ {place : ℕ → ℕ} {i z : Carried} {im₀ zm₀ : List ℕ} {n₀ : 
     pub ran-i : length im ≡ length im₀
     ran-i = ap (λ (p : Picture). length (p .i)) (r .so) ∙ run-i place i z j (picture im₀ zm₀ n₀)
 
+    -- and so is the length of Z
     pub ran-z : length zm ≡ length zm₀
     ran-z = ap (λ (p : Picture). length (p .z)) (r .so) ∙ run-z place i z j (picture im₀ zm₀ n₀)
 
@@ -161,6 +166,7 @@ module _ (frame : Frame) (lo hi y : ℕ) (i z : Carried) (some : lo < hi) (low :
     along-at : (x : ℕ) → base + alongTiles x ≡ placeOf frame x y
     along-at x = ap (λ (b : ℕ). b + alongTiles x) here ∙ place-along frame x y lies
 
+    -- pixels at the places along a row in use are what is drawn of the row from column lo up to and without hi
     pub tiled-run : (rows : ℕ) → y < rows → (p : Picture)
         → runOver (λ j. base + alongTiles (lo + j)) i z (hi - lo) p ≡ drawn (nearerPen frame) (spanOffers (nearerPen frame) rows Gouraud lo hi y i z) p
     tiled-run rows used =
@@ -178,6 +184,7 @@ module _ (frame : Frame) (lo hi y : ℕ) (i z : Carried) (some : lo < hi) (low :
 
   -- what a unit has of the row, from its first column on
   module _ (ways : ℕ) (s : Shares frame ways) {first : ℕ} (is : first ≡ untilOwn ways (frame .layout) lo) (few : first < ways) where
+    -- where its first column is before hi, its pixels lie side by side from there on, and are what is drawn of the row
     pub own-beside : {own base : ℕ} {si sz : Carried} → first < hi - lo → own ≡ (hi - lo - first - 1) / ways + 1 → base ≡ placeOf frame (lo + first) y → base ≤ 4294967295
         → si ≡ stridden i first ways → sz ≡ stridden z first ways → Beside frame lo hi y i z (record { base = base; count = own; i = si; z = sz })
     unfolding ownOffers

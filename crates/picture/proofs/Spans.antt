@@ -13,10 +13,12 @@ use Rattle.picture.specs.Picture.{Picture, picture, drawn}
 use Rattle.picture.specs.Draw.{spans}
 use Rattle.picture.proofs.Fold.{drawn-nil, drawn-append, drawn-from, drawn-i, drawn-z, drawn-passed}
 
+-- below 0 there are no offers
 pub spans-zero : (f : ℕ → List Offer) → spans f 0 ≡ []
 unfolding spans
 spans-zero f = refl
 
+-- the offers below n + 1 are those below n, and then those of f n
 pub spans-suc : (f : ℕ → List Offer) (n : ℕ) → spans f (suc n) ≡ spans f n ++ f n
 unfolding spans
 spans-suc f n = refl
@@ -30,9 +32,11 @@ spans-quiet f lo (suc k) h =
     ∙ append-nil (spans f (lo + k))
     ∙ spans-quiet f lo k (λ n a b. h n a (omega arith)))
 
+-- where f has nothing from lo up to and without hi, the offers below hi are those below lo
 pub spans-stop : (f : ℕ → List Offer) (lo hi : ℕ) → lo ≤ hi → ((n : ℕ) → lo ≤ n → n < hi → f n ≡ []) → spans f hi ≡ spans f lo
 spans-stop f lo hi l h = ap (spans f) (sym (add-sub-of-le l)) ∙ spans-quiet f lo (hi - lo) (λ n a b. h n a (omega arith))
 
+-- where f has nothing below n, there are no offers below n
 pub spans-none : (f : ℕ → List Offer) (n : ℕ) → ((k : ℕ) → k < n → f k ≡ []) → spans f n ≡ []
 spans-none f n h = spans-stop f 0 n zero-le (λ k a b. h k b) ∙ spans-zero f
 
@@ -88,10 +92,12 @@ spans-counts pen f m n p h = omega (arith, drawn-passed pen (spans f n) p, spans
 
 -- ---- a loop that has drawn the offers of f below x, and counted n of them
 
+-- the memories and the count are what the offers of f below x make of the memories at the start, counted from 0
 pub record Reached (pen : Pen) (f : ℕ → List Offer) (i₀ z₀ i z : List ℕ) (n x : ℕ) : Type 0 where
   pub so : picture i z n ≡ drawn pen (spans f x) (picture i₀ z₀ 0)
 
 module _ {pen : Pen} {f : ℕ → List Offer} {i₀ z₀ : List ℕ} {x : ℕ} where
+  -- where f has nothing below x, a loop may start at x with nothing counted
   pub reached-start : ((k : ℕ) → k < x → f k ≡ []) → Reached pen f i₀ z₀ i₀ z₀ 0 x
   reached-start h = record { so = rw (spans-none f x h) (sym (drawn-nil pen _)) }
 
@@ -100,17 +106,21 @@ module _ {pen : Pen} {f : ℕ → List Offer} {i₀ z₀ : List ℕ} {x : ℕ} w
       → Reached pen f i₀ z₀ j w m (x + 1)
   reached-more r h = record { so = rw (add-one, spans-suc, drawn-append, ← r .so) h }
 
+  -- here the offers at x are counted from 0, and their count is added to the one so far
   pub reached-add : {i z j w : List ℕ} {n m : ℕ} → Reached pen f i₀ z₀ i z n x → picture j w m ≡ drawn pen (f x) (picture i z 0)
       → Reached pen f i₀ z₀ j w (n + m) (x + 1)
   reached-add {i} {z} {j} {w} {n} {m} r h = reached-more r (ap (λ (p : Picture). picture (p .i) (p .z) (n + p .passed)) h ∙ sym (drawn-from pen (f x) i z n))
 
+  -- where f has nothing from x up to and without the end, all offers below the end are drawn
   pub reached-end : {i z : List ℕ} {n : ℕ} (end : ℕ) → Reached pen f i₀ z₀ i z n x → x ≤ end → ((k : ℕ) → x ≤ k → k < end → f k ≡ [])
       → picture i z n ≡ drawn pen (spans f end) (picture i₀ z₀ 0)
   reached-end end r h k = rw (spans-stop f x end h k) (r .so)
 
+  -- a loop keeps the length of I
   pub reached-i : {i z : List ℕ} {n : ℕ} → Reached pen f i₀ z₀ i z n x → length i ≡ length i₀
   reached-i r = ap (λ (p : Picture). length (p .i)) (r .so) ∙ drawn-i pen (spans f x) _
 
+  -- a loop keeps the length of Z
   pub reached-z : {i z : List ℕ} {n : ℕ} → Reached pen f i₀ z₀ i z n x → length z ≡ length z₀
   reached-z r = ap (λ (p : Picture). length (p .z)) (r .so) ∙ drawn-z pen (spans f x) _
 

@@ -16,20 +16,24 @@ use Rattle.picture.specs.Cell.{Cell, cell, cellAt}
 use Rattle.picture.specs.Store.{Store, pixelFor, storedI, storedZ, site, stored, filled, storable, readOf, afterStore, storesAt}
 use Rattle.picture.specs.Place.{layoutOf, widthOf, placeOf, rowsOf, inMemory}
 
+-- storing no pixels leaves the picture as it was
 pub filled-nil : (pen : Pen) (p : Picture) → filled pen [] p ≡ p
 unfolding filled
 filled-nil pen p = refl
 
+-- storing pixels keeps the length of I
 pub filled-i : (pen : Pen) (ss : List Store) (p : Picture) → length (filled pen ss p .i) ≡ length (p .i)
 unfolding filled stored
 filled-i pen [] p = refl
 filled-i pen (s ∷ ss) p = filled-i pen ss (stored pen p s) ∙ length-set (p .i) _ _
 
+-- storing pixels keeps the length of Z
 pub filled-z : (pen : Pen) (ss : List Store) (p : Picture) → length (filled pen ss p .z) ≡ length (p .z)
 unfolding filled stored
 filled-z pen [] p = refl
 filled-z pen (s ∷ ss) p = filled-z pen ss (stored pen p s) ∙ length-set (p .z) _ _
 
+-- storing pixels counts none of them as passed
 pub filled-passed : (pen : Pen) (ss : List Store) (p : Picture) → filled pen ss p .passed ≡ p .passed
 unfolding filled stored
 filled-passed pen [] p = refl

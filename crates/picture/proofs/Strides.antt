@@ -29,6 +29,7 @@ by-few : (P : ℕ → Type 0) → P 2 → P 4 → (ways : ℕ) → (ways ≡ 2) 
 by-few P two four ways (inl e) = subst P (sym e) two
 by-few P two four ways (inr e) = subst P (sym e) four
 
+-- a number that is two or four is not 0
 pub few-some : (ways : ℕ) → (ways ≡ 2) ⊎ (ways ≡ 4) → 0 < ways
 few-some = by-few (λ ways. 0 < ways) (omega arith) (omega arith)
 
@@ -82,6 +83,7 @@ rest-same lo a b =
     by-few (λ ways. a < ways → b < ways → (lo + a) % ways ≡ (lo + b) % ways → a ≡ b) (λ l m e. omega (arith, l, m, e)) (λ l m e. omega (arith, l, m, e))
 
 module _ (layout lo : ℕ) where
+  -- the first column that a unit has, from any column on, is fewer columns on than there are units
   pub until-low : (ways : ℕ) → 0 < ways → untilOwn ways layout lo < ways
   unfolding untilOwn
   until-low ways h = mod-lt (layout - lo % ways) h
@@ -127,6 +129,7 @@ module _ (first n : ℕ) where
   unfolding ownBelow
   own-some = by-few (λ ways. first < ways → first < n → (n - first - 1) / ways + 1 ≡ ownBelow ways first n) (λ a b. omega (arith, a, b)) (λ a b. omega (arith, a, b))
 
+  -- the first column, and as many strides on as the unit has columns of n, is less than a stride past n
   pub own-room : (ways : ℕ) → (ways ≡ 2) ⊎ (ways ≡ 4) → first < ways → first + ways * ownBelow ways first n < n + ways
   unfolding ownBelow
   own-room = by-few (λ ways. first < ways → first + ways * ownBelow ways first n < n + ways) (λ a. omega (arith, a)) (λ a. omega (arith, a))
@@ -149,6 +152,7 @@ stride-sum a g first ways j =
     add-assoc a (first * g) (j * (ways * g))
     ∙ ap (λ (n : ℕ). a + n) (ap (λ (n : ℕ). first * g + n) (sym (mul-assoc j ways g) ∙ ap (λ (n : ℕ). n * g) (mul-comm j ways)) ∙ sym (add-mul first (ways * j) g))
 
+-- what is carried to the unit's pixel j is what is carried to pixel `first + ways * j` of the row
 pub stride-carried : (c : Carried) (first ways j : ℕ) → carriedTo (stridden c first ways) j ≡ carriedTo c (first + ways * j)
 unfolding carriedTo
 stride-carried c first ways j =

@@ -15,9 +15,11 @@ pub record Cell : Type 0 where
   pub i : ℕ
   pub z : ℕ
 
+-- a cell of two numbers, that of I and that of Z
 abbrev pub cell : ℕ → ℕ → Cell
 cell i z = record { i = i; z = z }
 
+-- the cell at a place of a picture, with 0 for a number that a memory does not have
 abbrev pub cellAt : Picture → ℕ → Cell
 cellAt p at = cell (getD (p .i) at 0) (getD (p .z) at 0)
 

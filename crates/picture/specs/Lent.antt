@@ -16,6 +16,7 @@ use Rattle.picture.specs.Store.{Store, filled}
 abbrev pub Memory : Type 0
 Memory = RefT (List ℕ)
 
+-- a lent memory twice, as a call finds it and as it leaves it
 abbrev pub Lent : Type 0
 Lent = Both Memory Memory
 

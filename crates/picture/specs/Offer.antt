@@ -16,6 +16,7 @@ pub record Offer : Type 0 where
   pub i : ℕ
   pub z : ℕ
 
+-- an offer of a kind, at a column and a row, with its two numbers
 abbrev pub offer : Kind → ℕ → ℕ → ℕ → ℕ → Offer
 offer kind x y i z = record { kind = kind; x = x; y = y; i = i; z = z }
 

@@ -51,6 +51,7 @@ inPlanes planes old new = bitOr (bitAnd old (65535 - planes)) (bitAnd new planes
 unfoldable pub newI : Pen → ℕ → ℕ → ℕ
 newI pen i old = cond (pen .ienable) (inPlanes (pen .planes) old i) old
 
+-- the new depth where the Z enable is on and the kind has depth, and elsewhere the old one
 unfoldable pub newZ : Pen → Kind → ℕ → ℕ → ℕ
 newZ pen kind z old = cond (pen .zenable && isDeep kind) z old
 
@@ -60,6 +61,7 @@ pub record Picture : Type 0 where
   pub z : List ℕ
   pub passed : ℕ
 
+-- a picture of two memories and a count
 abbrev pub picture : List ℕ → List ℕ → ℕ → Picture
 picture i z n = record { i = i; z = z; passed = n }
 

@@ -9,6 +9,7 @@ use Rattle.picture.specs.Limits.{mostRows}
 abbrev pub frameOf : ℕ → ℕ → Frame
 frameOf line layout = record { line = line; layout = layout }
 
+-- a frame of a line length whose rows lie one after the other
 abbrev pub plainFrame : ℕ → Frame
 plainFrame line = frameOf line 0
 
@@ -22,12 +23,15 @@ pub data Layout : Type 0 where
 abbrev pub liesPlain : Frame → Bool
 liesPlain frame = eqb (frame .layout) 0 || ltb 7 (frame .layout)
 
+-- pixels lie in tiles by the number 1 alone
 abbrev pub liesTiled : Frame → Bool
 liesTiled frame = eqb (frame .layout) 1
 
+-- how many units the board has that a number from 2 to 7 tells: two up to 3, and four from there on
 abbrev pub waysOf : Frame → ℕ
 waysOf frame = cond (ltb (frame .layout) 4) 2 4
 
+-- the layout that the number of a frame tells; of a unit, it is what the number is above the number of units
 unfoldable pub layoutOf : Frame → Layout
 layoutOf frame = cond (liesPlain frame) plain (cond (liesTiled frame) tiled (share (waysOf frame) (frame .layout - waysOf frame)))
 
@@ -38,6 +42,7 @@ spotOf plain line x y = y * line + x
 spotOf tiled line x y = (y / 4 * (line / 4) + x / 4) * 16 + (4 * (y % 4) + x % 4)
 spotOf (share ways unit) line x y = y * (line / ways) + x / ways
 
+-- the place of pixel (x, y), by the layout and the line length of a frame
 unfoldable pub placeOf : Frame → ℕ → ℕ → ℕ
 placeOf frame x y = spotOf (layoutOf frame) (frame .line) x y
 

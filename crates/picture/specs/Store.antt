@@ -18,6 +18,7 @@ pub record Store : Type 0 where
   pub y : ℕ
   pub value : ℕ
 
+-- a pixel to store: whether the number is a depth, the column and the row, and the number
 abbrev pub pixelFor : Bool → ℕ → ℕ → ℕ → Store
 pixelFor deep x y value = record { deep = deep; x = x; y = y; value = value }
 
@@ -25,6 +26,7 @@ pixelFor deep x y value = record { deep = deep; x = x; y = y; value = value }
 unfoldable pub storedI : Pen → Store → ℕ → ℕ
 storedI pen s old = cond (s .deep) old (newI pen (s .value) old)
 
+-- the number where it is a depth and the Z enable is on, and elsewhere the old depth
 unfoldable pub storedZ : Pen → Store → ℕ → ℕ
 storedZ pen s old = cond (s .deep && pen .zenable) (s .value) old
 
