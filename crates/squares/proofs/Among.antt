@@ -11,18 +11,22 @@ use Rattle.ground.proofs.Truth.{both, same-test}
 use Rattle.squares.specs.Copy.{isAmong}
 
 module _ (n a v : ℕ) where
+  -- a number that is at least a and below a + n is one of the n numbers from a on
   pub among-in : a ≤ v → v < a + n → isAmong n a v ≡ true
   unfolding isAmong
   among-in h k = rw (le-leb a v h, lt-ltb v (a + n) k)
 
+  -- a number below a is none of them
   pub among-low : v < a → isAmong n a v ≡ false
   unfolding isAmong
   among-low h = rw (lt-leb a v h)
 
+  -- a number that is at least a + n is none of them
   pub among-high : a + n ≤ v → isAmong n a v ≡ false
   unfolding isAmong
   among-high h = rw (le-leb a v (omega arith), le-ltb v (a + n) h)
 
+  -- one of the n numbers from a on is at least a and below a + n
   pub among-parts : isAmong n a v ≡ true → (a ≤ v) × (v < a + n)
   unfolding isAmong
   among-parts e = let p = both (leb a v) (ltb v (a + n)) e in (leb-true a v (p .0), ltb-true v (a + n) (p .1))

@@ -10,10 +10,12 @@ use Rattle.squares.specs.Squares.{anyBelow, anyIn}
 
 -- ---- numbers below a bound
 
+-- no number below 0 passes a test
 pub any-none : (test : ℕ → Bool) → anyBelow 0 test ≡ false
 unfolding anyBelow
 any-none test = refl
 
+-- where a number below n passes the test, the answer is that some number does
 pub any-here : (n : ℕ) (test : ℕ → Bool) (i : ℕ) → i < n → test i ≡ true → anyBelow n test ≡ true
 unfolding anyBelow
 any-here zero test i h e = absurd (omega arith)
@@ -24,6 +26,7 @@ any-here (suc n) test i h e =
     (λ (b : i < n). rw (any-here n test i b e))
     (eq-or-lt-of-le l)
 
+-- where the answer is that some number below n passes the test, there is one that does
 pub any-found : (n : ℕ) (test : ℕ → Bool) → anyBelow n test ≡ true → (i : ℕ) × (i < n) × (test i ≡ true)
 unfolding anyBelow
 any-found zero test e = absurd (true≢false (sym e))
@@ -47,12 +50,14 @@ any-next n test e f = rw (add-one n) (rw (e, f))
 -- ---- pixels of a square
 
 module _ (marked : ℕ → ℕ → Bool) (side x y : ℕ) where
+  -- where a pixel of a square is marked, the answer is that the square holds a marked pixel
   pub in-here : (i j : ℕ) → i < side → j < side → marked (x + i) (y + j) ≡ true → anyIn marked side x y ≡ true
   unfolding anyIn
   in-here i j h k e =
       any-here side (λ j′. anyBelow side (λ i′. marked (x + i′) (y + j′))) j k
       (any-here side (λ i′. marked (x + i′) (y + j)) i h e)
 
+  -- where the answer is that a square holds a marked pixel, one of its pixels is marked
   pub in-found : anyIn marked side x y ≡ true → (i : ℕ) × (j : ℕ) × (i < side) × (j < side) × (marked (x + i) (y + j) ≡ true)
   unfolding anyIn
   in-found e =

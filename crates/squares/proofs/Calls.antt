@@ -49,11 +49,13 @@ module _ (n m width rows : ℕ) where
       go true false p q z = absurd (omega arith)
       go false b p q z = absurd (omega arith)
 
+  -- two pictures of one allowed size are not refused
   pub sized-told : Sized n m width rows → checked n m width rows 0 ≡ 0
   unfolding checked goodSize
   sized-told z =
       rw (eq-eqb n m (z .old ∙ sym (z .new)), lt-ltb 0 width (z .some), le-leb width 256 (z .narrow), le-leb rows 256 (z .low), eq-eqb n (width * rows) (z .old))
 
+  -- where neither the lengths nor the size are refused, the next check tells
   pub good-told : (next : ℕ) → checked n m width rows 0 ≡ 0 → checked n m width rows next ≡ next
   unfolding checked
   good-told next = go (eqb n m) (goodSize n width rows)
@@ -73,6 +75,7 @@ module _ (n m width rows : ℕ) where
       go true false z = refl
       go false b z = refl
 
+  -- the number of what is wrong is at most 9
   pub flaw-small : checked n m width rows 0 ≤ 9
   unfolding checked
   flaw-small = go (eqb n m) (goodSize n width rows)
@@ -113,6 +116,7 @@ unfolding sideOf
 five = refl
 
 module _ (old new : List ℕ) (width rows : ℕ) (out : List ℕ) where
+  -- listing tells 2 ^ 63 plus the number of what is wrong with the pictures, and leaves the output as it was
   pub list-flawed : {number : ℕ} → number ≡ checked (length old) (length new) width rows 0 → (number ≡ 0 → ⊥)
       → answer (2 ^ 63 + number) out ≡ listing old new width rows out
   unfolding listing
@@ -122,6 +126,7 @@ module _ (old new : List ℕ) (width rows : ℕ) (out : List ℕ) where
       rw (f, ← e) (refused (length list) (over list out) out number h)
 
   module _ (good : checked (length old) (length new) width rows 0 ≡ 0) where
+    -- where the output has fewer places than there are squares, listing tells 2 ^ 63 + 13 and leaves the output as it was
     pub list-short : length out < length (listed old new width rows) → answer (2 ^ 63 + 13) out ≡ listing old new width rows out
     unfolding listing
     list-short h =
@@ -158,6 +163,7 @@ module _ (list new : List ℕ) (width rows : ℕ) (view : List ℕ) where
   abbrev corners : List Corner
   corners = map cornerOf list
 
+  -- copying tells 2 ^ 63 plus the number of what is wrong with the pictures, and leaves the view as it was
   pub copy-flawed : {number : ℕ} → number ≡ checked (length view) (length new) width rows 0 → (number ≡ 0 → ⊥)
       → answer (2 ^ 63 + number) view ≡ copying list new width rows view
   unfolding copying
@@ -166,12 +172,14 @@ module _ (list new : List ℕ) (width rows : ℕ) (view : List ℕ) where
       rw (f, ← e) (refused (length list) (copySquares width new view corners) view number h)
 
   module _ (good : checked (length view) (length new) width rows 0 ≡ 0) where
+    -- where one of the list is no square of the picture, copying tells 2 ^ 63 + 9 and leaves the view as it was
     pub copy-strange : areSquares width rows corners ≡ false → answer (2 ^ 63 + 9) view ≡ copying list new width rows view
     unfolding copying
     copy-strange h =
         rw (h, good-told (length view) (length new) width rows 9 good)
         (refused (length list) (copySquares width new view corners) view 9 (λ z. omega arith))
 
+    -- where all are squares of the picture, copying tells how many they are and leaves the view with these copied
     pub copy-done : {left : List ℕ} → areSquares width rows corners ≡ true → left ≡ copySquares width new view corners
         → answer (length list) left ≡ copying list new width rows view
     unfolding copying

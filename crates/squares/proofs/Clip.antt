@@ -25,6 +25,7 @@ pub record Ends (width rows x y columns height : ℕ) : Type 0 where
 -- ---- a run of places
 
 module _ (old new : List ℕ) (at : ℕ) where
+  -- at no places nothing differs
   pub run-none : runDiffers old new at 0 ≡ false
   unfolding runDiffers anyBelow
   run-none = refl
@@ -45,6 +46,7 @@ module _ (old new : List ℕ) (width rows : ℕ) where
       let q = both (ltb x width) (ltb y rows) (p .0) in
       (ltb-true x width (q .0), ltb-true y rows (q .1), p .1)
 
+  -- a pixel inside the picture whose place differs does differ
   pub differs-of : (x y : ℕ) → x < width → y < rows → unlike old new (y * width + x) ≡ true → differs old new width rows x y ≡ true
   unfolding differs
   differs-of x y h k e = rw (lt-ltb x width h, lt-ltb y rows k) e
@@ -57,6 +59,7 @@ module _ (old new : List ℕ) (width rows : ℕ) where
         let f = in-found (differs old new width rows) side x y e in
         omega (arith, differs-parts (x + f .0) (y + f .1) (f .4) .0))
 
+    -- and a square above the picture's last row has no difference
     pub above : rows ≤ y → anyIn (differs old new width rows) side x y ≡ false
     above h =
         fails _ (λ e.

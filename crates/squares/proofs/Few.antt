@@ -14,6 +14,7 @@ module _ (marked : ℕ → ℕ → Bool) where
   unfolding kept
   kept-area area side x y l h = either (λ k. 64 * length k ≤ area) (anyIn marked side x y) {x = l} {y = []} (λ _. h) (λ _. omega arith)
 
+  -- the squares that remain of a square, 64 pixels each, have together at most as many pixels as it has
   pub area : (n x y : ℕ) → 64 * length (squares marked n x y) ≤ sideOf n * sideOf n
   unfolding squares sideOf
   area zero x y = kept-area 64 8 x y _ (omega arith)

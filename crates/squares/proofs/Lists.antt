@@ -11,6 +11,7 @@ use Rattle.squares.specs.Copy.{copySquare, copySquares}
 use Rattle.squares.specs.Calls.{isSquare, areSquares}
 
 module _ (width rows : ℕ) where
+  -- of an empty list all are squares of the picture
   pub squares-none : areSquares width rows [] ≡ true
   unfolding areSquares
   squares-none = refl

@@ -97,6 +97,7 @@ module _ (marked : ℕ → ℕ → Bool) (x y : ℕ) (is-marked : marked x y ≡
           let out : covers side a b x y ≡ false = fails _ (λ c. true≢false (sym (covered marked side a b x y c is-marked) ∙ p)) in
           rw out
 
+  -- a marked pixel lies in exactly one of the squares that remain of a square if it lies in that square, and in none of them if it does not
   pub once-in : (n a b : ℕ) → holders x y (squares marked n a b) ≡ once (covers (sideOf n) a b x y)
   unfolding squares sideOf holders
   once-in zero a b = kept-once 8 a b (corner a b ∷ []) (add-zero _)
@@ -167,6 +168,7 @@ module _ (marked : ℕ → ℕ → Bool) (c : Corner) where
     row = omega (arith, m .row);
   }
 
+  -- each square that remains of a square holds a marked pixel, and lies in that square a number of eights from its corner
   pub remains : (n a b : ℕ) → List·Memᴰ c (squares marked n a b) → Remains marked (sideOf n) a b c
   unfolding squares sideOf
   remains zero a b m =
@@ -193,6 +195,7 @@ module _ (marked : ℕ → ℕ → Bool) (c : Corner) where
 
 -- ---- the square of side 256
 
+-- the square of side 256 from (0, 0) on covers each pixel with both coordinates below 256
 pub covers-all : (x y : ℕ) → x < 256 → y < 256 → covers (sideOf 5) 0 0 x y ≡ true
 unfolding covers sideOf
 covers-all x y h k = rw (among-in 256 0 x (omega arith) (omega arith), among-in 256 0 y (omega arith) (omega arith))

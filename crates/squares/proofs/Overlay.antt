@@ -13,12 +13,14 @@ use lib.Seq.{ext-getD, getD-set-same, getD-set-other}
 use Rattle.squares.specs.Copy.{isAmong, overlay}
 use Rattle.squares.proofs.Among.{among-in, among-low, among-high}
 
+-- numbers laid over a picture leave its length as it was
 pub length-overlay : (test : ℕ → Bool) (new : List ℕ) (at : ℕ) (old : List ℕ) → length (overlay test new at old) ≡ length old
 unfolding overlay
 length-overlay test new at [] = refl
 length-overlay test [] at (a ∷ old) = refl
 length-overlay test (b ∷ new) at (a ∷ old) = ap suc (length-overlay test new (suc at) old)
 
+-- a choice between a number and itself is that number
 pub same : (b : Bool) (v : ℕ) → cond b v v ≡ v
 same true v = refl
 same false v = refl
@@ -74,6 +76,7 @@ either-of : (b c : Bool) (v w : ℕ) → cond c v (cond b v w) ≡ cond (b || c)
 either-of true c v w = same c v
 either-of false c v w = refl
 
+-- to lay over where one test holds, and then where another does, is to lay over where either holds
 pub overlay-more : (new old : List ℕ) → length new ≡ length old → (first second whole : ℕ → Bool)
     → ((i : ℕ) → i < length old → whole i ≡ first i || second i)
     → overlay second new 0 (overlay first new 0 old) ≡ overlay whole new 0 old

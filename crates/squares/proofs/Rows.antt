@@ -14,6 +14,7 @@ use Rattle.squares.proofs.Overlay.{length-overlay, overlay-none, overla
 -- ---- a run of places
 
 module _ (new old : List ℕ) (e : length new ≡ length old) (at : ℕ) where
+  -- a picture over which a run of no places is laid is as it was
   pub run-start : old ≡ overlay (isAmong 0 at) new 0 old
   run-start = overlay-none new old e (isAmong 0 at) (λ i k. among-none at i)
 
@@ -49,6 +50,7 @@ module _ (new old : List ℕ) (width rows x y : ℕ) (sn : length new ≡ width 
       overlay-none new old alike (λ p. holds (p % width) (p / width) (corner x y))
       (λ i k. rw (among-low 8 x (i % width) (omega (arith, place-inside i k .0))))
 
+  -- a square above the picture's last row leaves the picture as it was
   pub square-above : rows ≤ y → old ≡ copySquare width new old (corner x y)
   unfolding copySquare covers
   square-above h =
@@ -56,6 +58,7 @@ module _ (new old : List ℕ) (width rows x y : ℕ) (sn : length new ≡ width 
       (λ i k. rw (among-low 8 y (i / width) (omega (arith, place-inside i k .1))) (and-false (isAmong 8 x (i % width))))
 
   module _ (columns : ℕ) where
+    -- a picture over which no row of a square is laid is as it was
     pub rows-start : old ≡ overlay (inside width x y columns 0) new 0 old
     rows-start = overlay-none new old alike (inside width x y columns 0) (λ i k. rw (among-none y (i / width)) (and-false (isAmong columns x (i % width))))
 

@@ -32,9 +32,11 @@ module _ (side : ℕ) (large : 8 < side) where
   split-side P more zero e = absurd (omega arith)
   split-side P more (suc n) e = more n e
 
+  -- half of a side above 8 that can be split down to side 8 can be split so as well
   pub half-side : Side side → Side (side / 2)
   half-side s = split-side (λ _. Side (side / 2)) (λ n e. record { splits = n; is = omega arith }) (s .splits) (s .is)
 
+  -- and where its half is split n times down to side 8, it is twice the side of a square that is split so
   pub twice : Side side → (n : ℕ) → side / 2 ≡ sideOf n → side ≡ 2 * sideOf n
   twice s n h = split-side (λ _. side ≡ 2 * sideOf n) (λ m e. omega arith) (s .splits) (s .is)
 
@@ -104,17 +106,20 @@ module _ (marked : ℕ → ℕ → Bool) (side x y : ℕ) where
     at-last P here (suc n) e = absurd (omega (arith, side-least n))
 
     module _ (out : List ℕ) (k : ℕ) where
+      -- of a square of side 8 with no marked pixel nothing is put, and the next place is still k
       pub put-unlisted : anyIn marked 8 x y ≡ false → PutSquares marked side x y out k out k
       unfolding sideOf
       put-unlisted none =
           at-last (λ n. Put (numbers (squares marked n x y)) out k out k) (rw (dropped marked x y 0 none) (put-none out k))
 
       module _ (some : anyIn marked 8 x y ≡ true) where
+        -- of a square of side 8 with a marked pixel its own number is put at place k, and the next place is k + 1
         pub put-itself : PutSquares marked side x y out k (set out k (y * 65536 + x)) (k + 1)
         put-itself =
             at-last (λ n. Put (numbers (squares marked n x y)) out k (set out k (y * 65536 + x)) (k + 1))
             (rw (itself marked x y some) (put-byte out k (y * 65536 + x)))
 
+        -- and where there is room for what remains of such a square, k is a place of the output
         pub room-itself : Side side → Room marked side x y out k → k < length out
         room-itself s room =
             at-last (λ n. k + length (numbers (squares marked n x y)) ≤ length out → k < length out)
@@ -147,14 +152,17 @@ module _ {marked : ℕ → ℕ → Bool} {side x y : ℕ} {out : List ℕ} {k : 
   room-lower-left n h = omega (arith, whole n h)
 
   module _ {o : List ℕ} {a : ℕ} (p : PutSquares marked (side / 2) x y out k o a) where
+    -- behind what remains of the lower left quarter there is room for what remains of the lower right one
     pub room-lower-right : Room marked (side / 2) (x + side / 2) y o a
     room-lower-right n h = omega (arith, whole n h, p n h .ends, put-length (p n h))
 
     module _ {o′ : List ℕ} {b : ℕ} (q : PutSquares marked (side / 2) (x + side / 2) y o a o′ b) where
+      -- behind what remains of both lower quarters there is room for what remains of the upper left one
       pub room-upper-left : Room marked (side / 2) x (y + side / 2) o′ b
       room-upper-left n h = omega (arith, whole n h, p n h .ends, q n h .ends, put-length (p n h), put-length (q n h))
 
       module _ {o″ : List ℕ} {c : ℕ} (r : PutSquares marked (side / 2) x (y + side / 2) o′ b o″ c) where
+        -- behind what remains of those three there is room for what remains of the upper right one
         pub room-upper-right : Room marked (side / 2) (x + side / 2) (y + side / 2) o″ c
         room-upper-right n h =
             omega (arith, whole n h, p n h .ends, q n h .ends, r n h .ends, put-length (p n h), put-length (q n h), put-length (r n h))

@@ -47,6 +47,7 @@ module _ (old new : List ℕ) (width rows : ℕ) where
       let d = differs-parts old new width rows (c .x + s .0) (c .y + s .1) (s .4) in
       (r .column, r .row, omega (arith, d .0), omega (arith, d .1))
 
+  -- all listed squares are such as copying takes
   pub all-squares : areSquares width rows (changed old new width rows) ≡ true
   all-squares = squares-each width rows (changed old new width rows) listed-inside
 

@@ -23,6 +23,7 @@ checked n m width rows next = cond (eqb n m) (cond (goodSize n width rows) next 
 unfoldable pub isSquare : ℕ → ℕ → Corner → Bool
 isSquare width rows c = eqb (c .x % 8) 0 && eqb (c .y % 8) 0 && ltb (c .x) width && ltb (c .y) rows
 
+-- each square of a list is such as is listed for the picture
 unfoldable pub areSquares : ℕ → ℕ → List Corner → Bool
 areSquares width rows [] = true
 areSquares width rows (c ∷ cs) = isSquare width rows c && areSquares width rows cs

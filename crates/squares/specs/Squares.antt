@@ -18,6 +18,7 @@ pub record Corner : Type 0 where
   pub x : ℕ
   pub y : ℕ
 
+-- the square of side 8 whose lower left corner is (x, y)
 abbrev pub corner : ℕ → ℕ → Corner
 corner x y = record { x = x; y = y }
 

@@ -63,11 +63,13 @@ pub data Fits : ℕ → List ℕ → Type 0 where
   none : {k : ℕ} → Fits k []
   more : {k n : ℕ} {ns : List ℕ} → n < 2 ^ k → Fits k ns → Fits k (n ∷ ns)
 
+-- numbers that pass the test have at most k bits each
 pub fits : (k : ℕ) (ns : List ℕ) → fit k ns ≡ true → Fits k ns
 unfolding fit
 fits k [] e = none
 fits k (n ∷ ns) e = more (ltb-true n (2 ^ k) (both (ltb n (2 ^ k)) (fit k ns) e .0)) (fits k ns (both (ltb n (2 ^ k)) (fit k ns) e .1))
 
+-- numbers that have at most k bits each pass the test
 pub fits-test : {k : ℕ} {ns : List ℕ} → Fits k ns → fit k ns ≡ true
 unfolding fit
 fits-test none = refl
@@ -93,6 +95,7 @@ or-below k a b = go (ltb a (2 ^ k)) (ltb b (2 ^ k)) refl refl
 
 -- the test from a place on, beside the bits set before it
 module _ (k : ℕ) (ns : List ℕ) where
+  -- the answer stays the same where the number at the place is set beside the bits before it and the test goes on one place further
   pub fit-past : (i set : ℕ) → i < length ns → ltb set (2 ^ k) && fit k (drop i ns) ≡ ltb (bitOr set (getD ns i 0)) (2 ^ k) && fit k (drop (i + 1) ns)
   unfolding fit
   fit-past i set h =
@@ -102,6 +105,7 @@ module _ (k : ℕ) (ns : List ℕ) where
       go true q r = refl
       go false q r = refl
 
+  -- past the last number the bits that are set tell the answer
   pub fit-end : (i set : ℕ) → length ns ≤ i → ltb set (2 ^ k) ≡ ltb set (2 ^ k) && fit k (drop i ns)
   unfolding fit
   fit-end i set h = rw (drop-of-length-le ns h) (go (ltb set (2 ^ k)))
@@ -110,18 +114,22 @@ module _ (k : ℕ) (ns : List ℕ) where
       go true = refl
       go false = refl
 
+  -- with no bits set, the test from place 0 on is that of all numbers
   pub fit-start : fit k ns ≡ ltb 0 (2 ^ k) && fit k (drop 0 ns)
   fit-start = sym (ap (λ (b : Bool). b && fit k ns) (lt-ltb 0 (2 ^ k) (pow-pos k)))
 
+-- two lists of numbers that fit, one behind the other, fit
 pub fits-append : {k : ℕ} {ms ns : List ℕ} → Fits k ms → Fits k ns → Fits k (ms ++ ns)
 fits-append none g = g
 fits-append (more h f) g = more h (fits-append f g)
 
+-- numbers that fit still do where some are dropped from the front
 pub fits-drop : {k : ℕ} {ns : List ℕ} (i : ℕ) → Fits k ns → Fits k (drop i ns)
 fits-drop zero f = f
 fits-drop (suc i) none = none
 fits-drop (suc i) (more h f) = fits-drop i f
 
+-- the first of numbers that fit, however many are taken, fit
 pub fits-take : {k : ℕ} {ns : List ℕ} (i : ℕ) → Fits k ns → Fits k (take i ns)
 fits-take zero f = none
 fits-take (suc i) none = none

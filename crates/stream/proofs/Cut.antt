@@ -11,11 +11,13 @@ use Rattle.stream.proofs.Bits.{Fits, none, more, fits-append, fits-drop
 
 -- ---- numbers back to back
 
+-- numbers of k bits back to back are k bits for each number
 pub length-joined : (k : ℕ) (ns : List ℕ) → length (joined k ns) ≡ length ns * k
 unfolding joined
 length-joined k [] = sym (zero-mul k)
 length-joined k (n ∷ ns) = length-append (bits k n) (joined k ns) ∙ ap₂ (λ (i j : ℕ). i + j) (length-bits k n) (length-joined k ns) ∙ add-comm k (length ns * k) ∙ sym (suc-mul (length ns) k)
 
+-- joined numbers are a row of nothing but bits
 pub joined-fit : (k : ℕ) (ns : List ℕ) → Fits 1 (joined k ns)
 unfolding joined
 joined-fit k [] = none
@@ -33,6 +35,7 @@ drop-joined k (suc j) (n ∷ ns) =
 
 -- ---- a row of bits, cut
 
+-- as many numbers are cut as are asked for
 pub length-cut : (k n : ℕ) (bs : List ℕ) → length (cut k n bs) ≡ n
 unfolding cut
 length-cut k zero bs = refl

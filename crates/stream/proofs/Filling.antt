@@ -32,6 +32,7 @@ stores l k a vs = stored-sets vs (set l k a) k 1 ∙ ap (λ (j : ℕ). sets (set
 abbrev pub front : ℕ → List ℕ → List ℕ → List ℕ
 front n new old = take n new ++ drop n old
 
+-- where all of the result stands, it stands over the front, and the places beyond are untouched
 pub front-all : (n : ℕ) (new old : List ℕ) → n ≡ length new → front n new old ≡ over new old
 unfolding over
 front-all n new old e = rw (e, take-length new)
@@ -66,17 +67,20 @@ pub one-word : (s : List ℕ) → 3 ≤ length s → take 1 (unpackOf s) ≡ wor
 unfolding wordAt
 one-word s h = take-suc (unpackOf s) 0 0 (omega (arith, length-unpack s))
 
+-- the first two words of a stream of at least five bytes are those at places 0 and 1
 pub two-words : (s : List ℕ) → 5 ≤ length s → take 2 (unpackOf s) ≡ wordAt s 0 ∷ wordAt s 1 ∷ []
 unfolding wordAt
 two-words s h = take-suc (unpackOf s) 1 0 (omega (arith, length-unpack s)) ∙ ap (λ (l : List ℕ). l ++ (wordAt s 1 ∷ [])) (one-word s (omega arith))
 
 module _ (s old out : List ℕ) (room : length s * 2 / 5 ≤ length old) where
+  -- where the words of j groups of five bytes stand, storing the two words of the next group makes those of j + 1 groups stand
   pub unpack-turn : (j : ℕ) → 5 * j + 5 ≤ length s → out ≡ front (2 * j) (unpackOf s) old
       → sets out (2 * j) (take 2 (unpackOf (drop (5 * j) s))) ≡ front (2 * (j + 1)) (unpackOf s) old
   unpack-turn j h q =
       turn 2 (2 * j) (2 * (j + 1)) (unpackOf s) old out (take 2 (unpackOf (drop (5 * j) s)))
       (omega arith) (omega (arith, length-unpack s)) (omega arith) (ap (take 2) (sym (drop-unpack j s))) q
 
+  -- where the words of all groups of five bytes stand, storing the word of three or four bytes behind them makes the whole result stand
   pub unpack-last : (j : ℕ) → j ≡ length s / 5 → 3 ≤ length s % 5 → out ≡ front (2 * j) (unpackOf s) old
       → sets out (2 * j) (take 1 (unpackOf (drop (5 * j) s))) ≡ over (unpackOf s) old
   unpack-last j e h q =
@@ -106,12 +110,14 @@ last-bytes ws j h =
     sym (ap (take 3) (pack-end ws j h) ∙ take-all 3 (packOf (v ∷ [])) (omega (arith, length-pack (v ∷ []))))
 
 module _ (ws old out : List ℕ) (room : (length ws * 5 + 1) / 2 ≤ length old) where
+  -- where the bytes of j pairs of words stand, storing the five bytes of the next pair makes those of j + 1 pairs stand
   pub pack-turn : (j : ℕ) → 2 * j + 2 ≤ length ws → out ≡ front (5 * j) (packOf ws) old
       → sets out (5 * j) (packOf (getD ws (2 * j) 0 ∷ getD ws (2 * j + 1) 0 ∷ [])) ≡ front (5 * (j + 1)) (packOf ws) old
   pack-turn j h q =
       turn 5 (5 * j) (5 * (j + 1)) (packOf ws) old out (packOf (getD ws (2 * j) 0 ∷ getD ws (2 * j + 1) 0 ∷ []))
       (omega arith) (omega (arith, length-pack ws)) (omega arith) (pair-bytes ws j h) q
 
+  -- where the bytes of all pairs stand, storing the three bytes of an odd last word makes the whole result stand
   pub pack-last : (j : ℕ) → 2 * j + 1 ≡ length ws → out ≡ front (5 * j) (packOf ws) old
       → sets out (5 * j) (packOf (getD ws (2 * j) 0 ∷ [])) ≡ over (packOf ws) old
   pack-last j e q =

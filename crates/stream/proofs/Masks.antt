@@ -26,6 +26,7 @@ low-number c d e =
     ∙ ap₂ (λ (x y : ℕ). x * 65536 + y) (number-bits 4 c)
     (number-append (bits 8 d) (bits 8 e) ∙ ap₂ (λ (x y : ℕ). x * 256 + y) (number-bits 8 d) (number-bits 8 e))
 
+-- the last four bits of one number and of another, back to back, are 16 times the first and the second
 pub seam-number : (v w : ℕ) → number (bits 4 v ++ bits 4 w) ≡ v % 16 * 16 + w % 16
 unfolding bits
 seam-number v w = number-append (bits 4 v) (bits 4 w) ∙ ap₂ (λ (x y : ℕ). x * 16 + y) (number-bits 4 v) (number-bits 4 w)
@@ -40,6 +41,7 @@ or-add k z x y e h = ap (λ (n : ℕ). bitOr n y) e ∙ or-shifted z k y h ∙ a
 shl : (x k : ℕ) → x * k < 4294967296 → x * k % 4294967296 ≡ x * k
 shl x k h = mod-eq-of-lt h
 
+-- two bytes and the high half of a third, shifted and set together, are the first 20 bits of the three
 pub high-word : (a b c : ℕ) → a < 256 → b < 256 → c < 256
     → bitOr (bitOr (a * 4096 % 4294967296) (b * 16 % 4294967296)) (c / 16) ≡ number (take 20 (joined 8 (a ∷ b ∷ c ∷ [])))
 high-word a b c ha hb hc =
@@ -48,6 +50,7 @@ high-word a b c ha hb hc =
     ∙ or-add 4 (a * 256 + b) (a * 4096 + b * 16) (c / 16) (omega arith) (omega arith)
     ∙ omega (arith, high-number a b c)
 
+-- the low half of a byte and two bytes more, shifted and set together, are the last 20 bits of the three
 pub low-word : (c d e : ℕ) → d < 256 → e < 256
     → bitOr (bitOr (bitAnd c 15 * 65536 % 4294967296) (d * 256 % 4294967296)) e ≡ number (drop 4 (joined 8 (c ∷ d ∷ e ∷ [])))
 low-word c d e hd he =
@@ -57,15 +60,18 @@ low-word c d e hd he =
     ∙ or-add 8 (c % 16 * 256 + d) (c % 16 * 65536 + d * 256) e (omega arith) (omega arith)
     ∙ omega (arith, low-number c d e)
 
+-- the mask 255 leaves the number of the last eight bits
 pub low-byte : (x : ℕ) → bitAnd x 255 ≡ number (bits 8 x)
 low-byte x = and-mask x 8 ∙ sym (number-bits 8 x)
 
+-- the last four bits of one word and the first four of the next, shifted and set together, are the number of those eight bits
 pub seam-byte : (v w : ℕ) → bitOr (bitAnd v 15 * 16 % 4294967296) (bitAnd (w / 65536) 15) ≡ number (bits 4 v ++ bits 4 (w / 65536))
 seam-byte v w =
     ap₂ bitOr (ap (λ (x : ℕ). x * 16 % 4294967296) (and-mask v 4) ∙ mod-eq-of-lt (omega arith)) (and-mask (w / 65536) 4)
     ∙ or-add 4 (v % 16) (v % 16 * 16) (w / 65536 % 16) refl (omega arith)
     ∙ sym (seam-number v (w / 65536))
 
+-- the number of those eight bits is a byte
 pub seam-lt : (v w : ℕ) → number (bits 4 v ++ bits 4 (w / 65536)) < 256
 seam-lt v w = omega (arith, seam-number v (w / 65536))
 
@@ -89,12 +95,14 @@ turn-four a b c d y x ha hb hc e f =
     let q = four-bytes a b c d y ha hb hc e in
     f ∙ rw (q .0, q .1, q .2, q .3)
 
+-- four bytes as one number, the first the highest, divided by 4096 are the first 20 bits
 pub high-four : (a b c d x : ℕ) → a < 256 → b < 256 → c < 256 → d < 256
     → x ≡ a * 16777216 + b * 65536 + c * 256 + d → x / 4096 ≡ number (take 20 (joined 8 (a ∷ b ∷ c ∷ [])))
 high-four a b c d x ha hb hc hd e =
     let e₁ : x / 4096 ≡ a * 4096 + b * 16 + c / 16 = omega (arith, hc, hd, e) in
     e₁ ∙ omega (arith, high-number a b c, mod-eq-of-lt ha, mod-eq-of-lt hb)
 
+-- the last 12 bits of that number, with a byte behind them, are the 20 bits after those
 pub low-four : (a b c d g x : ℕ) → d < 256 → g < 256
     → x ≡ a * 16777216 + b * 65536 + c * 256 + d → x % 4096 * 256 + g ≡ number (drop 4 (joined 8 (c ∷ d ∷ g ∷ [])))
 low-four a b c d g x hd hg e = omega (arith, low-number c d g)

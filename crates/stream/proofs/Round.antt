@@ -169,5 +169,6 @@ packed-tail ws = go (eqb (length (packOf ws) % 5) 3) refl
     go true t = ap not (eq-eqb (getD (packOf ws) (length (packOf ws) - 1) 0 % 16) 0 (packed-zero ws (eqb-true (length (packOf ws) % 5) 3 t)))
     go false t = refl
 
+-- packed words are a stream that neither 11 nor 12 refuses
 pub packed-good : (ws : List ℕ) → checked (packOf ws) 0 ≡ 0
 packed-good ws = next-told (packOf ws) 0 (packed-length ws) (packed-tail ws)

@@ -155,6 +155,7 @@ unrefused s out z =
     let g = good s next (sym (refusal-told (checked s next) (unpackOf s) out) ∙ z) in
     (next-told s 0 (g .0) (g .1), room-told (unpackOf s) out (g .2))
 
+-- where unpacking refuses nothing, the entries count the words that it tells, and tell at each place the word that it leaves there
 pub entries-agree : (s out left : List ℕ) (r : Coded)
     → codedTold r left ≡ unpacking s out
     → codedNumber r ≡ 0

@@ -16,10 +16,12 @@ use Rattle.stream.proofs.Cut.{length-joined, drop-joined, length-cut, d
 
 -- ---- how many
 
+-- n bytes hold 2 n / 5 words, rounded down
 pub length-unpack : (s : List ℕ) → length (unpackOf s) ≡ length s * 2 / 5
 unfolding unpackOf whole
 length-unpack s = length-cut 20 (length (joined 8 s) / 20) (joined 8 s) ∙ omega (arith, length-joined 8 s)
 
+-- a number is even or odd
 pub parity : (n : ℕ) → (n % 2 ≡ 0) ⊎ (n % 2 ≡ 1)
 parity n = go (eqb (n % 2) 1) refl
   where
@@ -37,9 +39,11 @@ unfolding closing
 length-closing n =
     ⊎-elim (λ e. ap length (closing-same n 0 e) ∙ ap (λ (b : ℕ). b * 4) (sym e)) (λ e. ap length (closing-same n 1 e) ∙ ap (λ (b : ℕ). b * 4) (sym e)) (parity n)
 
+-- the bits of some words and those that close them are 20 for each word, and four more where the number of words is odd
 pub length-row : (ws : List ℕ) → length (joined 20 ws ++ closing (length ws)) ≡ length ws * 20 + length ws % 2 * 4
 length-row ws = length-append (joined 20 ws) (closing (length ws)) ∙ ap₂ (λ (i j : ℕ). i + j) (length-joined 20 ws) (length-closing (length ws))
 
+-- n words make 5 n / 2 bytes, rounded up
 pub length-pack : (ws : List ℕ) → length (packOf ws) ≡ (length ws * 5 + 1) / 2
 unfolding packOf whole
 length-pack ws = length-cut 8 (length (joined 20 ws ++ closing (length ws)) / 8) (joined 20 ws ++ closing (length ws)) ∙ omega (arith, length-row ws)
@@ -93,11 +97,13 @@ second-word (a ∷ b ∷ c ∷ d ∷ e ∷ s) h =
 
 -- the same, from byte i on
 module _ (s : List ℕ) (i : ℕ) where
+  -- the first word from byte i on is two bytes and the high half of a third
   pub word-high : i + 3 ≤ length s → wordAt (drop i s) 0 ≡ number (take 20 (joined 8 (getD s i 0 ∷ getD s (i + 1) 0 ∷ getD s (i + 2) 0 ∷ [])))
   word-high h =
       first-word (drop i s) (omega (arith, length-drop i s))
       ∙ rw (getD-drop i s 0 0, getD-drop i s 1 0, getD-drop i s 2 0, add-zero i)
 
+  -- the second word from byte i on is the low half of the third byte and two bytes more
   pub word-low : i + 5 ≤ length s → wordAt (drop i s) 1 ≡ number (drop 4 (joined 8 (getD s (i + 2) 0 ∷ getD s (i + 3) 0 ∷ getD s (i + 4) 0 ∷ [])))
   word-low h =
       second-word (drop i s) (omega (arith, length-drop i s))
@@ -110,6 +116,7 @@ word-there s j i = sym (getD-drop (2 * j) (unpackOf s) i 0) ∙ ap (λ (l : List
 
 -- ---- bytes from their words
 
+-- no words make no bytes
 pub pack-none : packOf [] ≡ []
 unfolding packOf whole joined closing cut
 pack-none = refl

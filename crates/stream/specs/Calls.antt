@@ -66,6 +66,7 @@ codedNumber BadLength = 11
 codedNumber BadTail = 12
 codedNumber NoRoom = 13
 
+-- the length that an answer stands for is the result's for a success, and 0 for every refusal
 abbrev pub sizeOf : Coded → ℕ
 sizeOf (Done n) = n
 sizeOf BadWord = 0
@@ -96,6 +97,7 @@ pub record Answer : Type 0 where
   pub told : ℕ
   pub left : List ℕ
 
+-- the answer that tells a number, with what the call left
 abbrev pub answer : ℕ → List ℕ → Answer
 answer told left = record { told = told; left = left }
 

@@ -84,6 +84,7 @@ module _ (a b c : Vertex) (x y : ℕ) (k : Turned (cornersOf a b c c)) (m : Amid
   mirror-on : plusOf (b .y) (b .x) (a .y) (a .x) y x ≡ minusOf (b .y) (b .x) (a .y) (a .x) y x
   mirror-on = rw (flip-plus (b .x) (b .y) (a .x) (a .y) x y, flip-minus (b .x) (b .y) (a .x) (a .y) x y) (m .on)
 
+  -- a pixel between the ends of the edge from a to b is strictly inside the edge from c to a
   pub amid-first : edgeAt c a x y .minus < edgeAt c a x y .plus
   amid-first =
       either-axis (m .off-a)
@@ -92,6 +93,7 @@ module _ (a b c : Vertex) (x y : ℕ) (k : Turned (cornersOf a b c c)) (m : Amid
       rw (flip-plus (a .x) (a .y) (c .x) (c .y) x y, flip-minus (a .x) (a .y) (c .x) (c .y) x y) at
       (off-second (b .y) (b .x) (a .y) (a .x) (c .y) (c .x) y x mirror-turns mirror-on (omega (arith, m .low)) (omega (arith, m .high)) n))
 
+  -- and it is strictly inside the edge from b to c
   pub amid-second : edgeAt b c x y .minus < edgeAt b c x y .plus
   amid-second =
       either-axis (m .off-b)

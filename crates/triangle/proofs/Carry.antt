@@ -33,9 +33,11 @@ module _ (v d f : ℕ) (pos : 0 < d) (few : d ≤ 65535) (least : carriedOne ≤
       let most : v ≤ 65536 * d = omega (arith, h) in
       omega (arith, mul-le-mul-right d most, mul-le-mul-left (65536 * d) few, few)
 
+  -- the number times the reciprocal, divided by 2 ^ 48, is the quotient of the number by the height
   pub over-told : v * f / carriedOne ≡ v / d
   over-told = told v d f pos least most over-small
 
+  -- the number times the reciprocal is below 2 ^ 64
   pub over-fits : v * f < 65536 * carriedOne
   over-fits =
       let q : v / d < 65536 = (div-lt-iff-lt-mul {k = d} {x = v} {y = 65536} pos) .1 h in
@@ -58,15 +60,19 @@ module _ (r m : ℕ) (pos : 0 < m) where
         mul-left-comm (r * 4294967296 / m) 65536 m,
       )
 
+  -- what the two divisions make, times m, is at most r times 2 ^ 48
   pub part-low : twice * m ≤ r * carriedOne
   part-low = omega (arith, whole-of)
 
+  -- and with m more it is above r times 2 ^ 48, so that it is their quotient rounded down
   pub part-high : r * carriedOne < twice * m + m
   part-high = omega (arith, whole-of, mod-lt (r * 4294967296 % m * 65536) pos)
 
+  -- the part is less than 2 ^ 48 where r is less than m
   pub part-small : r < m → twice < carriedOne
   part-small h = lt-of-mul-lt-mul-right m {m = twice} {n = carriedOne} (omega (arith, part-low))
 
+-- a quotient has at most 16 bits where twice the number is at most 131,071 times the divisor
 pub quotient-small : (n m : ℕ) → 0 < m → 2 * n ≤ 131071 * m → n / m ≤ 65535
 quotient-small n m p h = le-of-suc-le-suc ((div-lt-iff-lt-mul {k = m} {x = n} {y = 65536} p) .1 (omega arith))
 
@@ -81,12 +87,15 @@ module _ (n m k : ℕ) (low : k * m ≤ n % m * carriedOne) (high : n % m * carr
         mul-left-comm (n / m) carriedOne m,
       )
 
+  -- the whole part times 2 ^ 48 and the part k behind it, times m, are at most n times 2 ^ 48
   pub fixed-low : (n / m * carriedOne + k) * m ≤ n * carriedOne
   fixed-low = omega (arith, parts, div-add-mod' n m)
 
+  -- and with m more they are above n times 2 ^ 48, so that they are 2 ^ 48 times n over m, rounded down
   pub fixed-high : n * carriedOne < (n / m * carriedOne + k) * m + m
   fixed-high = omega (arith, parts, div-add-mod' n m)
 
+  -- they are at most 65,535.5 times 2 ^ 48 where twice n is at most 131,071 times m
   pub fixed-fits : 0 < m → 2 * n ≤ 131071 * m → n / m * carriedOne + k ≤ 18446603336221196288
   fixed-fits p h = le-of-mul-le-mul-right {k = m} (omega (arith, fixed-low)) p
 
@@ -94,24 +103,31 @@ module _ (d f : ℕ) (few : 2 * d ≤ 65536) (most : f * (2 * d) ≤ carriedOne 
   unit : d * f ≤ 140737488388096
   unit = omega (arith, mul-left-comm f 2 d, mul-comm f d)
 
+  -- the factor of a small triangle is at most 2 ^ 48 + 65,536
   pub factor-small : 0 < d → f ≤ 281474976776192
   factor-small p = omega (arith, mul-le-mul-left {m = 1} {n = 2 * d} f (omega arith))
 
+  -- a sum of at most 131,071 times d, times the factor, is below 2 ^ 64
   pub sum-fits : (n : ℕ) → n ≤ 131071 * d → n * f < 18446744073709551616
   sum-fits n h = omega (arith, unit, mul-le-mul-right f h, mul-assoc 131071 d f)
 
+  -- a step of at most 131,070 times d, times the factor, is below 2 ^ 64
   pub step-fits : (k : ℕ) → k ≤ 131070 * d → k * f < 18446744073709551616
   step-fits k h = omega (arith, unit, mul-le-mul-right f h, mul-assoc 131070 d f)
 
+  -- a sum of at most 131,071 times d, times 2 d, is below 2 ^ 48, as the factor needs it to tell the quotient
   pub sum-small : (n : ℕ) → n ≤ 131071 * d → n * (2 * d) < carriedOne
   sum-small n h = omega (arith, mul-le-mul {n₁ = n} {m₁ = 2 * d} {n₂ = 4294934528} {m₂ = 65536} (omega arith) few)
 
+-- 2 ^ 48 over d, rounded down and one more, is a factor that times d is at least 2 ^ 48
 pub factor-least : (d : ℕ) → 0 < d → carriedOne ≤ (carriedOne / d + 1) * d
 factor-least d h = omega (arith, add-mul (carriedOne / d) 1 d, lt-div-mul-add {a = carriedOne} {b = d} h)
 
+-- and that factor times d is at most 2 ^ 48 + d
 pub factor-most : (d : ℕ) → (carriedOne / d + 1) * d ≤ carriedOne + d
 factor-most d = omega (arith, add-mul (carriedOne / d) 1 d, mul-div-le carriedOne d, mul-comm d (carriedOne / d))
 
+-- 2 N + D is at most 131,071 D where the weights add up to D and no corner number is above 65,535
 pub mass-most : (u v w d p q r : ℕ) → u + v + w ≡ d → p ≤ 65535 → q ≤ 65535 → r ≤ 65535 → massOf u v w d p q r ≤ 131071 * d
 mass-most u v w d p q r e hp hq hr = omega (arith, mean-most u v w d p q r e 65535 hp hq hr)
 
@@ -159,11 +175,13 @@ module _ (t : Corners) (k : Turned t) (f : ℕ) (few : 2 * areaOf t ≤ 65536) (
   ready : (x y : ℕ) → covers t x y ≡ true → Ready t (areaOf t) (edgesAt t x y)
   ready x y h = covered-ready t k x y h (omega arith)
 
+  -- at a pixel that a small triangle covers, 2 N + D is at most 131,071 times the doubled area
   pub mass-at : (x y : ℕ) → covers t x y ≡ true → massBy t p q r x y ≤ 131071 * areaOf t
   mass-at x y h = mass-most _ _ _ _ p q r (ready x y h .whole) hp hq hr
 
   -- what a pixel to the right adds, and what it makes
   module _ (right : ℕ) (lean : Leans t p q r right) where
+    -- where 2 N does not fall to the right, what a pixel adds to it (at most 131,070 D) times the factor is what is added to the scaled sum
     pub paces-up : middle ≤ right → Paces t f p q r (min (right - middle) (131070 * areaOf t) * f)
     unfolding scaled
     paces-up l =
@@ -176,6 +194,7 @@ module _ (t : Corners) (k : Turned t) (f : ℕ) (few : 2 * areaOf t ≤ 65536) (
               up-mod _ _ _ (scale-up (massBy t p q r x y) _ (min (right - middle) (131070 * areaOf t)) f e) (sum-fits (areaOf t) f few most _ c);
         }
 
+    -- where 2 N does not rise to the right, what is added is what makes 0 modulo 2 ^ 64 with the pixel's loss (at most 131,070 D) times the factor
     pub paces-down : (v : ℕ) → right ≤ middle → (v + min (middle - right) (131070 * areaOf t) * f) % 2 ^ 64 ≡ 0 → Paces t f p q r v
     unfolding scaled
     paces-down v l n =
@@ -188,6 +207,7 @@ module _ (t : Corners) (k : Turned t) (f : ℕ) (few : 2 * areaOf t ≤ 65536) (
               down-mod _ _ _ v (scale-up (massBy t p q r (x + 1) y) _ (min (middle - right) (131070 * areaOf t)) f e) (sum-fits (areaOf t) f few most _ c) n;
         }
 
+  -- at a covered pixel the scaled sum, divided by 2 ^ 48, is the number mixed by the edges' amounts
   pub number : carriedOne ≤ f * (2 * areaOf t) → (x y : ℕ) → covers t x y ≡ true
       → scaled t f p q r x y / carriedOne ≡ mixed (amount (edgesAt t x y .bc)) (amount (edgesAt t x y .ca)) (amount (edgesAt t x y .ab)) (areaOf t) p q r
   unfolding scaled mixed
@@ -229,6 +249,7 @@ module _ (t : Corners) (k : Turned t) (fits : areaOf t ≤ 2147483648) (p q r : 
   mass-long x y h = mass-most _ _ _ _ p q r (ready-long x y h .whole) hp hq hr
 
   module _ (right : ℕ) (lean : Leans t p q r right) where
+    -- where 2 N does not fall to the right, 2 ^ 48 times what a pixel adds over 2 D, rounded down and one more, carries a long sum on
     pub drifts-up : (v : ℕ) → middle ≤ right
         → v * (2 * areaOf t) ≤ min (right - middle) (131070 * areaOf t) * carriedOne
         → min (right - middle) (131070 * areaOf t) * carriedOne < v * (2 * areaOf t) + 2 * areaOf t
@@ -247,6 +268,7 @@ module _ (t : Corners) (k : Turned t) (fits : areaOf t ≤ 2147483648) (p q r : 
               rw (mod-eq-of-lt f) (record { low = u; high = w });
         }
 
+    -- where 2 N does not rise to the right, a number that takes away 2 ^ 48 times the pixel's loss over 2 D, rounded down, carries a long sum on
     pub drifts-down : (v g : ℕ) → right ≤ middle → (g + v) % 2 ^ 64 ≡ 0
         → v * (2 * areaOf t) ≤ min (middle - right) (131070 * areaOf t) * carriedOne
         → min (middle - right) (131070 * areaOf t) * carriedOne < v * (2 * areaOf t) + 2 * areaOf t
@@ -274,6 +296,7 @@ module _ (t : Corners) (k : Turned t) (fits : areaOf t ≤ 2147483648) (p q r : 
 
   -- ---- the numbers of a row
 
+  -- 2 ^ 48 times the number at lo, or at most 1 more, carried on by a drift tells the number of each covered column from lo to hi
   pub runs-long : (lo hi y a g : ℕ) → ((j : ℕ) → lo + j < hi → covers t (lo + j) y ≡ true) → hi ≤ 65535 → a < 18446744073709551616
       → Near t p q r lo y 1 a → Drifts t p q r g → Runs t p q r lo hi y a g
   runs-long lo hi y a g cov wide low n h = record { tells = λ j l. number-long (lo + j) y (j + 1) _ (cov j l) (omega arith) (at j l) }
@@ -284,6 +307,7 @@ module _ (t : Corners) (k : Turned t) (fits : areaOf t ≤ 2147483648) (p q r : 
           rw (run-suc a g j, run-next lo j, ← add-one j)
           (h .go (lo + j) y (j + 1) _ (cov j (omega arith)) (rw (run-next lo j) at (cov (suc j) l)) (omega arith) (at j (omega arith)))
 
+-- the scaled sum of a small triangle at lo, with its pace added a pixel, tells the number of each covered column from lo to hi
 pub runs-short : (t : Corners) (k : Turned t) (f : ℕ) (few : 2 * areaOf t ≤ 65536) (least : carriedOne ≤ f * (2 * areaOf t)) (most : f * (2 * areaOf t) ≤ carriedOne + 2 * areaOf t)
     (p q r : ℕ) (hp : p ≤ 65535) (hq : q ≤ 65535) (hr : r ≤ 65535) (lo hi y a g : ℕ)
     → ((j : ℕ) → lo + j < hi → covers t (lo + j) y ≡ true) → a < 18446744073709551616
@@ -299,6 +323,7 @@ runs-short t k f few least most p q r hp hq hr lo hi y a g cov low n h =
 
 -- ---- either way
 
+-- a sum that is begun by the factor or by a quotient, and carried on in the same way, tells the number of each covered column from lo to hi
 pub runs-of : (t : Corners) → Turned t → areaOf t ≤ 2147483648 → (p q r : ℕ) → p ≤ 65535 → q ≤ 65535 → r ≤ 65535 → (g : Slopes) (add lo hi y a d n : ℕ)
     → (g .long ≡ false → (2 * areaOf t ≤ 65536) × (carriedOne ≤ g .f * (2 * areaOf t)) × (g .f * (2 * areaOf t) ≤ carriedOne + 2 * areaOf t) × (Paces t (g .f) p q r add))
     → (g .long ≡ true → Drifts t p q r add)

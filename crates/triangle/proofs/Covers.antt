@@ -30,6 +30,7 @@ keep-in e true h = go (ltb (e .minus) (e .plus)) refl
         let same : e .minus ≡ e .plus = omega (arith, ltb-false (e .minus) (e .plus) q) in
         rw (eq-eqb (e .minus) (e .plus) same)
 
+-- and where the edge leaves a pixel inside, plus exceeds minus by what it must
 pub in-keep : (e : Edge) (own : Bool) → inside e own ≡ true → e .minus + short own ≤ e .plus
 unfolding inside
 in-keep e own h = go (ltb (e .minus) (e .plus)) own refl h
@@ -42,6 +43,7 @@ in-keep e own h = go (ltb (e .minus) (e .plus)) own refl h
 
 -- ---- a covered pixel
 
+-- all three edges keep a covered pixel
 pub keeps-of : (t : Corners) (x y : ℕ) → covers t x y ≡ true → (Keeps (t .a) (t .b) x y) × (Keeps (t .b) (t .c) x y) × (Keeps (t .c) (t .a) x y)
 unfolding covers
 keeps-of t x y h =
@@ -52,6 +54,7 @@ keeps-of t x y h =
       record { so = in-keep (edgeAt (t .c) (t .a) x y) _ (k .1) },
     )
 
+-- a pixel that all three edges keep is covered
 pub covered-of : (t : Corners) (x y : ℕ) → Keeps (t .a) (t .b) x y → Keeps (t .b) (t .c) x y → Keeps (t .c) (t .a) x y → covers t x y ≡ true
 unfolding covers
 covered-of t x y p q r =
@@ -67,6 +70,7 @@ pub record Within (e : Edges) : Type 0 where
   pub bc : e .bc .minus ≤ e .bc .plus
   pub ca : e .ca .minus ≤ e .ca .plus
 
+-- at a covered pixel the expression of no edge is negative
 pub covered-within : (t : Corners) (x y : ℕ) → covers t x y ≡ true → Within (edgesAt t x y)
 covered-within t x y h =
     let k = keeps-of t x y h in
@@ -76,6 +80,7 @@ module _ (t : Corners) (k : Turned t) (x y : ℕ) (h : covers t x y ≡ true) wh
   w : Within (edgesAt t x y)
   w = covered-within t x y h
 
+  -- a covered pixel has all that its numbers lean on, where the doubled area is at most 12,884,508,675
   pub covered-ready : areaOf t ≤ 12884508675 → Ready t (areaOf t) (edgesAt t x y)
   covered-ready fits =
       record {
@@ -92,6 +97,7 @@ module _ (t : Corners) (k : Turned t) (x y : ℕ) (h : covers t x y ≡ true) wh
   pub covered-upward : (min (t .a .y) (min (t .c .y) (t .b .y)) ≤ y) × (y ≤ max (t .a .y) (max (t .c .y) (t .b .y)))
   covered-upward = upward (t .a .x) (t .a .y) (t .b .x) (t .b .y) (t .c .x) (t .c .y) x y (k .turns) (w .ab) (w .bc) (w .ca)
 
+  -- and its column lies between the least and the greatest of the corners
   pub covered-across : (min (t .a .x) (min (t .b .x) (t .c .x)) ≤ x) × (x ≤ max (t .a .x) (max (t .b .x) (t .c .x)))
   covered-across = across (t .a .x) (t .a .y) (t .b .x) (t .b .y) (t .c .x) (t .c .y) x y (k .turns) (w .ab) (w .bc) (w .ca)
 

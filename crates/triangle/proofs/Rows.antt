@@ -25,6 +25,7 @@ use Rattle.triangle.specs.Loops.{edgesAt, Turned, Spanned, InRows, Runs,
 use Rattle.triangle.proofs.Covers.{covered-upward}
 
 module _ (pen : Pen) (rows : ℕ) (constant : Bool) (t : Corners) (y : ℕ) where
+  -- of a covered pixel itself is offered, or nothing where the window, the memory or the pattern keeps it out
   pub offers-covered : (x : ℕ) → covers t x y ≡ true → pixelOffers pen rows constant t x y ≡ keep pen rows (pixelAt constant t x y)
   unfolding pixelOffers
   offers-covered x h = rw h
@@ -39,9 +40,11 @@ module _ (pen : Pen) (rows : ℕ) (constant : Bool) (t : Corners) (y : ℕ) wher
       go true false p q = keep-out pen rows (pixelAt constant t x y) q
       go true true p q = absurd (h p q)
 
+  -- a row offers nothing where none of its pixels is both covered and in the window
   pub row-none : ((x : ℕ) → covers t x y ≡ true → inWindow pen x y ≡ true → ⊥) → rowOffers pen rows constant t y ≡ []
   row-none h = spans-none _ (pen .frame .line) (λ x a. offers-none x (h x))
 
+  -- of a pixel there is at most one offer
   pub offers-length : (x : ℕ) → length (pixelOffers pen rows constant t x y) ≤ 1
   unfolding pixelOffers
   offers-length x = go (covers t x y)
@@ -50,10 +53,12 @@ module _ (pen : Pen) (rows : ℕ) (constant : Bool) (t : Corners) (y : ℕ) wher
       go true = keep-length pen rows (pixelAt constant t x y)
       go false = omega arith
 
+  -- a row has at most as many offers as the memory has columns
   pub row-length : length (rowOffers pen rows constant t y) ≤ pen .frame .line
   row-length = omega (arith, spans-length (λ x. pixelOffers pen rows constant t x y) 1 (pen .frame .line) offers-length)
 
   module _ (s : Span) (k : Spanned pen t y s) where
+    -- a column of the memory outside the row's span offers nothing
     pub row-quiet : (x : ℕ) → x < pen .frame .line → (s .lo ≤ x → x < s .hi → ⊥) → pixelOffers pen rows constant t x y ≡ []
     row-quiet x l h =
         offers-none x
@@ -62,6 +67,7 @@ module _ (pen : Pen) (rows : ℕ) (constant : Bool) (t : Corners) (y : ℕ) wher
         let r = k .rest x l (w .0) (w .1) p in
         h (r .0) (r .1))
 
+    -- a row whose span is empty leaves the picture as it was
     pub row-empty : s .hi ≤ s .lo → (p : Picture) → p ≡ drawn pen (rowOffers pen rows constant t y) p
     row-empty h p = rw (spans-none _ (pen .frame .line) (λ x a. row-quiet x a (λ u v. omega arith))) (sym (drawn-nil pen p))
 
@@ -90,6 +96,7 @@ pub flat-told : (v j : ℕ) → v ≤ 65535 → carriedTo (record { first = v * 
 unfolding carriedTo
 flat-told v j h = rw (mul-zero j) (omega arith)
 
+-- a number that is carried along a row tells, j pixels on, the Gouraud number of that pixel
 pub carried-told : (t : Corners) (p q r lo hi y k g j : ℕ) → Runs t p q r lo hi y k g → lo + j < hi → carriedTo (record { first = k; add = g }) j ≡ shade t p q r (lo + j) y
 unfolding carriedTo
 carried-told t p q r lo hi y k g j h l = h .tells j l
@@ -116,12 +123,15 @@ module _ (pen : Pen) (rows : ℕ) (constant : Bool) (t : Corners) (k : Turned t)
   abbrev bottom : ℕ
   bottom = min (startOf (pen .bottom) (t .a .y) (t .c .y) (t .b .y)) top
 
+  -- a row below the corners' lowest, or below the window, offers nothing
   pub row-below : (y : ℕ) → y < bottom → rowOffers pen rows constant t y ≡ []
   row-below y h = row-none pen rows constant t y (λ x p q. before-start y _ _ _ h (window-of pen x y q .2) (covered-upward t k x y p .0))
 
+  -- a row of the memory above the corners' highest, or above the window, offers nothing
   pub row-above : (y : ℕ) → top ≤ y → y < rows → rowOffers pen rows constant t y ≡ []
   row-above y h l = row-none pen rows constant t y (λ x p q. past-end y _ _ _ h l (window-of pen x y q .3) (covered-upward t k x y p .1))
 
+  -- the rows between these are rows of the window
   pub row-within : (y : ℕ) → bottom ≤ y → y < top → InRows pen y
   row-within y h l = record { above = from-start y _ _ _ h l; below = to-end y _ _ _ l }
 
@@ -133,6 +143,7 @@ pub number-told : (t : Corners) (p q r x y d n : ℕ) (e : Edges) → d ≡ area
 unfolding shade
 number-told t p q r x y d n e hd he h = h ∙ rw (hd, he)
 
+-- what a covered pixel with its two Gouraud numbers makes of a picture is what the offers of that pixel make of it
 pub pixel-drawn : (pen : Pen) (rows : ℕ) (t : Corners) (x y i z : ℕ) (p q : Picture) → covers t x y ≡ true
     → i ≡ shade t (t .a .i) (t .b .i) (t .c .i) x y → z ≡ shade t (t .a .z) (t .b .z) (t .c .z) x y
     → q ≡ drawn pen (keep pen rows (offer Gouraud x y i z)) p → q ≡ drawn pen (pixelOffers pen rows false t x y) p

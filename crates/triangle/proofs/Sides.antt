@@ -124,6 +124,7 @@ module _ (a b : Vertex) (y : ℕ) (s : Side) (k : Stands a b y s) where
         outer = λ x u v g. (max-le (s₀ .lo) r x u (f x (omega arith) .1 g), v);
       }
 
+  -- the bound of a side that does not fall cuts a span from the right
   pub cut-right : (s₀ : Span) (r : ℕ) → s .left ≡ false → s₀ .hi ≤ 65536 → Bounds a b y r → Cuts a b y s₀ (record { lo = s₀ .lo; hi = min (s₀ .hi) r })
   cut-right s₀ r e wide n =
       let f = n .rises (ltb-false (b .y) (a .y) (sym (k .left) ∙ e)) in

@@ -40,6 +40,7 @@ next p u v a e = ap (λ (k : ℕ). p * k) e ∙ mul-add p u a
 pub reach-fits : (x u : ℕ) → x ≤ 131071 → u ≤ 137438953472 → x * u ≤ 18014261070528512
 reach-fits x u hx hu = mul-le-mul {n₁ = x} {m₁ = u} {n₂ = 131071} {m₂ = 137438953472} hx hu
 
+-- of coordinates and corner numbers of 16 bits, both `ahead` and `behind` are at most 12,884,508,675
 pub change-fits : (u v w p q r : ℕ) → u ≤ 65535 → v ≤ 65535 → w ≤ 65535 → p ≤ 65535 → q ≤ 65535 → r ≤ 65535
     → (ahead u v w p q r ≤ 12884508675) × (behind u v w p q r ≤ 12884508675)
 change-fits u v w p q r hu hv hw hp hq hr = (
@@ -134,6 +135,7 @@ told-mod n m a g c u v f b w d em en ea eg eb hn hw =
 
 -- a slant times a coordinate
 module _ (u v w p q r s : ℕ) (k : Slants u v w p q r s) where
+  -- x times a slant is x times `middle` and what x steps add to 2 N
   pub slant-times : (x : ℕ) → x * s + 2 * (x * behind u v w p q r) ≡ x * middle + 2 * (x * ahead u v w p q r)
   slant-times x =
       omega (
@@ -147,9 +149,11 @@ module _ (u v w p q r s : ℕ) (k : Slants u v w p q r s) where
 
   -- the other way round
   module _ (n : ℕ) (e : n + s ≡ 2 * middle) where
+    -- the number as far on the other side of `middle` is what a step back adds to 2 N
     pub turned-so : n + 2 * ahead u v w p q r ≡ middle + 2 * behind u v w p q r
     turned-so = omega (arith, k .so)
 
+    -- and x times that number is x times `middle` and what x steps back add to 2 N
     pub turned-times : (x : ℕ) → x * n + 2 * (x * ahead u v w p q r) ≡ x * middle + 2 * (x * behind u v w p q r)
     turned-times x =
         omega (

@@ -22,9 +22,11 @@ use Rattle.triangle.proofs.Plane.{turn-plus, turn-minus}
 -- ---- the sense, by the computed expression
 
 module _ (a b c : Vertex) (e : Edge) (at : e ≡ edgeAt a b (c .x) (c .y)) where
+  -- corners whose expression is positive turn anticlockwise as they are named
   pub left-turned : e .minus < e .plus → Turned (cornersOf a b c c)
   left-turned h = record { turns = rw at at h }
 
+  -- the amount of the expression is the doubled area of the corners as they are named
   pub left-area : e .plus - e .minus ≡ areaOf (cornersOf a b c c)
   left-area = ap amount at
 
@@ -33,6 +35,7 @@ module _ (a b c : Vertex) (e : Edge) (at : e ≡ edgeAt a b (c .x) (c .y)) where
   right-turned h =
       record { turns = rw (turn-plus (a .x) (a .y) (b .x) (b .y) (c .x) (c .y), turn-minus (a .x) (a .y) (b .x) (b .y) (c .x) (c .y)) (rw at at h) }
 
+  -- what minus exceeds plus by is the doubled area of the corners in the other order
   pub right-area : e .minus - e .plus ≡ areaOf (cornersOf a c b c)
   right-area =
       ap (λ (f : Edge). f .minus - f .plus) at
@@ -53,6 +56,7 @@ module _ (a b c : Vertex) (e : Edge) (at : e ≡ edgeAt a b (c .x) (c .y)) (d : 
       let g : d ≡ e .minus - e .plus = omega (arith, far, h) in
       rw is (right-turned a b c e at h, g ∙ right-area a b c e at)
 
+  -- the corners named by the expression's sign turn anticlockwise, and d is their doubled area
   pub named-turned : {t : Corners} → t ≡ cond (ltb (e .minus) (e .plus)) (cornersOf a b c c) (cornersOf a c b c) → (Turned t) × (d ≡ areaOf t)
   named-turned {t} is = named-by t (ltb (e .minus) (e .plus)) refl is
 
@@ -99,6 +103,7 @@ module _ (pen : Pen) (rows : ℕ) (constant : Bool) (a b c : Vertex) where
         → q ≡ drawn pen (triangleOffers pen rows constant a b c) p
     right-drawn p q h k = rw (triangle-right (rw at at h)) k
 
+    -- three vertices whose expression is zero leave the picture as it was
     pub flat-drawn : (p : Picture) → e .minus ≡ e .plus → p ≡ drawn pen (triangleOffers pen rows constant a b c) p
     flat-drawn p h = rw (triangle-flat (rw at at h)) (sym (drawn-nil pen p))
 
@@ -109,6 +114,7 @@ module _ (pen : Pen) (rows : ℕ) (constant : Bool) (a b c : Vertex) where
       drawn-by t true f is k = left-drawn p q (ltb-true (e .minus) (e .plus) f) (rw is at k)
       drawn-by t false f is k = right-drawn p q (right-of a b c e at d far some false f refl) (rw is at k)
 
+      -- a picture that the corners named by the expression's sign make is the one that the triangle of the vertices makes
       pub named-drawn : {t : Corners} → t ≡ cond (ltb (e .minus) (e .plus)) (cornersOf a b c c) (cornersOf a c b c)
           → q ≡ drawn pen (turnedOffers pen rows constant t) p → q ≡ drawn pen (triangleOffers pen rows constant a b c) p
       named-drawn {t} is k = drawn-by t (ltb (e .minus) (e .plus)) refl is k

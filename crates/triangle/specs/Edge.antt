@@ -10,6 +10,7 @@ use Rattle.triangle.specs.declared.Edge.{Edge}
 unfoldable pub plusOf : ℕ → ℕ → ℕ → ℕ → ℕ → ℕ → ℕ
 plusOf ax ay bx by x y = bx * y + ax * by + ay * x
 
+-- the terms of it that are taken away
 unfoldable pub minusOf : ℕ → ℕ → ℕ → ℕ → ℕ → ℕ → ℕ
 minusOf ax ay bx by x y = bx * ay + ax * y + by * x
 

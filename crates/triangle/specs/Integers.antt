@@ -17,6 +17,7 @@ isPositive (pos zero) = false
 isPositive (pos (suc k)) = true
 isPositive (negsuc k) = false
 
+-- whether an integer is zero
 abbrev pub isZero : ℤ → Bool
 isZero (pos zero) = true
 isZero (pos (suc k)) = false

@@ -103,11 +103,13 @@ pub record Spanned (pen : Pen) (t : Corners) (y : ℕ) (s : Span) : Type 0 where
 abbrev pub endOf : ℕ → ℕ → ℕ → ℕ → ℕ → ℕ
 endOf size limit a b c = min size (min limit (max a (max b c)) + 1)
 
+-- the first row: the lowest of the corners, or the window's lowest where that is higher
 abbrev pub startOf : ℕ → ℕ → ℕ → ℕ → ℕ
 startOf limit a b c = max limit (min a (min b c))
 
 -- ---- numbers carried along a row
 
+-- 2 N + D at pixel (x, y), from the corner numbers p, q, r
 abbrev pub massBy : Corners → ℕ → ℕ → ℕ → ℕ → ℕ → ℕ
 massBy t p q r x y = massOf (amount (edgeAt (t .b) (t .c) x y)) (amount (edgeAt (t .c) (t .a) x y)) (amount (edgeAt (t .a) (t .b) x y)) (areaOf t) p q r
 
@@ -115,6 +117,7 @@ massBy t p q r x y = massOf (amount (edgeAt (t .b) (t .c) x y)) (amount (edgeAt 
 abbrev pub ahead : ℕ → ℕ → ℕ → ℕ → ℕ → ℕ → ℕ
 ahead u v w p q r = p * v + q * w + r * u
 
+-- the corner numbers p, q, r, each times the coordinate of the corner before, added up
 abbrev pub behind : ℕ → ℕ → ℕ → ℕ → ℕ → ℕ → ℕ
 behind u v w p q r = p * w + q * u + r * v
 
@@ -136,6 +139,7 @@ pub record LeansBoth (t : Corners) (i z : ℕ) : Type 0 where
 abbrev pub plusAt : Corners → ℕ → ℕ → ℕ → ℕ → ℕ
 plusAt t p q r y = p * edgeAt (t .b) (t .c) 0 y .plus + q * edgeAt (t .c) (t .a) 0 y .plus + r * edgeAt (t .a) (t .b) 0 y .plus
 
+-- the part of N at column 0 of row y that is taken away
 abbrev pub minusAt : Corners → ℕ → ℕ → ℕ → ℕ → ℕ
 minusAt t p q r y = p * edgeAt (t .b) (t .c) 0 y .minus + q * edgeAt (t .c) (t .a) 0 y .minus + r * edgeAt (t .a) (t .b) 0 y .minus
 

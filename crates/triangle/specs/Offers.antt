@@ -13,6 +13,7 @@ use Rattle.triangle.specs.declared.Corners.{Corners}
 use Rattle.triangle.specs.Edge.{edgeAt, covers}
 use Rattle.triangle.specs.Number.{shade}
 
+-- what kind a triangle's pixels are offered as: constant or Gouraud
 abbrev pub kindOf : Bool → Kind
 kindOf constant = cond constant Constant Gouraud
 
@@ -31,9 +32,11 @@ pixelOffers pen rows constant t x y = cond (covers t x y) (keep pen rows (pixelA
 abbrev pub rowOffers : Pen → ℕ → Bool → Corners → ℕ → List Offer
 rowOffers pen rows constant t y = spans (λ x. pixelOffers pen rows constant t x y) (pen .frame .line)
 
+-- what corners that turn anticlockwise offer: the offers of all rows of the memory
 abbrev pub turnedOffers : Pen → ℕ → Bool → Corners → List Offer
 turnedOffers pen rows constant t = spans (rowOffers pen rows constant t) rows
 
+-- the corners a, b and c in this order, with the vertex that completes the triangle
 abbrev pub cornersOf : Vertex → Vertex → Vertex → Vertex → Corners
 cornersOf a b c last = record { a = a; b = b; c = c; last = last }
 

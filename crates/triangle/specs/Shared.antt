@@ -9,6 +9,7 @@ use Rattle.triangle.specs.Edge.{edgeAt}
 abbrev pub SamePoint : Vertex → Vertex → Type 0
 SamePoint a b = (a .x ≡ b .x) × (a .y ≡ b .y)
 
+-- two vertices are not at the same point
 pub record Apart (a b : Vertex) : Type 0 where
   pub so : SamePoint a b → ⊥
 
