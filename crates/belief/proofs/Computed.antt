@@ -35,6 +35,7 @@ Meets numbers n = supposed resetOf n n (map wordOf numbers) ≡ true
 abbrev pub Offers : List ℕ → ℕ → ℕ → List Offer → Type 0
 Offers numbers n at os = offersOf resetOf n n (map wordOf numbers) at ≡ os
 
+-- the worked runs are such as demand 3 supposes, and this is what each offers at some places
 pub record Computed : Type 0 where
   pub scene-meets : Meets scene 512
   pub scene-0 : Offers scene 512 0 (offer Gouraud 0 0 100 20 ∷ [])
@@ -61,6 +62,7 @@ pub record Computed : Type 0 where
   pub farthest-edge-meets : Meets farthestEdge 512
   pub farthest-edge-6 : Offers farthestEdge 512 6 (offer Line2 6 0 500 65535 ∷ [])
 
+-- so it is, as computing each of them shows
 pub computed : Computed
 unfolding
     scene outline farFirst wideFaces tiedLast tiedFirst farthestFace farthestEdge isAllOn isSupposed eachIn nextIn refusalOf inBounds

@@ -100,6 +100,7 @@ three-apart a b c h k = apart-cons a _ h (apart-cons b _ k (apart-cons c [] refl
 four-apart : (a b c d : Cell) → lacks (a .z) (b ∷ c ∷ d ∷ []) ≡ true → lacks (b .z) (c ∷ d ∷ []) ≡ true → lacks (c .z) (d ∷ []) ≡ true → Apart (a ∷ b ∷ c ∷ d ∷ [])
 four-apart a b c d h k l = apart-cons a _ h (three-apart b c d k l)
 
+-- the scene in another order, and the runs that share a depth, end as `WorkedOrder` says
 pub worked-order : WorkedOrder
 unfolding blank elsewhere lacks
 worked-order =

@@ -49,6 +49,7 @@ pub record Drawn : Type 0 where
   pub line : Bool
   pub numbers : Cell
 
+-- an offer's two numbers, and whether a line of mode 2 brings them
 abbrev pub drawnOf : Offer → Drawn
 drawnOf o = record { line = isEdge (o .kind); numbers = numbersOf o }
 

@@ -22,10 +22,11 @@ use Rattle.belief.specs.Belief.{offersOf, supposed}
 abbrev pub allOn : List ℕ
 allOn = 0xE0004 ∷ 0xD0006 ∷ 0xE0003 ∷ 0xD0040 ∷ 0xE0001 ∷ 0xD0002 ∷ []
 
--- INIT to a line length of 256, and to one of 320
+-- INIT to a line length of 256, and then all that on
 abbrev pub init : List ℕ
 init = (0xF0000 ∷ []) ++ allOn
 
+-- INIT to a line length of 320, and then all that on
 abbrev pub initWide : List ℕ
 initWide = (0xF0100 ∷ []) ++ allOn
 
@@ -49,6 +50,7 @@ point = 0x10190 ∷ 0x2000F ∷ 0x80100 ∷ 0x40100 ∷ []
 abbrev pub reserved : List ℕ
 reserved = 0x70000 ∷ []
 
+-- the scene: the near face, the refused word, the far face and the line before both; then lines of 320, and the line of one pixel
 unfoldable pub scene : List ℕ
 scene = init ++ nearFace ++ reserved ++ farFace ++ nearLine ++ initWide ++ point
 
@@ -64,6 +66,7 @@ tiedFace = 0x100C8 ∷ 0x20014 ∷ 0x30000 ∷ 0x50001 ∷ 0x40005 ∷ 0x30002 �
 abbrev pub farthestLine : List ℕ
 farthestLine = 0x101F4 ∷ 0x2FFFF ∷ 0x30000 ∷ 0x80006 ∷ 0xE000C ∷ 0xD0000 ∷ 0x40006 ∷ []
 
+-- the outline: the far face, the lines on it, the near face at its depth, and the line of one pixel as far as can be
 unfoldable pub outline : List ℕ
 outline = init ++ farFace ++ edgeLines ++ tiedFace ++ farthestLine
 
@@ -78,6 +81,7 @@ pub record Owned (numbers : List ℕ) (at : ℕ) (os : List Offer) (i z : ℕ) :
   pub offers : offersOf resetOf 512 512 (map wordOf numbers) at ≡ os
   pub ends : cellIn (allOf (stepOf chip) resetOf (map wordOf numbers) blank .memories) at ≡ cell i z
 
+-- both runs are such as demand 3 supposes, and at some places they offer so much and end so
 pub record Worked : Type 0 where
   pub meets : supposed resetOf 512 512 (map wordOf scene) ≡ true
   -- each of the three owns a place

@@ -26,17 +26,19 @@ wideFaces = initWide ++ farFace ++ nearFace
 unfoldable pub elsewhere : Memories
 elsewhere = memories (0 ∷ 0 ∷ 0 ∷ replicate 637 7) (65535 ∷ 65535 ∷ 65535 ∷ replicate 637 3)
 
--- two faces of one depth, in both orders
+-- two faces of one depth, the far one first
 unfoldable pub tiedLast : List ℕ
 tiedLast = init ++ farFace ++ tiedFace
 
+-- the same two faces in the other order
 unfoldable pub tiedFirst : List ℕ
 tiedFirst = init ++ tiedFace ++ farFace
 
--- a face and a line of the same numbers at the starting depth, I 500 and Z 65535: (6, 0) (8, 0) (6, 2), and the pixel (6, 0)
+-- a face at the starting depth, I 500 and Z 65535: (6, 0) (8, 0) (6, 2)
 unfoldable pub farthestFace : List ℕ
 farthestFace = init ++ (0x101F4 ∷ 0x2FFFF ∷ 0x30000 ∷ 0x50006 ∷ 0x40008 ∷ 0x30002 ∷ 0x40006 ∷ [])
 
+-- a line of the same numbers at the starting depth, of the one pixel (6, 0)
 unfoldable pub farthestEdge : List ℕ
 farthestEdge = init ++ farthestLine
 
@@ -54,6 +56,8 @@ pub record Matched (others : List ℕ) (n : Memories) (at : ℕ) (os us : List C
   pub one : Left scene blank at os i z
   pub other : Left others n at us i z
 
+-- the scene and runs of its faces in another order end alike at some places; where two offers share a depth, or one has the starting depth,
+-- two runs need not
 pub record WorkedOrder : Type 0 where
   pub face : Matched farFirst blank 1 (cell 200 10 ∷ cell 100 20 ∷ []) (cell 100 20 ∷ cell 200 10 ∷ []) 200 10
   pub line : Matched farFirst blank 2 (cell 200 10 ∷ cell 100 20 ∷ cell 300 5 ∷ []) (cell 100 20 ∷ cell 200 10 ∷ cell 300 5 ∷ []) 300 5

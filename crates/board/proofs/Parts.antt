@@ -44,6 +44,7 @@ module _ (units : ℕ) (r : Registers) (w : Word) (u : ℕ) (m : Memories) where
   pub part-absent : units ≤ u → Part (outcome 0 0 r m) (partOf units r w u m)
   part-absent h = record { is = sym (part-none h); low = omega arith }
 
+  -- one that the board has, as the code makes it: the step of a chip in the unit's layout is its part, and its count is below 2 ^ 32
   pub part-present : u < units → {layout : ℕ} {mine : Registers} {o : Outcome Registers Memories} → layout ≡ unitLayout units u → mine ≡ laid layout r
       → o ≡ stepOf chip mine w m → Part o (partOf units r w u m)
   part-present h {layout} {mine} {o} lies is told =

@@ -185,6 +185,7 @@ step-leaves b w m some = go (isWhole b m) some
     go true e = units-leave b (unitWord (b .units) w) m e
     go false e = refl
 
+-- a board refuses what `BoardRefusals` says, with those numbers, and a refused word leaves all as it was
 pub board-refusals : BoardRefusals
 board-refusals =
     record {

@@ -79,6 +79,7 @@ board-ways units e = one (eqb units 1) (eqb units 2) (eqb units 4) refl refl ref
     one false false true p q s h = inr (inr (eqb-true units 4 s))
     one false false false p q s h = absurd (true≢false (sym h))
 
+-- one, two or four units make a board
 pub ways-board : (units : ℕ) → Ways units → isBoard units ≡ true
 unfolding isBoard
 ways-board units (inl e) = rw e
@@ -91,6 +92,7 @@ ways-low units (inl e) = omega arith
 ways-low units (inr (inl e)) = omega arith
 ways-low units (inr (inr e)) = omega arith
 
+-- a board of one, two or four units has at least one
 pub ways-some : (units : ℕ) → Ways units → 0 < units
 ways-some units (inl e) = omega arith
 ways-some units (inr (inl e)) = omega arith

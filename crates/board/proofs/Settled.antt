@@ -31,9 +31,10 @@ run-settled p q =
       ap (λ (a : Ran Board Bank). a .memories) same,
     )
 
--- of reset, and of a read: the answer
+-- of reset: two answers that its promise allows are the same
 pub reset-settled : {value a a′ : Started} → a ≡ value → a′ ≡ value → a ≡ a′
 reset-settled p q = p ∙ sym q
 
+-- of a read: two answers that its promise allows are the same
 pub read-settled : {value a a′ : Seen} → a ≡ value → a′ ≡ value → a ≡ a′
 read-settled p q = p ∙ sym q

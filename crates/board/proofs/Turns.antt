@@ -31,6 +31,7 @@ module _ (start : Board) (bytes : List ℕ) (m₀ : Bank) where
   pub record Reached (m : Bank) (b : Board) (sum k : ℕ) : Type 0 where
     pub same : wordsFrom start bytes m₀ ≡ runFrom boardStep (ran 0 k sum b m) (drop k (wordsOf bytes))
 
+  -- before the first word the whole run is left, from the start, with sum 0 and the memories as they were found
   pub reached-start : {b : Board} → b ≡ start → Reached m₀ b 0 0
   reached-start e = record { same = ap (λ (q : Board). runFrom boardStep (ran 0 0 0 q m₀) (wordsOf bytes)) (sym e) }
 

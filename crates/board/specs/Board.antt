@@ -17,6 +17,7 @@ use Rattle.board.specs.declared.step.Reply.{Reply}
 use Rattle.board.specs.Bank.{Bank, bank, memoriesOf, isEven}
 use Rattle.board.specs.Door.{isBoard, unitWord}
 
+-- a board of so many units that has these registers
 abbrev pub board : ℕ → Registers → Board
 board units r = record { units = units; registers = r }
 

@@ -56,8 +56,10 @@ unitWord units w = cond (isSeveral units && isTransfer w) Unmodelled (soloWord u
 
 -- ---- by command and data
 
+-- the command that is sent on to each unit: on several units A hex for 0 and 9, any other as it comes
 unfoldable pub commandOf : ℕ → ℕ → ℕ
 commandOf units command = cond (isSeveral units && (eqb command 0 || eqb command 9)) 10 command
 
+-- the data that is sent on to each unit: INIT's with the chips code that a single chip is given, any other as it comes
 unfoldable pub dataOf : ℕ → ℕ → ℕ → ℕ
 dataOf units command d = cond (eqb command 15) (soloData units d) d

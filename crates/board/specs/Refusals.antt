@@ -19,6 +19,7 @@ pub record Fit (b : Board) (m : Bank) : Type 0 where
   pub whole : isWhole b m ≡ true
   pub sound : inBounds (b .registers) ≡ true
 
+-- what a board refuses, with which number, beside what one chip refuses; and that a refused word leaves all as it was
 pub record BoardRefusals : Type 0 where
   -- at reset, another number of units is 9
   pub another : (units : ℕ) → isBoard units ≡ false → resetting units .refusal ≡ 9

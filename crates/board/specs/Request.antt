@@ -76,6 +76,7 @@ pub record Told : Type 0 where
   pub number : ℕ
   pub passed : ℕ
 
+-- what one word is told by a step, from where registers and memories stand
 abbrev pub toldBy : {W R M : Type 0} → Step W R M → State R M → W → Told
 toldBy step a w = record { number = step (a .registers) w (a .memories) .refusal; passed = step (a .registers) w (a .memories) .passed }
 
@@ -111,6 +112,8 @@ pub record SoloStream (units : ℕ) (bytes bytes′ : List ℕ) : Type 0 where
   pub checks : checked bytes′ 0 ≡ checked bytes 0
   pub words : wordsOf bytes′ ≡ soloWords units (wordsOf bytes)
 
+-- a board and one chip that belong together do alike with a word, with words one after the other and with packed streams, and still belong
+-- together, where the rows in use agree and neither PTRN nor IMG comes to several units
 pub record Request8 : Type 0 where
   -- a word: the number is the one chip's, the counts sum to its count, and what is left belongs together
   pub word : (units n n′ : ℕ) → Ways units → (b : Board) (m : Bank) (r : Registers) (m′ : Memories) → Beside units n n′ b m r m′

@@ -35,6 +35,7 @@ ended bytes i z =
     let a = running resetOf bytes (memories i z) in
     record { refusal = a .refusal; index = a .index; sum = a .sum; registers = a .registers; i-left = a .memories .i; z-left = a .memories .z; promise = refl }
 
+-- what `BoardDemand3` says of a board is so, by demand 3 of one chip and by request 8
 pub board-demand-3 : BoardDemand3
 board-demand-3 =
     record {

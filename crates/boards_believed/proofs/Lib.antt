@@ -1,1 +1,2 @@
+-- what is believed of a board's picture is so
 pub mod Believed

@@ -28,6 +28,7 @@ BoardBelievable units n n′ ws m m′ left =
     supposed resetOf (length (m′ .i)) (length (m′ .z)) ws ≡ true → (p : ℕ) → p / units < n → p < n′
     → Believed (cellIn (memoriesOf m (p % units)) (p / units)) (offersOf resetOf (length (m′ .i)) (length (m′ .z)) ws p) (cellIn (memoriesOf left (p % units)) (p / units))
 
+-- each place of a board ends as the place of one chip that it stands for is believed to, under the premises of request 8 and of demand 3
 pub record BoardDemand3 : Type 0 where
   -- of any words from reset, a refused one among them changing nothing
   pub words : (units n n′ : ℕ) → Ways units → (m : Bank) (m′ : Memories) → Agree units n n′ m m′

@@ -1,1 +1,2 @@
+-- what an operator believes of a board's picture
 pub mod Believed

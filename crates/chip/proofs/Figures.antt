@@ -27,10 +27,11 @@ offers-held rows r f o =
     either (λ (os : List Offer). List·Memᴰ o os → List·Memᴰ o (wholeOffers rows r f)) (isCut r f) {x = []} {y = wholeOffers rows r f} (λ t u. absurd (List·Memᴰ·not-nil u)) (λ t u. u)
 
 module _ (r : Registers) (i z : List ℕ) where
-  -- the picture after a figure, and after a figure that nothing cuts
+  -- the picture after what a figure offers, which is nothing if it is cut
   abbrev pub figured : Completed → Picture
   figured f = drawn (penOf r) (figureOffers (rowsOf (r .frame) (length i) (length z)) r f) (picture i z 0)
 
+  -- the picture after all that a figure holds to be offered, as if nothing cut it
   abbrev pub whole : Completed → Picture
   whole f = drawn (penOf r) (wholeOffers (rowsOf (r .frame) (length i) (length z)) r f) (picture i z 0)
 

@@ -90,6 +90,7 @@ whole-offered rows r Nothing o u = absurd (List·Memᴰ·not-nil u)
 whole-offered rows r (Triangle a b c) o u = triangle-offer rows r a b c o u .is-offered
 whole-offered rows r (Segment a b) o u = segment-offer rows r a b o u .is-offered
 
+-- each offer of a completed figure, of which a cut one makes none, is offered in document 01's sense
 pub figure-offered : (rows : ℕ) (r : Registers) (f : Completed) (o : Offer) → List·Memᴰ o (figureOffers rows r f) → offered (penOf r) rows o ≡ true
 figure-offered rows r f o u = whole-offered rows r f o (offers-held rows r f o u)
 
@@ -234,9 +235,11 @@ module _ (r : Registers) (h : inBounds r ≡ true) where
       both (leb shortestLine (r .frame .line) && leb (r .frame .line) longestLine) (eqb (r .frame .line % lineUnit) 0)
       (both (leb shortestLine (r .frame .line) && leb (r .frame .line) longestLine && eqb (r .frame .line % lineUnit) 0) (leb (r .frame .layout) largestLayout) (parts r h .frame) .0)
 
+  -- a record within its bounds has a line length of at most the longest that is listed
   pub line-low : r .frame .line ≤ longestLine
   line-low = leb-true _ _ (both (leb shortestLine (r .frame .line)) (leb (r .frame .line) longestLine) (line-parts .0) .1)
 
+  -- a record within its bounds has a line length that is a multiple of `lineUnit`
   pub line-whole : r .frame .line % lineUnit ≡ 0
   line-whole = eqb-true _ _ (line-parts .1)
 
@@ -249,6 +252,7 @@ whole-counts rows r (Triangle a b c) p near h k =
     omega (arith, triangle-counts (penOf r) rows (isConstant r) a b c p, mul-le-mul {n₁ = rows} {m₁ = r .frame .line} {n₂ = mostRows} {m₂ = longestLine} h k)
 whole-counts rows r (Segment a b) p near h k = omega (arith, segment-counts (penOf r) rows (styleOf r) a b p, larger-low a b (near .0) (near .1))
 
+-- within the limits of coordinates, rows and line length a completed figure adds at most `mostRows` times `longestLine` to the count
 pub figure-counts : (rows : ℕ) (r : Registers) (f : Completed) (p : Picture) → AllVertices Near f → rows ≤ mostRows → r .frame .line ≤ longestLine
     → drawn (penOf r) (figureOffers rows r f) p .passed ≤ p .passed + mostRows * longestLine
 unfolding figureOffers

@@ -106,6 +106,7 @@ module _ (r : Registers) (w : Word) (m : Memories) where
       step-either chip r w m (λ o. (o .refusal ≡ stepOf uncut r w m .refusal) × (o .registers ≡ stepOf uncut r w m .registers))
       (λ k. rw (step-accepted uncut r w m k) (refl, refl)) (λ k. rw (step-refused uncut r w m k) (refl, refl))
 
+  -- all that `Sectioned` says holds of every word, from any registers and over any memories
   pub sectioned : Sectioned r w m
   sectioned =
       record {

@@ -32,10 +32,12 @@ getD-map f (x ∷ l) zero d = refl
 getD-map f (x ∷ l) (suc k) d = getD-map f l k d
 
 module _ (bytes : List ℕ) where
+  -- word k of a stream is what the 20 bits at place k of its unpacked numbers mean
   pub word-at : (k : ℕ) → getD (wordsOf bytes) k (wordOf 0) ≡ wordOf (wordAt bytes k)
   unfolding wordAt
   word-at k = getD-map wordOf (unpackOf bytes) k 0
 
+  -- a stream has as many words as numbers are unpacked from it
   pub words-length : length (wordsOf bytes) ≡ length (unpackOf bytes)
   words-length = length-map (unpackOf bytes) wordOf
 
@@ -47,6 +49,7 @@ module _ (start : Registers) (bytes : List ℕ) where
     pub record Reached (m : Memories) (r : Registers) (sum k : ℕ) : Type 0 where
       pub same : wordsFrom start bytes m₀ ≡ runFrom (stepOf chip) (ran 0 k sum r m) (drop k (wordsOf bytes))
 
+    -- before the first word the whole run is left, from the start, with sum 0 and the memories as they were found
     pub reached-start : {r : Registers} → r ≡ start → Reached m₀ r 0 0
     reached-start e = record { same = ap (λ (q : Registers). runFrom (stepOf chip) (ran 0 0 0 q m₀) (wordsOf bytes)) (sym e) }
 
@@ -76,6 +79,7 @@ module _ (start : Registers) (bytes : List ℕ) where
 
 -- ---- before the first word
 
+-- how a run ended, with the memories that were left
 abbrev pub endedOf : Told → Memories → Ran Registers Memories
 endedOf a m = ran (a .refusal) (a .index) (a .sum) (a .registers) m
 

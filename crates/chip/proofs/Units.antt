@@ -332,6 +332,7 @@ module _ (ways n n′ : ℕ) (some : Ways ways) (r : Registers) (w : Word) (b : 
 
 -- ---- the promises
 
+-- the chip keeps each of its promises to the units of a board
 pub units : Units
 units =
     record {

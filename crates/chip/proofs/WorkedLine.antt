@@ -18,6 +18,7 @@ use Rattle.chip.specs.Chip.{wholeOffers, isCut, figureOffers}
 use Rattle.chip.specs.Dashes.{offersAlong}
 use Rattle.chip.specs.WorkedLine.{begun, WorkedLine}
 
+-- the worked line is dashed, offers those pixels and closes, as `WorkedLine` says
 pub worked-line : WorkedLine
 unfolding
     begun offersAlong eachIn nextIn registersIn refusalOf inBounds frameFits modesFit windowFits vertexFits figureFits parkedFits regionFits

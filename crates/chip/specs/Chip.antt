@@ -68,6 +68,7 @@ wordStores rows r Reserved = []
 wordStores rows r Unmodelled = []
 wordStores rows r Unknown = []
 
+-- the chip as a machine: what it refuses, what a word leaves of the registers, and what it offers and stores, by which pen
 abbrev pub chip : Machine
 chip =
     record {

@@ -100,6 +100,7 @@ pub record Runs (start : Registers) (bytes i z : List ℕ) (o : Ended start byte
   pub sum : o .sum ≡ length (passedOf chip start (wordsOf bytes) (memories i z)) % 2 ^ 64
   pub untouched : (at : ℕ) → (List·Memᴰ at (touchedOf chip start (wordsOf bytes) (memories i z)) → ⊥) → SameAt at i z (o .i-left) (o .z-left)
 
+-- every accepted word and every good recording does what document 01 says, and packing and unpacking give back what went in
 pub record Demand2 : Type 0 where
   pub accepts : (r : Registers) (command d : ℕ) (i z : List ℕ) (o : Stepped r command d i z) → o .refusal ≡ 0 → Accepts r command d i z o
   pub runs : (start : Registers) (bytes i z : List ℕ) (o : Ended start bytes i z) → flawOf bytes (memories i z) ≡ 0 → Runs start bytes i z o

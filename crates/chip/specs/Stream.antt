@@ -21,6 +21,7 @@ wordsOf bytes = map wordOf (unpackOf bytes)
 abbrev pub flawIn : List ℕ → ℕ → ℕ → ℕ
 flawIn bytes ni nz = checked bytes (cond (eqb ni nz) 0 2)
 
+-- the same, by the lengths of the memories that are lent
 unfoldable pub flawOf : List ℕ → Memories → ℕ
 flawOf bytes m = flawIn bytes (length (m .i)) (length (m .z))
 

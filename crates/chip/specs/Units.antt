@@ -57,6 +57,7 @@ pub record Together (ways n n′ : ℕ) (r : Registers) (w : Word) (b : ℕ → 
 
 -- ---- the promises
 
+-- what the chip promises to the units of a board
 pub record Units : Type 0 where
   -- a word gets the same number in every layout
   pub number : (k ni nz : ℕ) (r : Registers) (w : Word) → k ≤ largestLayout → refusalOf ni nz (laid k r) w ≡ refusalOf ni nz (laid 0 r) w

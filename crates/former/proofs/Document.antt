@@ -134,6 +134,7 @@ next : (r : Registers) (w : Word) → isInit w ≡ false → former .next r w �
 unfolding wasAfter
 next r w e = rw e
 
+-- what `Document01` says of the former card is so, sentence by sentence
 pub document-01 : Document01
 document-01 =
     record {

@@ -151,10 +151,12 @@ module _ (r : Registers) (v : Window) (h : Widened (r .window) v) where
   cut-same (Triangle a b c) = refl
   cut-same (Segment a b) = refl
 
+  -- a figure whose vertices lie within the former limits offers what it offered, also where today's window from INIT on stands for the former
   pub figure-same : (rows : ℕ) (f : Completed) → AllVertices Former f → figureOffers rows (withWindow r v) f ≡ figureOffers (wasRows rows) r f
   unfolding figureOffers
   figure-same rows f near = ap₂ (λ (t : Bool) (os : List Offer). cond t [] os) (cut-same f) (whole-same rows f near)
 
+  -- a word stores what it stored, if the region's row lies within the former limits
   pub stores-same : (rows : ℕ) (w : Word) → r .region .y ≤ formerCoordinate → wordStores rows (withWindow r v) w ≡ wordStores (wasRows rows) r w
   unfolding wordStores storable inMemory
   stores-same rows (Init d) low = refl
@@ -171,11 +173,13 @@ module _ (r : Registers) (v : Window) (h : Widened (r .window) v) where
 -- ---- the window plays no part in what an offer, or a pixel of a picture, does
 
 module _ (r : Registers) (v : Window) where
+  -- the same offers draw the same picture under any window
   pub drawn-same : (os : List Offer) (p : Picture) → drawn (penOf (withWindow r v)) os p ≡ drawn (penOf r) os p
   unfolding drawn drawOne stepAt passes newI newZ
   drawn-same [] p = refl
   drawn-same (o ∷ os) p = drawn-same os (drawOne (penOf r) p o)
 
+  -- the same pixels of a picture are stored alike under any window
   pub filled-same : (ss : List Store) (p : Picture) → filled (penOf (withWindow r v)) ss p ≡ filled (penOf r) ss p
   unfolding filled stored storedI storedZ newI
   filled-same [] p = refl

@@ -69,6 +69,7 @@ module _ (r : Registers) (v : Window) (h : Widened (r .window) v) (w : Word) (m 
   offers-same : figureOffers rows now (completedBy now w) ≡ figureOffers (wasRows rows) r (completedBy r w)
   offers-same = ap (figureOffers rows now) (completed-same r v w) ∙ figure-same r v h rows (completedBy r w) (completed-near r s w (t .word))
 
+  -- a word that the former card took draws and stores today what it did then
   pub drawing-same : drawing chip now w m ≡ drawing former r w m
   drawing-same =
       filled-same r v (wordStores rows now w) (drawn (penOf now) (figureOffers rows now (completedBy now w)) (picture (m .i) (m .z) 0))
@@ -167,5 +168,6 @@ stream bytes m e = go (eqb (flawOf bytes m) 0) e
     go true k = runs-same (wordsOf bytes) (ran 0 0 0 formerReset m) (ran 0 0 0 resetOf m) (begin-same 0 m) k
     go false k = begin-same (flawOf bytes m) m
 
+-- what request [12] asks is so: of streams, of words and of reads
 pub request-12 : Request12
 request-12 = record { stream = stream; word = λ r n w m. word w m r n; read = read }

@@ -21,6 +21,7 @@ use Rattle.former.specs.Former.{formerCoordinate, formerBorder, formerRo
 abbrev pub numberAfter : ℕ → List Word → Word → ℕ
 numberAfter n ws w = former .refusal n n (foldl (former .next) formerReset ws) w
 
+-- sentence by sentence, what document 01 said of the limits, said of the former card
 pub record Document01 : Type 0 where
   -- the names of the limits stand for document 01's numbers
   pub limits : (formerCoordinate ≡ 8191) × (formerBorder ≡ 8192) × (formerRows ≡ 8192)

@@ -44,9 +44,11 @@ formerRows = 8192
 
 -- ---- what lay within them
 
+-- a number was a coordinate: it was at most 8191
 abbrev pub wasCoordinate : ℕ → Bool
 wasCoordinate n = leb n formerCoordinate
 
+-- a number was a border of the window: it was at most 8192
 abbrev pub wasBorder : ℕ → Bool
 wasBorder n = leb n formerBorder
 
@@ -91,20 +93,23 @@ wasWord r Reserved = true
 wasWord r Unmodelled = true
 wasWord r Unknown = true
 
--- a record, part by part: the window, the Y register, the vertices, the values that have come, the region
+-- a window, each number of which was a border
 unfoldable pub wasWindow : Window → Bool
 wasWindow w = wasBorder (w .left) && wasBorder (w .top) && wasBorder (w .right) && wasBorder (w .bottom)
 
+-- a vertex, both of whose numbers x and y were coordinates
 unfoldable pub wasVertex : Vertex → Bool
 wasVertex v = wasCoordinate (v .x) && wasCoordinate (v .y)
 
+-- the values that have come, each within them by the subcommand that is awaited
 abbrev pub wasParked : Parked → Bool
 wasParked p = eachCame (λ k v. wasValue (subcommandOf (p .subcommand)) v) (p .values) (p .came)
 
+-- a region, whose five numbers beside its way were coordinates
 unfoldable pub wasRegion : Region → Bool
 wasRegion g = wasCoordinate (g .x0) && wasCoordinate (g .x1) && wasCoordinate (g .y1) && wasCoordinate (g .x) && wasCoordinate (g .y)
 
--- and all of it
+-- a record, part by part: the window, the Y register, both vertices, the values that have come, the region
 unfoldable pub wasRecord : Registers → Bool
 wasRecord r =
     wasWindow (r .window)
@@ -116,10 +121,11 @@ wasRecord r =
 
 -- ---- the machine
 
--- number 2 refused also a record that does not lie within the former limits, and number 9 a word
+-- number 2 refused also a record that does not lie within the former limits
 abbrev pub wasUnfit : ℕ → ℕ → Registers → Bool
 wasUnfit ni nz r = isUnfit ni nz r || not (wasRecord r)
 
+-- number 9 refused also a word that does not lie within them
 abbrev pub wasBarred : Registers → Word → Bool
 wasBarred r w = not (allowed r w) || not (wasWord r w)
 
@@ -143,6 +149,7 @@ wasAfter r w = cond (isInit w) (withWindow (recordAfter r w) formerWindow) (reco
 abbrev pub wasRows : ℕ → ℕ
 wasRows rows = min rows formerRows
 
+-- the former card as a machine: today's, but for what it refused, the window from INIT on, and the rows that were in use
 abbrev pub former : Machine
 former =
     record {

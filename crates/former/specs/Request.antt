@@ -51,6 +51,7 @@ pub record SameRead (before now : Reading) : Type 0 where
   pub pixel : now .pixel ≡ before .pixel
   pub registers : Alike (before .registers) (now .registers)
 
+-- what was accepted before request [12] does the same after it: streams, words and reads
 pub record Request12 : Type 0 where
   -- a stream that was accepted whole draws the same. The request asks it of memories of at most 8,192 rows; it is so of all memories, since
   -- no coordinate that was allowed reaches a row above them

@@ -90,6 +90,7 @@ module _ {r : Registers} (s : Sound r) where
   sound-modes : (m : Modes) → modesFit m ≡ true → Sound (withModes r m)
   sound-modes m h = record { started = s .started; frame = s .frame; modes = h; window = s .window; y = s .y; figure = s .figure; parked = s .parked; region = s .region }
 
+  -- a record that breaks no bound breaks none with another window, each number of which is a border
   pub sound-window : (w : Window) → windowFits w ≡ true → Sound (withWindow r w)
   sound-window w h = record { started = s .started; frame = s .frame; modes = s .modes; window = h; y = s .y; figure = s .figure; parked = s .parked; region = s .region }
 

@@ -19,10 +19,11 @@ use Rattle.registers.specs.Record.{allBits}
 use Rattle.registers.specs.Figure.{shapeOf}
 use Rattle.registers.specs.Next.{awaited}
 
--- coordinates, and the window's borders, are numbers from 0 on up to a limit
+-- a coordinate is a number from 0 on up to the largest coordinate
 abbrev pub isCoordinate : ℕ → Bool
 isCoordinate n = leb n largestCoordinate
 
+-- a border of the window is a number from 0 on up to the largest border
 abbrev pub isBorder : ℕ → Bool
 isBorder n = leb n largestBorder
 
@@ -30,13 +31,15 @@ isBorder n = leb n largestBorder
 abbrev pub onlyBits : ℕ → ℕ → Bool
 onlyBits mask n = eqb (bitAnd n (allBits - mask)) 0
 
--- the bits that ZCONTROL, HCONTROL and LSTATUS may have
+-- the bits that ZCONTROL may have
 abbrev pub zcontrolBits : ℕ
 zcontrolBits = 0x0060
 
+-- the bits that HCONTROL may have
 abbrev pub hcontrolBits : ℕ
 hcontrolBits = 0x0D8E
 
+-- the bits that LSTATUS may have
 abbrev pub lstatusBits : ℕ
 lstatusBits = 0x0030
 
@@ -89,13 +92,14 @@ allowed r Reserved = true
 allowed r Unmodelled = true
 allowed r Unknown = true
 
--- X fits a strip, a fan, and a line in line mode 2; PX fits a line in line mode 0 or 1
+-- X fits a strip, a fan, and a line in line mode 2
 abbrev pub xFits : Shape → ℕ → Bool
 xFits Closed lmode = false
 xFits Strip lmode = true
 xFits Fan lmode = true
 xFits Line lmode = eqb lmode 2
 
+-- PX fits a line in line mode 0 or 1
 abbrev pub pxFits : Shape → ℕ → Bool
 pxFits Closed lmode = false
 pxFits Strip lmode = false

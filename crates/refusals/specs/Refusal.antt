@@ -46,25 +46,31 @@ askedOf Reserved = asked false true false false false false false
 askedOf Unmodelled = asked false false true false false false false
 askedOf Unknown = asked true false false false false false false
 
--- each answer by itself
+-- the word's command is above 15
 abbrev pub isUnknown : Word → Bool
 isUnknown w = askedOf w .unknown
 
+-- the word is of a reserved command, 7 or C hex
 abbrev pub isReserved : Word → Bool
 isReserved w = askedOf w .reserved
 
+-- the word is not modelled: command A hex, or AUX 11
 abbrev pub isUnmodelled : Word → Bool
 isUnmodelled w = askedOf w .unmodelled
 
+-- the word is AUX with a number above 12
 abbrev pub isAbove : Word → Bool
 isAbove w = askedOf w .above
 
+-- the word is INIT
 abbrev pub isInit : Word → Bool
 isInit w = askedOf w .init
 
+-- the word is PARM
 abbrev pub isParm : Word → Bool
 isParm w = askedOf w .parm
 
+-- the word is PTRN
 abbrev pub isPtrn : Word → Bool
 isPtrn w = askedOf w .ptrn
 

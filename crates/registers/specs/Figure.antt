@@ -14,10 +14,11 @@ use Rattle.registers.specs.declared.shape.Completed.{Completed}
 use Rattle.registers.specs.declared.shape.Completed.the-variants.{Nothing, Triangle, Segment}
 use Rattle.registers.specs.Record.{isOn, invBit, endBit, patternLength, noVertex, noFigure}
 
--- the shape that the record's number stands for
+-- the shapes, in the order of the record's numbers: 0 for no figure open, 1 a strip, 2 a fan, 3 a line
 abbrev pub shapes : List Shape
 shapes = Closed ∷ Strip ∷ Fan ∷ Line ∷ []
 
+-- the shape that the record's number stands for; none is open for a number above them
 unfoldable pub shapeOf : ℕ → Shape
 shapeOf n = getD shapes n Closed
 
@@ -57,9 +58,10 @@ completes Line inv f v = cond inv Nothing (Segment (f .first) v)
 abbrev pub isDashed : Registers → Bool
 isDashed r = not (isOn invBit (r .modes .lstatus)) && leb (r .modes .lmode) 1
 
--- both, by the registers as they are when the vertex comes
+-- the figure after one more vertex, by the registers as they are when the vertex comes
 abbrev pub figureAfter : Registers → ℕ → Figure
 figureAfter r x = grownOf (shapeOf (r .figure .shape)) (isOn endBit (r .modes .lstatus)) (isDashed r) (r .figure) (vertexOf r x)
 
+-- what that vertex completes, by the same registers
 abbrev pub vertexCompletes : Registers → ℕ → Completed
 vertexCompletes r x = completes (shapeOf (r .figure .shape)) (isOn invBit (r .modes .lstatus)) (r .figure) (vertexOf r x)

@@ -5,13 +5,15 @@ use mathlib.Core.List.{List, [], _∷_}
 use lib.Dec.{leb, ltb}
 use lib.ListN.{length, getD}
 
--- the shortest and the longest that are listed, and what all are multiples of
+-- the shortest line length that is listed
 abbrev pub shortestLine : ℕ
 shortestLine = 256
 
+-- the longest line length that is listed
 abbrev pub longestLine : ℕ
 longestLine = 8768
 
+-- what all line lengths that are listed are multiples of
 abbrev pub lineUnit : ℕ
 lineUnit = 64
 
@@ -37,15 +39,18 @@ lineOf code =
     (from code 38 (2560 ∷ 2624 ∷ [])
     (from code 42 (4608 ∷ 4672 ∷ 8192 ∷ 8256 ∷ 8704 ∷ 8768 ∷ []) 0)))))))))
 
--- INIT's data: bits 13 to 8 the line length code, 7 and 6 the number of chips, 5 and 4 the unit, 3 to 0 the page code
+-- bits 13 to 8 of INIT's data are the line length code
 abbrev pub codeIn : ℕ → ℕ
 codeIn d = d / 256 % 64
 
+-- bits 7 and 6 of INIT's data are the code of the number of chips
 abbrev pub chipsIn : ℕ → ℕ
 chipsIn d = d / 64 % 4
 
+-- bits 5 and 4 of INIT's data are the unit
 abbrev pub unitIn : ℕ → ℕ
 unitIn d = d / 16 % 4
 
+-- bits 3 to 0 of INIT's data are the page code
 abbrev pub pageIn : ℕ → ℕ
 pageIn d = d % 16

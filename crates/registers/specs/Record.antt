@@ -29,27 +29,31 @@ isOn mask word = not (eqb (bitAnd word mask) 0)
 abbrev pub allBits : ℕ
 allBits = 65535
 
--- ZCONTROL bit 6: depth test; bit 5: sectioning, of the constant kind
+-- ZCONTROL bit 6 turns the depth test on
 abbrev pub depthBit : ℕ
 depthBit = 64
 
+-- ZCONTROL bit 5 turns sectioning on, of the constant kind
 abbrev pub sectionBit : ℕ
 sectionBit = 32
 
--- HCONTROL bit 2: I enable; bit 1: Z enable; bit 3: pictures go to and from Z (request [1])
+-- HCONTROL bit 2 is the I enable
 abbrev pub iBit : ℕ
 iBit = 4
 
+-- HCONTROL bit 1 is the Z enable
 abbrev pub zBit : ℕ
 zBit = 2
 
+-- with HCONTROL bit 3 pictures go to and from Z, and not I (request [1])
 abbrev pub pictureBit : ℕ
 pictureBit = 8
 
--- LSTATUS bit 5: INV; bit 4: END
+-- LSTATUS bit 5 is INV: a line's segments are not visible
 abbrev pub invBit : ℕ
 invBit = 32
 
+-- LSTATUS bit 4 is END: a line closes after its next segment
 abbrev pub endBit : ℕ
 endBit = 16
 
@@ -59,10 +63,11 @@ endBit = 16
 abbrev pub noVertex : Vertex
 noVertex = record { x = 0; y = 0; i = 0; z = 0 }
 
--- in place of an AUX number: nothing is awaited; IMG's parameters are, for a region to memory; with one more, from memory
+-- the number that stands in place of an AUX number where nothing is awaited
 abbrev pub noNumber : ℕ
 noNumber = 13
 
+-- the number that stands there where IMG's parameters are awaited for a region to memory; one more stands for a region from memory
 abbrev pub loadNumber : ℕ
 loadNumber = 14
 
@@ -96,59 +101,77 @@ noRegion = regionOf 0 0 0 0 0
 
 -- ---- a part with one field replaced
 
+-- the modes with another PMODE
 abbrev pub withPmode : Modes → ℕ → Modes
 withPmode m v = record { pmode = v; lmode = m .lmode; zcontrol = m .zcontrol; hcontrol = m .hcontrol; lstatus = m .lstatus; transparency = m .transparency; planes = m .planes; section = m .section }
 
+-- the modes with another line mode
 abbrev pub withLmode : Modes → ℕ → Modes
 withLmode m v = record { pmode = m .pmode; lmode = v; zcontrol = m .zcontrol; hcontrol = m .hcontrol; lstatus = m .lstatus; transparency = m .transparency; planes = m .planes; section = m .section }
 
+-- the modes with another word of ZCONTROL
 abbrev pub withZcontrol : Modes → ℕ → Modes
 withZcontrol m v = record { pmode = m .pmode; lmode = m .lmode; zcontrol = v; hcontrol = m .hcontrol; lstatus = m .lstatus; transparency = m .transparency; planes = m .planes; section = m .section }
 
+-- the modes with another word of HCONTROL
 abbrev pub withHcontrol : Modes → ℕ → Modes
 withHcontrol m v = record { pmode = m .pmode; lmode = m .lmode; zcontrol = m .zcontrol; hcontrol = v; lstatus = m .lstatus; transparency = m .transparency; planes = m .planes; section = m .section }
 
+-- the modes with another word of LSTATUS
 abbrev pub withLstatus : Modes → ℕ → Modes
 withLstatus m v = record { pmode = m .pmode; lmode = m .lmode; zcontrol = m .zcontrol; hcontrol = m .hcontrol; lstatus = v; transparency = m .transparency; planes = m .planes; section = m .section }
 
+-- the modes with another transparency pattern
 abbrev pub withTransparency : Modes → ℕ → Modes
 withTransparency m v = record { pmode = m .pmode; lmode = m .lmode; zcontrol = m .zcontrol; hcontrol = m .hcontrol; lstatus = m .lstatus; transparency = v; planes = m .planes; section = m .section }
 
+-- the modes with another mask of bit planes
 abbrev pub withPlanes : Modes → ℕ → Modes
 withPlanes m v = record { pmode = m .pmode; lmode = m .lmode; zcontrol = m .zcontrol; hcontrol = m .hcontrol; lstatus = m .lstatus; transparency = m .transparency; planes = v; section = m .section }
 
+-- the modes with another section depth
 abbrev pub withSection : Modes → ℕ → Modes
 withSection m v = record { pmode = m .pmode; lmode = m .lmode; zcontrol = m .zcontrol; hcontrol = m .hcontrol; lstatus = m .lstatus; transparency = m .transparency; planes = m .planes; section = v }
 
+-- the I, Z and Y registers, by their numbers
 abbrev pub latch : ℕ → ℕ → ℕ → Latch
 latch i z y = record { i = i; z = z; y = y }
 
+-- a window by its borders, in the order in which WINDOW takes them: left, top, right, bottom
 abbrev pub window : ℕ → ℕ → ℕ → ℕ → Window
 window left top right bottom = record { left = left; top = top; right = right; bottom = bottom }
 
+-- what dashed lines are drawn with: foreground, background, and the high and the low half of the line pattern
 abbrev pub dash : ℕ → ℕ → ℕ → ℕ → Dash
 dash foreground background high low = record { foreground = foreground; background = background; high = high; low = low }
 
 -- ---- the record with one part replaced
 
+-- the record with other modes
 abbrev pub withModes : Registers → Modes → Registers
 withModes r m = record { started = r .started; frame = r .frame; modes = m; window = r .window; dash = r .dash; latch = r .latch; figure = r .figure; parked = r .parked; region = r .region }
 
+-- the record with another window
 abbrev pub withWindow : Registers → Window → Registers
 withWindow r w = record { started = r .started; frame = r .frame; modes = r .modes; window = w; dash = r .dash; latch = r .latch; figure = r .figure; parked = r .parked; region = r .region }
 
+-- the record with another foreground, background and line pattern
 abbrev pub withDash : Registers → Dash → Registers
 withDash r d = record { started = r .started; frame = r .frame; modes = r .modes; window = r .window; dash = d; latch = r .latch; figure = r .figure; parked = r .parked; region = r .region }
 
+-- the record with other I, Z and Y registers
 abbrev pub withLatch : Registers → Latch → Registers
 withLatch r l = record { started = r .started; frame = r .frame; modes = r .modes; window = r .window; dash = r .dash; latch = l; figure = r .figure; parked = r .parked; region = r .region }
 
+-- the record with another figure, open or none
 abbrev pub withFigure : Registers → Figure → Registers
 withFigure r f = record { started = r .started; frame = r .frame; modes = r .modes; window = r .window; dash = r .dash; latch = r .latch; figure = f; parked = r .parked; region = r .region }
 
+-- the record with other parameters parked, or another number awaited
 abbrev pub withParked : Registers → Parked → Registers
 withParked r p = record { started = r .started; frame = r .frame; modes = r .modes; window = r .window; dash = r .dash; latch = r .latch; figure = r .figure; parked = p; region = r .region }
 
+-- the record with another region, open or none
 abbrev pub withRegion : Registers → Region → Registers
 withRegion r g = record { started = r .started; frame = r .frame; modes = r .modes; window = r .window; dash = r .dash; latch = r .latch; figure = r .figure; parked = r .parked; region = g }
 

@@ -6,10 +6,11 @@ use lib.ListN.{getD}
 use Rattle.registers.specs.declared.subcommand.Subcommand.{Subcommand}
 use Rattle.registers.specs.declared.subcommand.Subcommand.the-variants.{Nothing, Pmode, Lmode, Zcontrol, Hcontrol, Tpattern, Window, Section, Color, Lpattern, Mask, Lstatus, Imode, Load, Save}
 
--- the largest AUX number, and the one that is not modelled
+-- the largest AUX number
 abbrev pub largestAux : ℕ
 largestAux = 12
 
+-- the AUX number that is not modelled
 abbrev pub unmodelledAux : ℕ
 unmodelledAux = 11
 

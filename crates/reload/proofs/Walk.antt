@@ -53,6 +53,7 @@ row-ends w k n e =
     let t : (w + 1) * n ≡ (w + 1) * suc k = ap (λ (j : ℕ). (w + 1) * j) (sym e ∙ add-one k) in
     omega (arith, s, t)
 
+-- a transfer leads from any region either to its end, with no pixel remaining, or to a pixel of which one less remains
 pub goes-of : (g : Region) → Goes g
 unfolding nextPixel remaining
 goes-of g = along (eqb (g .x) (g .x1)) refl

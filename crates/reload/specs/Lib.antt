@@ -1,1 +1,2 @@
+-- how pictures are saved and reloaded
 pub mod Reload

@@ -55,6 +55,7 @@ taking r ws m = allOf (stepOf chip) r ws m
 abbrev pub saving : ℕ → Corners → Registers → Memories → List ℕ
 saving n c r m = reads n (taking r (opening 1 c) m .registers) m
 
+-- and the registers after these reads
 abbrev pub savingLeaves : ℕ → Corners → Registers → Memories → Registers
 savingLeaves n c r m = readsLeave n (taking r (opening 1 c) m .registers) m
 
@@ -103,6 +104,8 @@ readBack frame rows g (v ∷ vs) = cond (inMemory frame rows (g .x) (g .y)) v 0 
 
 -- ---- the theorem
 
+-- a region takes as many transfers as it has pixels, row by row; saved and reloaded, it leaves the memories as they were; and what is loaded
+-- into it is read back
 pub record Reload : Type 0 where
   -- a region from memory has as many reads as it has pixels, and one more is refused with 14
   pub taken : (c : Corners) (r : Registers) (m : Memories) (n : ℕ) → Allowed c → Ready r m → n < sizeOf c → readNumber (savingLeaves n c r m) m ≡ 0

@@ -1,1 +1,2 @@
+-- how a chip whose memories lie in tiles does beside a plain one
 pub mod Tiles

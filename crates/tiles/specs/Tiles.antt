@@ -27,9 +27,11 @@ pub record Answer : Type 0 where
   pub number : ℕ
   pub told : ℕ
 
+-- an answer by its two parts
 abbrev pub answer : ℕ → ℕ → Answer
 answer number told = record { number = number; told = told }
 
+-- what a word or a read answers, from where registers and memories stand
 abbrev pub answerOf : State Registers Memories → Call → Answer
 answerOf a (word w) = answer (stepOf chip (a .registers) w (a .memories) .refusal) (stepOf chip (a .registers) w (a .memories) .passed)
 answerOf a strobe = answer (reading (a .registers) (a .memories) .refusal) (reading (a .registers) (a .memories) .pixel)
@@ -41,10 +43,11 @@ answersOf a (c ∷ cs) = answerOf a c ∷ answersOf (called a c) cs
 
 -- ---- two chips
 
--- the rows in use of tiled and of plain memories of one length
+-- the rows in use of tiled memories of one length
 abbrev pub tiledRows : ℕ → ℕ → ℕ
 tiledRows line n = rowsOf (frameOf line 1) n n
 
+-- the rows in use of plain memories of one length
 abbrev pub plainRows : ℕ → ℕ → ℕ
 plainRows line n = rowsOf (plainFrame line) n n
 
@@ -94,6 +97,8 @@ pub record StreamsAlike (line n n′ : ℕ) {bytes i z i′ z′ : List ℕ} (o 
   pub sum : o .sum ≡ p .sum
   pub left : Beside line n n′ (o .registers) (memories (o .i-left) (o .z-left)) (p .registers) (memories (p .i-left) (p .z-left))
 
+-- a tiled chip and a plain one answer alike and show the same picture, over calls and over packed streams that keep one line length; and no
+-- two pixels share a place
 pub record Request9 : Type 0 where
   pub calls : (line n n′ : ℕ) (a b : Memories) → Starts line n n′ a b → (cs : List Call) → Keeping line (state resetOf b) cs → CallsAlike line n n′ a b cs
   pub streams : (line n n′ : ℕ) (i z i′ z′ : List ℕ) → Starts line n n′ (memories i z) (memories i′ z′)
