@@ -61,7 +61,7 @@ module _ (r : Registers) (w : Word) (m : Memories) where
   word-balanced =
       word-either EachBalanced (λ e. figure-tally-balanced r _ (completedBy r w) (figure-balanced (penOf r) (pixelsOf r w m) (m .i) (m .z))) none-balanced
 
-  -- a word comes to no more than one figure of at most 2^28 pixels
+  -- of each kind, a word comes to no more than one figure of at most 2^28 pixels
   pub word-each : EachWithin 1 (wordTally r w m)
   word-each =
       word-either (EachWithin 1) (λ e. figure-each r _ 1 (completedBy r w) (count-within (penOf r) (pixelsOf r w m) (m .i) (m .z) (offered-low r w m e)))
