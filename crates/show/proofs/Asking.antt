@@ -15,7 +15,7 @@ use Rattle.show.specs.declared.Asked.{Asked}
 
 -- ---- digits
 
--- no bytes at all are digits only
+-- where no byte is left, none is anything but a digit
 pub digits-end : digitsOnly [] ≡ true
 unfolding digitsOnly
 digits-end = refl
