@@ -29,9 +29,11 @@ penOf line layout =
       zenable = true;
     }
 
+-- a vertex, by its column, its row, its intensity and its depth
 abbrev pub vertexOf : ℕ → ℕ → ℕ → ℕ → Vertex
 vertexOf x y i z = record { x = x; y = y; i = i; z = z }
 
+-- a segment's style, by its mode, its pattern and its two grounds: the line has made no step, and the segment leaves out no pixel
 abbrev pub styleOf : ℕ → ℕ → ℕ → ℕ → Style
 styleOf mode pattern foreground background = record { mode = modeOf mode; pattern = pattern; foreground = foreground; background = background; steps = 0; joined = false }
 

@@ -195,6 +195,7 @@ small p q r ps e h o =
         let h = both (ltb (p .x) 3) (ltb (p .y) 3) (g .0) in
         (ltb-true _ _ (h .0), ltb-true _ _ (h .1), g .1)
 
+-- all starred examples of the document hold
 pub examples : Claim
 unfolding
     table checked badLength badTail walk through larger smaller xLeads sideAt xAt yAt numberAt every agree inSquare among covered covers

@@ -24,10 +24,12 @@ use Rattle.refusals.specs.Refusal.{refusalOf, next}
 
 -- ---- pixels and points
 
+-- a pixel has a column and a row
 pub record Pixel : Type 0 where
   pub x : ℕ
   pub y : ℕ
 
+-- the pixel in column x of row y
 abbrev pub at : ℕ → ℕ → Pixel
 at x y = record { x = x; y = y }
 
@@ -73,6 +75,7 @@ bare =
       zenable = true;
     }
 
+-- the style of a mode 2 line, in which all else is 0 and nothing is left out
 abbrev pub shaded : Style
 shaded = record { mode = Two; pattern = 0; foreground = 0; background = 0; steps = 0; joined = false }
 
@@ -80,6 +83,7 @@ shaded = record { mode = Two; pattern = 0; foreground = 0; background = 0; steps
 abbrev pub lineThere : Vertex → Vertex → List Offer
 lineThere a b = segmentOffers bare 4 shaded a b
 
+-- a Gouraud triangle, on a picture of four rows
 abbrev pub triangleThere : Vertex → Vertex → Vertex → List Offer
 triangleThere a b c = triangleOffers bare 4 false a b c
 
@@ -105,6 +109,7 @@ pub record EveryInit (code : ℕ) (So : (n : ℕ) (r : Registers) (d : ℕ) → 
 
 -- ---- the rows, by what they speak of
 
+-- a row of the table claims one thing, of one of these eight sorts
 pub data Row : Type 0 where
   -- a line visits pixels
   line : Pixel → Pixel → List Pixel → Row
@@ -145,6 +150,7 @@ Says (codeIs code columns) = EveryInit code (λ n r d. (refusalOf n n r (decode 
 
 -- ---- the table
 
+-- the starred examples of the document
 unfoldable pub table : List Row
 table =
     line (at 0 0) (at 2 1) (at 0 0 ∷ at 1 1 ∷ at 2 1 ∷ [])
@@ -170,8 +176,8 @@ table =
 
 -- ---- the claim
 
--- every row of a table says what is so
 infixr 3 _also_
+-- every row of a table says what is so
 pub data All : List Row → Type 0 where
   done : All []
   _also_ : {row : Row} {rows : List Row} → Says row → All rows → All (row ∷ rows)

@@ -161,6 +161,7 @@ module _ (parts : List (List ℕ)) (i z : List ℕ) (d : Delivered parts i z) wh
         at-once = λ short good o. end-is ∙ ended-once (flatten parts) (memories i z) short good ∙ sym (o .promise);
       }
 
+-- all that request 3 asks holds
 pub request-3 : Request3
 request-3 =
     record {

@@ -96,6 +96,7 @@ module _ (n v : ℕ) (enough : 20 ≤ n) where
   pub front-fits : v < 2 ^ n → v / 2 ^ (n - 20) < 2 ^ 20
   front-fits h = shr-lt 20 (n - 20) (rw split at h)
 
+  -- the first twenty bits of a row are, as a number, the row's number without the bits behind them
   pub front-word : v < 2 ^ n → number (take 20 (bits n v)) ≡ v / 2 ^ (n - 20)
   front-word h =
       ap (λ (row : List ℕ). number (take 20 row)) halves

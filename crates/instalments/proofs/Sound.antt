@@ -27,6 +27,7 @@ use Rattle.instalments.proofs.Bytes.{closed-refused, closed-told, open-
 
 -- ---- the bounds, one by one
 
+-- each bound of a record by itself: on the bits held, the number told, the words run before the first INIT, and the registers
 pub record Parts (s : Intake) : Type 0 where
   pub bits : bitsFit (isClosed (s .refusal) (s .over)) (s .index) (s .held) (s .count) ≡ true
   pub tells : numberFits (s .over) (s .index) (s .refusal) ≡ true
@@ -34,6 +35,7 @@ pub record Parts (s : Intake) : Type 0 where
   pub kept : inBounds (s .registers) ≡ true
 
 module _ (s : Intake) where
+  -- a record that breaks no bound keeps each of them
   pub sound-parts : isSound s ≡ true → Parts s
   unfolding isSound
   sound-parts e =
@@ -44,6 +46,7 @@ module _ (s : Intake) where
       let r = both begun (inBounds (s .registers)) (q .1) in
       record { bits = p .0; tells = q .0; begun = r .0; kept = r .1 }
 
+  -- a record that keeps each of them breaks no bound
   pub parts-sound : Parts s → isSound s ≡ true
   unfolding isSound
   parts-sound p = and-both (p .bits) (and-both (p .tells) (and-both (p .begun) (p .kept)))

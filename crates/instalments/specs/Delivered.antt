@@ -60,6 +60,7 @@ pub record Cut (parts : List (List ℕ)) (i z : List ℕ) (d : Delivered parts i
   pub at-once : length (flatten parts) < 2 ^ 64 → checked (flatten parts) 0 ≡ 0 → (o : Ended resetOf (flatten parts) i z)
       → soFar (d .end) (memories (d .i-left) (d .z-left)) ≡ ran (o .refusal) (o .index) (o .sum) (o .registers) (memories (o .i-left) (o .z-left))
 
+-- what request 3 asks, of every recording however it is cut, and of every record that calls leave
 pub record Request3 : Type 0 where
   -- every recording, cut anywhere, over every pair of memories, gets an answer
   pub answers : (parts : List (List ℕ)) (i z : List ℕ) → Delivered parts i z

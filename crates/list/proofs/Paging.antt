@@ -32,10 +32,12 @@ module _ (words : List ℕ) (from : ℕ) {n : ℕ} (least : n ≡ min (length (t
           let all : n ≡ 2520 = omega (arith, many, least, left) in
           ap (λ (k : ℕ). take k (drop from words)) all
 
+  -- the words of a page are as many as the code counts: those that are left, but at most 2,520
   pub part-length : n ≡ length (take n (take (length words - from) (drop from words)))
   part-length =
       omega (arith, least, length-take n (take (length words - from) (drop from words)))
 
+  -- the listing of these words is the page that begins at the place
   pub page-of : listing from (take n (take (length words - from) (drop from words))) ≡ pageOf words from
   unfolding pageOf
   page-of = ap (listing from) part

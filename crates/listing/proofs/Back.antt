@@ -23,6 +23,7 @@ use Rattle.listing.specs.Reading.{Reading, reading, reader, digitOf, isE
 
 -- ---- reading on, in parts
 
+-- to read two texts joined is to read the first, and then on through the second
 pub read-append : (s : Reading) (a b : List ℕ) → readOn s (a ++ b) ≡ readOn (readOn s a) b
 unfolding readOn
 read-append s a b = foldl-append taken s a b
@@ -68,6 +69,7 @@ glyph-quiet d = go (ltb d 10)
 
 -- ---- texts without a line's end, which is 10 or 13
 
+-- each byte of the text is above 13, so that none ends a line
 pub data Quiet : List ℕ → Type 0 where
   none : Quiet []
   more : {b : ℕ} {text : List ℕ} → 13 < b → Quiet text → Quiet (b ∷ text)

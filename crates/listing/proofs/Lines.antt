@@ -12,6 +12,7 @@ use Rattle.listing.specs.Text.{glyph, digits, names, nameOf, placed, lin
 
 -- ---- digits, stored from the last to the first
 
+-- the last k digits of a number are k bytes, in any base
 pub length-digits : (base k n : ℕ) → length (digits base k n) ≡ k
 unfolding digits
 length-digits base zero n = refl
@@ -34,6 +35,7 @@ put-all base n at out = refl
 -- ---- part of a text
 
 module _ (text : List ℕ) (from count : ℕ) (h : from + count ≤ length text) where
+  -- a part of a text that ends within it is as long as was asked for
   pub length-part : length (take count (drop from text)) ≡ count
   length-part = length-take-le count (drop from text) (omega (arith, length-drop from text))
 
@@ -44,6 +46,7 @@ pub length-name : (word : ℕ) → length (nameOf (word / 65536 % 16)) ≡ 6
 unfolding nameOf names
 length-name word = length-part names (6 * (word / 65536 % 16)) 6 (omega arith)
 
+-- a word with the index of its remark has 15 columns
 pub length-placed : (index word : ℕ) → length (placed index word) ≡ 15
 unfolding placed
 length-placed index word =
@@ -58,6 +61,7 @@ length-placed index word =
       length-digits 10 7 index,
     )
 
+-- a line has 26 bytes, its end included
 pub length-line : (index word : ℕ) → length (line index word) ≡ 26
 unfolding line
 length-line index word =
@@ -75,14 +79,17 @@ length-line index word =
       length-name word,
     )
 
+-- no words have no lines
 pub lines-none : (from : ℕ) (words : List ℕ) → lines from words 0 ≡ []
 unfolding lines
 lines-none from words = refl
 
+-- one word more adds its line behind the others
 pub lines-more : (from : ℕ) (words : List ℕ) (k : ℕ) → lines from words (k + 1) ≡ lines from words k ++ line (from + k) (getD words k 0)
 unfolding lines
 lines-more from words k = rw (add-one k)
 
+-- the lines of k words have 26 bytes for each of them
 pub length-lines : (from : ℕ) (words : List ℕ) (k : ℕ) → length (lines from words k) ≡ k * 26
 unfolding lines
 length-lines from words zero = refl
@@ -97,6 +104,7 @@ length-lines from words (suc k) =
       suc-mul k 26,
     )
 
+-- a listing has 26 bytes for each of its words
 pub length-listing : (from : ℕ) (words : List ℕ) → length (listing from words) ≡ length words * 26
 unfolding listing
 length-listing from words = length-lines from words (length words)

@@ -24,6 +24,7 @@ module _ (from : ℕ) (a b : List ℕ) where
       (ap₂ line (sym (add-assoc from (length a) k)) (getD-append-add a b k 0))
       ∙ append-assoc (lines from a (length a)) (lines (from + length a) b k) (line (from + length a + k) (getD b k 0))
 
+  -- the listing of two runs of words joined is the listing of the first, and then that of the second, with its indices going on from the first's end
   pub pages : listing from (a ++ b) ≡ listing from a ++ listing (from + length a) b
   unfolding listing
   pages = ap (lines from (a ++ b)) (length-append a b) ∙ behind (length b)

@@ -15,6 +15,7 @@ use Rattle.listing.proofs.Lines.{length-digits, length-part, length-pla
 
 -- ---- lengths
 
+-- a meaning's name has twelve columns
 pub length-row : (row : ℕ) → length (meaningName row) ≡ 12
 unfolding meaningName meanings
 length-row row = length-part meanings (12 * (row % 32)) 12 (omega arith)
@@ -33,11 +34,13 @@ length-share : (came wanted : ℕ) → length (share came wanted) ≡ 3
 unfolding share
 length-share came wanted = either (λ (text : List ℕ). length text ≡ 3) (eqb wanted 0) (λ _. refl) (λ _. length-some came wanted)
 
+-- a meaning with its share of the parameters has 15 columns
 pub length-meaning : (m : Meaning) → length (meaningText m) ≡ 15
 unfolding meaningText
 length-meaning m =
     omega (arith, length-append (meaningName (m .row)) (share (m .came) (m .wanted)), length-row (m .row), length-share (m .came) (m .wanted))
 
+-- a number of so many digits, with the blank before it, has one byte more than digits
 pub length-number : (count n : ℕ) → length (numberText count n) ≡ 1 + count
 unfolding numberText
 length-number count n = omega (arith, length-append (32 ∷ []) (digits 10 count n), length-digits 10 count n)
@@ -47,6 +50,7 @@ unfolding answerText
 length-answer refusal passed =
     omega (arith, length-append (numberText 2 refusal) (numberText 7 passed), length-number 2 refusal, length-number 7 passed)
 
+-- a word with what the machine made of it has 51 columns, without the line's end
 pub length-traced : (t : Traced) → length (tracedText t) ≡ 51
 unfolding tracedText
 length-traced t =
@@ -67,14 +71,17 @@ length-traced t =
       length-answer (t .refusal) (t .passed),
     )
 
+-- the two numbers of a pixel have 12 columns
 pub length-numbers : (n : Numbers) → length (numbersText n) ≡ 12
 unfolding numbersText
 length-numbers n = omega (arith, length-append (numberText 5 (n .i)) (numberText 5 (n .z)), length-number 5 (n .i), length-number 5 (n .z))
 
+-- a line of a trace has 52 bytes, its end included
 pub length-trace : (t : Traced) → length (traceLine t) ≡ 52
 unfolding traceLine
 length-trace t = omega (arith, length-append (tracedText t) (10 ∷ []), length-traced t)
 
+-- a line of a trace with a pixel's numbers before and after has 76 bytes, its end included
 pub length-watch : (t : Traced) (before after : Numbers) → length (watchLine t before after) ≡ 76
 unfolding watchLine
 length-watch t before after =

@@ -19,6 +19,7 @@ pub record Reading : Type 0 where
   pub reader : Reader
   pub words : List ℕ
 
+-- a reading, by its parts: the reader, and the lent buffer
 abbrev pub reading : Reader → List ℕ → Reading
 reading r ws = record { reader = r; words = ws }
 

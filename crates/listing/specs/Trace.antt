@@ -59,6 +59,7 @@ meaningName row = take 12 (drop (12 * (row % 32)) meanings)
 unfoldable pub share : ℕ → ℕ → List ℕ
 share came wanted = cond (eqb wanted 0) (45 ∷ 32 ∷ 32 ∷ []) (digits 10 1 came ++ (47 ∷ []) ++ digits 10 1 wanted)
 
+-- what a word means, and behind it which of how many parameters the word is
 unfoldable pub meaningText : Meaning → List ℕ
 meaningText m = meaningName (m .row) ++ share (m .came) (m .wanted)
 

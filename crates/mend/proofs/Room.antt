@@ -48,9 +48,11 @@ module _ {bytes out₀ indices₀ numbers₀ : List ℕ} {t : Mended} {out indic
   list-fits f old =
       omega (arith, ap (λ (x : Mended). x .dropped) (so .told), length-map (droppedOf bytes 0) f, length-append (map f (droppedOf bytes 0)) (drop (length (map f (droppedOf bytes 0))) old))
 
+  -- the number of dropped words is at most the length of the list of indices
   pub indices-fit : t .dropped ≤ length indices
   indices-fit = omega (arith, list-fits (λ (x : Dropped). x .index) indices₀, ap length (so .places))
 
+  -- and it is at most the length of the list of numbers
   pub numbers-fit : t .dropped ≤ length numbers
   numbers-fit = omega (arith, list-fits (λ (x : Dropped). x .number) numbers₀, ap length (so .reasons))
 

@@ -31,6 +31,7 @@ pub kept-few : (bytes : List ℕ) → length (keptOf bytes 0) * 5 ≤ length byt
 kept-few bytes = omega (arith, all-sorted 0 (unpackOf bytes) 0 resetOf, length-unpack bytes)
 
 module _ (bytes : List ℕ) {count words : ℕ} (counted : count ≡ length (keptOf bytes 0)) (all : words ≡ length (unpackOf bytes)) where
+  -- no more words are counted as kept than there are words
   pub count-low : count ≤ words
   count-low = omega (arith, all-sorted 0 (unpackOf bytes) 0 resetOf)
 

@@ -86,6 +86,7 @@ abbrev pub DroppedTo : List ℕ → Registers → ℕ → ℕ → Type 0
 DroppedTo bytes r d k = LeftOf (droppedOf bytes 0) d (droppedIn 0 k r (drop k (unpackOf bytes)))
 
 module _ (bytes : List ℕ) where
+  -- before the first word, with the registers of a reset, no word is kept yet
   pub kept-start : {r : Registers} → r ≡ resetOf → KeptTo bytes r 0 0
   kept-start e = record { low = omega arith; same = ap (λ (q : Registers). keptIn 0 q (unpackOf bytes)) (sym e) }
 
@@ -106,6 +107,7 @@ module _ (bytes : List ℕ) where
           (ap (keptIn 0 r) words-left ∙ kept-accepted 0 r w (drop k′ (unpackOf bytes)) (sym (says .refusal) ∙ none)
           ∙ ap (λ (p : Registers). w ∷ keptIn 0 p (drop k′ (unpackOf bytes))) (sym (says .registers)))
 
+      -- after an accepted word one word more is kept
       pub kept-more : {j : ℕ} → KeptTo bytes r j k → KeptTo bytes q (j + 1) k′
       kept-more so = left-more (kept-next so)
 
@@ -134,6 +136,7 @@ module _ (bytes : List ℕ) where
 
   -- no word is left
   module _ (r : Registers) {k : ℕ} (past : length (unpackOf bytes) ≤ k) where
+    -- where no word is left, as many words are kept as the whole recording keeps
     pub kept-end : {j : ℕ} → KeptTo bytes r j k → j ≡ length (keptOf bytes 0)
     unfolding keptIn
     kept-end so = left-none (left-as (ap (keptIn 0 r) (drop-of-length-le (unpackOf bytes) past)) so)
@@ -193,6 +196,7 @@ module _ (bytes out₀ indices₀ numbers₀ : List ℕ) where
     pub places : indices ≡ front d (indicesOf (droppedOf bytes 0)) indices₀
     pub reasons : numbers ≡ front d (numbersOf (droppedOf bytes 0)) numbers₀
 
+  -- before the first word nothing is kept, dropped or waiting, and what was lent is as it was
   pub sorted-start : {r : Registers} → r ≡ resetOf → SortedTo out₀ indices₀ numbers₀ r 0 0 0
   sorted-start e =
       record {

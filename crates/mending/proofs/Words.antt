@@ -73,6 +73,7 @@ index-low n (w ∷ ws) k r j h =
     (λ e. let list = dropped-accepted n r w ws e k in rw list (low j (rw list at h)))
     (λ e. let list = dropped-refused n r w ws e k in rw list (below-next (dropped k (numberIn n r w)) rest (k + length (w ∷ ws)) (omega arith) low j (rw list at h)))
 
+-- each index on a recording's list is below the number of its words
 pub indices-low : (bytes : List ℕ) (n j : ℕ) → j < length (droppedOf bytes n) → getD (indicesOf (droppedOf bytes n)) j 0 < length (unpackOf bytes)
 indices-low bytes n j h = omega (arith, index-low n (unpackOf bytes) 0 resetOf j h)
 

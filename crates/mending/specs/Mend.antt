@@ -40,6 +40,7 @@ pub record Dropped : Type 0 where
   pub index : ℕ
   pub number : ℕ
 
+-- a dropped word, by its index and its number
 abbrev pub dropped : ℕ → ℕ → Dropped
 dropped k number = record { index = k; number = number }
 
@@ -56,6 +57,7 @@ droppedIn n k r (w ∷ ws) =
 abbrev pub keptOf : List ℕ → ℕ → List ℕ
 keptOf bytes n = keptIn n resetOf (unpackOf bytes)
 
+-- the mended stream is the kept words, packed
 abbrev pub mendedOf : List ℕ → ℕ → List ℕ
 mendedOf bytes n = packOf (keptOf bytes n)
 
@@ -67,6 +69,7 @@ droppedOf bytes n = droppedIn n 0 resetOf (unpackOf bytes)
 abbrev pub indicesOf : List Dropped → List ℕ
 indicesOf ds = map (λ (d : Dropped). d .index) ds
 
+-- the numbers that refuse the dropped words, in the order of the list
 abbrev pub numbersOf : List Dropped → List ℕ
 numbersOf ds = map (λ (d : Dropped). d .number) ds
 
@@ -74,6 +77,7 @@ numbersOf ds = map (λ (d : Dropped). d .number) ds
 abbrev pub cutAt : ℕ → ℕ
 cutAt m = getD (0 ∷ 8 ∷ 16 ∷ 0 ∷ 12 ∷ []) m 0
 
+-- how many bits are cut from the end of a recording depends on its length alone
 unfoldable pub cutOf : List ℕ → ℕ
 cutOf bytes = cutAt (length bytes % 5)
 
@@ -91,6 +95,7 @@ pub record Mending : Type 0 where
   pub numbers : List ℕ
   pub memories : Memories
 
+-- what mending comes to, by its parts: what is told, the output, the two lists and the memories
 abbrev pub mending : Mended → List ℕ → List ℕ → List ℕ → Memories → Mending
 mending t stream indices numbers m = record { told = t; stream = stream; indices = indices; numbers = numbers; memories = m }
 

@@ -28,6 +28,7 @@ streamIn o = take (o .told .size) (o .stream)
 abbrev pub indicesIn : Mending → List ℕ
 indicesIn o = take (o .told .dropped) (o .indices)
 
+-- the numbers that it has listed: as many as it tells words dropped
 abbrev pub numbersIn : Mending → List ℕ
 numbersIn o = take (o .told .dropped) (o .numbers)
 

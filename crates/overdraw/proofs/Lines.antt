@@ -35,11 +35,13 @@ use Rattle.overdraw.specs.Text.{
 
 -- ---- columns, stored from the last to the first
 
+-- a number in k columns in front of another digit has k bytes
 pub length-front : (k n : ℕ) → length (front k n) ≡ k
 unfolding front
 length-front zero n = refl
 length-front (suc k) n = length-append (front k (n / 10)) (glyph n ∷ []) ∙ rw (length-front k (n / 10)) (add-one k)
 
+-- a number in k columns has k bytes
 pub length-columns : (k n : ℕ) → length (columns k n) ≡ k
 unfolding columns
 length-columns zero n = refl
@@ -67,10 +69,12 @@ columns-parts (suc k) n h = let same : k ≡ suc k - 1 = omega arith in ap (λ (
 
 -- ---- lines
 
+-- the heading has 79 bytes, the line's end included
 pub length-heading : length heading ≡ 79
 unfolding heading
 length-heading = refl
 
+-- the numbers of a count have 64 columns
 pub length-numbers : (c : Count) → length (numbers c) ≡ 64
 unfolding numbers
 length-numbers c =
@@ -112,6 +116,7 @@ module _ (name : List ℕ) where
   pub kind-line : (kind : List ℕ) (c : Count) → length kind ≡ 8 → length (countLine name kind c) ≡ length name + 73
   kind-line kind c eight = omega (arith, length-count name kind c, eight)
 
+  -- the lines of a tally have 365 bytes and five times those of the name
   pub length-tally : (t : Tally) → length (tallyLines name t) ≡ length name * 5 + 365
   unfolding tallyLines
   length-tally t =
@@ -159,6 +164,7 @@ module _ (name : List ℕ) where
       let whole : length (tooLongLine name) ≡ length (name ++ tooLongName ++ (10 ∷ [])) = refl in
       omega (arith, whole, length-append name tooLongName, length-append (name ++ tooLongName) (10 ∷ []))
 
+  -- the lines of a recording have at most 382 bytes and six times those of the name
   pub length-entry : (e : Entry) → length (entryLines name e) ≤ length name * 6 + 382
   unfolding entryLines
   length-entry e = go (e .long)

@@ -43,15 +43,19 @@ totalName = 116 ∷ 111 ∷ 116 ∷ 97 ∷ 108 ∷ 32 ∷ []
 abbrev pub gouraudName : List ℕ
 gouraudName = 103 ∷ 111 ∷ 117 ∷ 114 ∷ 97 ∷ 117 ∷ 100 ∷ 32 ∷ []
 
+-- the name `constant` fills the eight columns
 abbrev pub constantName : List ℕ
 constantName = 99 ∷ 111 ∷ 110 ∷ 115 ∷ 116 ∷ 97 ∷ 110 ∷ 116 ∷ []
 
+-- the name `line0` has three blanks behind it
 abbrev pub line0Name : List ℕ
 line0Name = 108 ∷ 105 ∷ 110 ∷ 101 ∷ 48 ∷ 32 ∷ 32 ∷ 32 ∷ []
 
+-- the name `line1` has three blanks behind it
 abbrev pub line1Name : List ℕ
 line1Name = 108 ∷ 105 ∷ 110 ∷ 101 ∷ 49 ∷ 32 ∷ 32 ∷ 32 ∷ []
 
+-- the name `line2` has three blanks behind it
 abbrev pub line2Name : List ℕ
 line2Name = 108 ∷ 105 ∷ 110 ∷ 101 ∷ 50 ∷ 32 ∷ 32 ∷ 32 ∷ []
 
@@ -59,6 +63,7 @@ line2Name = 108 ∷ 105 ∷ 110 ∷ 101 ∷ 50 ∷ 32 ∷ 32 ∷ 32 ∷ []
 abbrev pub refusalName : List ℕ
 refusalName = 114 ∷ 101 ∷ 102 ∷ 117 ∷ 115 ∷ 97 ∷ 108 ∷ 32 ∷ []
 
+-- the words `too long` fill the eight columns of a kind
 abbrev pub tooLongName : List ℕ
 tooLongName = 116 ∷ 111 ∷ 111 ∷ 32 ∷ 108 ∷ 111 ∷ 110 ∷ 103 ∷ []
 

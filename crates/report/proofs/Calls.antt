@@ -26,6 +26,7 @@ module _ (text out : List ℕ) where
   unfolding writingText concluded
   writes h = rw (room text out h)
 
+  -- a call that puts a text that fits at the front of the buffer, and answers with the place after it, has written the text
   pub done : {left : List ℕ} {n : ℕ} → length text ≤ length out → Put text out 0 left n → wrote (Done n) left ≡ writingText text out
   done h p =
       let all = put-over h p in
@@ -35,6 +36,7 @@ module _ (text out : List ℕ) where
   pub longer : {answer : Bool} → answer ≡ ltb (length out) (length text) → answer ≡ true → wrote NoRoom out ≡ writingText text out
   longer e t = unwritten (ltb-true (length out) (length text) (sym e ∙ t))
 
+  -- where the test answers that the buffer is not shorter than the text, the text fits
   pub fits : {answer : Bool} → answer ≡ ltb (length out) (length text) → answer ≡ false → length text ≤ length out
   fits e t = ltb-false (length out) (length text) (sym e ∙ t)
 
@@ -50,10 +52,12 @@ module _ (text old : List ℕ) {new : List ℕ} (answer : Written) (enough : len
   succeeds : wrote answer new ≡ written text old
   succeeds = e ∙ writes text old enough
 
+  -- where the call answers that it is done, the text stands at the front of the buffer, and its length is told
   pub answer-stands : {n : ℕ} → answer ≡ Done n → Stands text old new n
   answer-stands q =
       let s = rw q at succeeds in stands (ap (λ (o : Outcome). o .size) s) (ap (λ (o : Outcome). o .left) s)
 
+  -- the call never answers that there is no room
   pub answer-fits : answer ≡ NoRoom → ⊥
   answer-fits q =
       let s = ap (λ (o : Outcome). o .refusal) (rw q at succeeds) in omega (arith, s)

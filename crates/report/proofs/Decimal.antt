@@ -33,9 +33,11 @@ unfolding decimal digits
 decimal-more n h =
     rw (le-ltb n 10 h) (ap (λ (l : List ℕ). l ++ ((48 + n % 10) ∷ [])) (digits-enough n (suc (n / 10)) (n / 10) (omega arith) (omega arith)))
 
+-- a number below 10 has one digit
 pub length-small : (n : ℕ) → n < 10 → length (decimal n) ≡ 1
 length-small n h = rw (decimal-small n h)
 
+-- any other number has one digit more than the number without its last digit
 pub length-more : (n : ℕ) → 10 ≤ n → length (decimal n) ≡ length (decimal (n / 10)) + 1
 length-more n h = rw (decimal-more n h) (length-append (decimal (n / 10)) ((48 + n % 10) ∷ []))
 
@@ -52,6 +54,7 @@ decimal-below (suc k) n h = go (ltb n 10) refl (decimal-below k (n / 10) (omega 
 pub decimal-short : (n : ℕ) → n < 2 ^ 64 → length (decimal n) ≤ 20
 decimal-short n h = decimal-below 19 n (omega arith)
 
+-- every number has at least one digit
 pub decimal-some : (n : ℕ) → 1 ≤ length (decimal n)
 decimal-some n = go (ltb n 10) refl
   where

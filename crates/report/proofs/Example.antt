@@ -23,6 +23,7 @@ printed =
     49 ∷ 32 ∷ 48 ∷ 32 ∷ 49 ∷ 53 ∷ 48 ∷ 32 ∷ 49 ∷ 48 ∷ 10 ∷
     48 ∷ 32 ∷ 49 ∷ 32 ∷ 50 ∷ 48 ∷ 48 ∷ 32 ∷ 49 ∷ 48 ∷ 10 ∷ []
 
+-- the text of a run of 13 words that passed 3 pixels, over that picture, is the text of the document
 pub example : report 13 0 3 256 im zm ≡ printed
 unfolding digits decimal field pair placeLine lines named heading report
 example = refl

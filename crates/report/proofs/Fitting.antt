@@ -31,8 +31,10 @@ module _
         report-short line im zm (λ k. omega (arith, small k)) (λ k. omega (arith, low k)) words refusal passed a b c (omega arith) in
         omega (arith, short)
 
+    -- where the call answers that it is done, the text of the run stands at the front of the page, and its length is told
     pub text-stands : {n : ℕ} → answer ≡ Done n → Stands (report words refusal passed line im zm) old new n
     text-stands q = answer-stands (report words refusal passed line im zm) old answer enough e q
 
+    -- the call never answers that there is no room
     pub text-fits : answer ≡ NoRoom → ⊥
     text-fits q = answer-fits (report words refusal passed line im zm) old answer enough e q

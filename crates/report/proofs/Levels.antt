@@ -62,10 +62,12 @@ module _ (span : ℕ) (some : 0 < span) where
 
 -- ---- a range
 
+-- where the least number of a range and its greatest are alike, 0 is the number that shows as 0
 pub base-alike : (r : Range) → r .low ≡ r .high → baseOf r ≡ 0
 unfolding baseOf
 base-alike r e = rw (eq-eqb (r .low) (r .high) e)
 
+-- where they differ, the least number of the range is the one that shows as 0
 pub base-other : (r : Range) → (r .low ≡ r .high → ⊥) → baseOf r ≡ r .low
 unfolding baseOf
 base-other r h = rw (ne-eqb (r .low) (r .high) h)
@@ -138,6 +140,7 @@ module _ (r : Range) (n : ℕ) {base span : ℕ} (e : base ≡ baseOf r) (f : sp
       let none : r .high - baseOf r ≡ 0 = sym (rw e at f) ∙ z in
       rw none (sym (nearest-none (min n (r .high) - baseOf r)))
 
+  -- 255 times a number's share and half the span, divided by the span, is the number's level
   pub level-told : {m share : ℕ} → m ≡ min n (r .high) → share ≡ m - base → (share * 255 + span / 2) / span ≡ levelOf r n
   unfolding levelOf nearest
   level-told {m} {share} g h =
@@ -190,6 +193,7 @@ module _ (depth : Bool) (im zm : List ℕ) where
   unfolding rangeOf
   range-more n = rw (add-one n)
 
+  -- no place at all gives the range from 65535 to 0
   pub range-none : between 65535 0 ≡ rangeOf depth im zm 0
   unfolding rangeOf
   range-none = refl
@@ -293,6 +297,7 @@ module _ (im zm : List ℕ) (left last : ℕ) (e : left ≡ suc last) {i z : ℕ
         let is : isFresh (getD im last 0) (getD zm last 0) ≡ false = sym told ∙ t in
         rw (e, is)
 
+-- where no places are looked at, there are none up to the last that anything was drawn at
 pub drawn-none : (im zm : List ℕ) → drawnPlaces im zm 0 ≡ 0
 unfolding drawnPlaces
 drawn-none im zm = refl

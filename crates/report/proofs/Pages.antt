@@ -17,12 +17,14 @@ use Rattle.report.proofs.Lengths.{length-field, length-pair}
 -- ---- the heading
 
 module _ (most line rows : ℕ) where
+  -- an image's heading is as long as its kind, which has 3 bytes, its pair of width and height, and its greatest number with the line's end
   pub image-heading-parts : length (imageHeading most line rows) ≡ 3 + length (pair line rows 10) + length (field most 10)
   unfolding imageHeading
   image-heading-parts =
       let size = pair line rows 10 in
       omega (arith, length-append (magic ++ size) (field most 10), length-append magic size)
 
+  -- an image's heading is as long as the digits of its three numbers, and 6 bytes more
   pub length-image-heading : length (imageHeading most line rows) ≡ length (decimal line) + length (decimal rows) + length (decimal most) + 6
   length-image-heading = omega (arith, image-heading-parts, length-pair line rows 10, length-field most 10)
 
@@ -42,18 +44,22 @@ over-quotient room row count h = go (ltb (room / row) count) refl
 
 -- a pixel has one byte, or two
 module _ (most : ℕ) where
+  -- where no number is above 255, a pixel has one byte
   pub size-one : most < 256 → pixelSize most ≡ 1
   unfolding pixelSize
   size-one h = rw (lt-ltb most 256 h)
 
+  -- where a number may be above 255, a pixel has two bytes
   pub size-two : 256 ≤ most → pixelSize most ≡ 2
   unfolding pixelSize
   size-two h = rw (le-ltb most 256 h)
 
+  -- where no number is above 255, a pixel's byte is its number mod 256
   pub pixel-one : (n : ℕ) → most < 256 → pixel most n ≡ n % 256 ∷ []
   unfolding pixel
   pixel-one n h = rw (lt-ltb most 256 h)
 
+  -- where a number may be above 255, a pixel is its number's two bytes
   pub pixel-two : (n : ℕ) → 256 ≤ most → pixel most n ≡ twoBytes n
   unfolding pixel
   pixel-two n h = rw (le-ltb most 256 h)
@@ -73,6 +79,7 @@ module _ (most : ℕ) (memory : List ℕ) where
   unfolding numbers
   numbers-more from n = rw (add-one n)
 
+  -- the numbers of n places have n times the bytes of a pixel
   pub length-numbers : (from n : ℕ) → length (numbers most memory from n) ≡ pixelSize most * n
   unfolding numbers
   length-numbers from zero = sym (mul-zero (pixelSize most))
@@ -109,6 +116,7 @@ module _ (most : ℕ) (memory : List ℕ) where
       let there = List·getD-eq-default memory 0 {n = from + n} (omega arith) in
       rw (numbers-beyond from n h, here, there)
 
+  -- numbers from past a memory's end on are the same as those from its end on
   pub numbers-from : (from n : ℕ) → numbers most memory (min from (length memory)) n ≡ numbers most memory from n
   numbers-from from n = go (ltb from (length memory)) refl
     where
@@ -123,6 +131,7 @@ module _ (most : ℕ) (memory : List ℕ) where
           rw e (numbers-beyond from n high)
 
 module _ (most line : ℕ) (memory : List ℕ) where
+  -- a row has the bytes of a pixel for each of its places
   pub length-row : (y : ℕ) → length (rowBytes most line memory y) ≡ pixelSize most * line
   unfolding rowBytes
   length-row y = length-numbers most memory (y * line) line
@@ -132,6 +141,7 @@ module _ (most line : ℕ) (memory : List ℕ) where
   unfolding down
   down-more below k = rw (add-one k)
 
+  -- k rows have k times the bytes of a row
   pub length-down : (below k : ℕ) → length (down most line memory below k) ≡ k * (pixelSize most * line)
   unfolding down
   length-down below zero = omega arith

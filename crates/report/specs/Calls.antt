@@ -24,6 +24,7 @@ abbrev pub writtenNumber : Written → ℕ
 writtenNumber (Done n) = 0
 writtenNumber NoRoom = 13
 
+-- an answer that is done tells the length of what was written, and one without room tells 0
 abbrev pub writtenSize : Written → ℕ
 writtenSize (Done n) = n
 writtenSize NoRoom = 0

@@ -17,6 +17,7 @@ chosen depth i z = cond depth z i
 
 -- ---- the range
 
+-- a range, by its least number and its greatest
 abbrev pub between : ℕ → ℕ → Range
 between low high = record { low = low; high = high }
 

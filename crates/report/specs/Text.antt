@@ -30,6 +30,7 @@ pair m n after = field m 32 ++ field n after
 abbrev pub columnOf : ℕ → ℕ → ℕ
 columnOf line place = place % line
 
+-- a place's row is the place div the line length
 abbrev pub rowOf : ℕ → ℕ → ℕ
 rowOf line place = place / line
 
@@ -52,9 +53,11 @@ named name n after = name ++ field n after
 abbrev pub wordsName : List ℕ
 wordsName = 119 ∷ 111 ∷ 114 ∷ 100 ∷ 115 ∷ 32 ∷ []
 
+-- the second is `refusal `, before the number that refused a word, or 0
 abbrev pub refusalName : List ℕ
 refusalName = 114 ∷ 101 ∷ 102 ∷ 117 ∷ 115 ∷ 97 ∷ 108 ∷ 32 ∷ []
 
+-- the third is `passed `, before the number of pixels that passed
 abbrev pub passedName : List ℕ
 passedName = 112 ∷ 97 ∷ 115 ∷ 115 ∷ 101 ∷ 100 ∷ 32 ∷ []
 

@@ -15,6 +15,7 @@ use Rattle.show.specs.declared.Asked.{Asked}
 
 -- ---- digits
 
+-- where no byte is left, none is anything but a digit
 pub digits-end : digitsOnly [] ≡ true
 unfolding digitsOnly
 digits-end = refl
@@ -57,6 +58,7 @@ pub value-more : (arg : List ℕ) (n k : ℕ) {r : ℕ} → k < length arg → r
 unfolding valueOf
 value-more arg n k h e = rw (e, drop-cons arg k 0 h, add-one k) (value-cut (n * 10 + getD arg k 0 % 16) 1048577 (drop (suc k) arg))
 
+-- where no digit is left, a number of at most 1,048,577 is told as it stands
 pub value-end : (n : ℕ) → n ≤ 1048577 → min (valueOf n []) 1048577 ≡ n
 unfolding valueOf
 value-end n h = omega arith

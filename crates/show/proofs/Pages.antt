@@ -61,6 +61,7 @@ page-sized line most count h = go (ltb most 256)
     go false = h
 
 module _ (line below : ℕ) where
+  -- a page has no more rows than are left
   pub page-low : pageRows line below ≤ below
   unfolding pageRows
   page-low = omega arith

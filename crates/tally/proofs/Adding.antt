@@ -81,9 +81,11 @@ count-none Line0 = refl
 count-none Line1 = refl
 count-none Line2 = refl
 
+-- a tally that counts nothing is balanced in every kind
 pub none-balanced : EachBalanced noTally
 none-balanced = record { at = λ kind. rw (count-none kind) refl }
 
+-- two tallies that are balanced in every kind are so when added
 pub added-balanced : (t u : Tally) → EachBalanced t → EachBalanced u → EachBalanced (added t u)
 added-balanced t u h k = record { at = λ kind. rw (count-added kind t u) (together-balanced (countIn kind t) (countIn kind u) (h .at kind) (k .at kind)) }
 
@@ -120,10 +122,12 @@ only-balanced kind c h = record { at = go kind }
 
 -- ---- within bounds
 
+-- a tally that counts nothing is within what any number of words can come to
 pub none-each : (n : ℕ) → EachWithin n noTally
 none-each n =
     record { gouraud = none-within n; constant = none-within n; line0 = none-within n; line1 = none-within n; line2 = none-within n }
 
+-- a count of one kind that is within what n words can come to makes a tally that is so in every kind
 pub only-each : (n : ℕ) (kind : Kind) (c : Count) → Within n c → EachWithin n (onlyOf kind c)
 only-each n Gouraud c h = record { gouraud = h; constant = none-within n; line0 = none-within n; line1 = none-within n; line2 = none-within n }
 only-each n Constant c h = record { gouraud = none-within n; constant = h; line0 = none-within n; line1 = none-within n; line2 = none-within n }
@@ -131,6 +135,7 @@ only-each n Line0 c h = record { gouraud = none-within n; constant = none-within
 only-each n Line1 c h = record { gouraud = none-within n; constant = none-within n; line0 = none-within n; line1 = h; line2 = none-within n }
 only-each n Line2 c h = record { gouraud = none-within n; constant = none-within n; line0 = none-within n; line1 = none-within n; line2 = h }
 
+-- what is within the bound of some words is within that of more words
 pub each-more : (m n : ℕ) (t : Tally) → m ≤ n → EachWithin m t → EachWithin n t
 each-more m n t l h =
     record {
@@ -141,6 +146,7 @@ each-more m n t l h =
       line2 = within-more m n (t .line2) l (h .line2);
     }
 
+-- the sum of a tally within the bound of m words and of one within that of n is within the bound of m + n
 pub added-each : (m n : ℕ) (t u : Tally) → EachWithin m t → EachWithin n u → EachWithin (m + n) (added t u)
 added-each m n t u h k =
     record {
@@ -159,6 +165,7 @@ kind-within n Line0 t h = h .line0
 kind-within n Line1 t h = h .line1
 kind-within n Line2 t h = h .line2
 
+-- what at most 2^32 words can come to, numbers of 64 bits keep whole
 pub kept-same : (n : ℕ) (t : Tally) → n ≤ 4294967296 → EachWithin n t → kept t ≡ t
 kept-same n t l h =
     rw (
@@ -171,6 +178,7 @@ kept-same n t l h =
 
 -- ---- what was completed, and what passed
 
+-- a tally of one kind has as many figures in all as its count
 pub figures-only : (kind : Kind) (c : Count) → figuresIn (onlyOf kind c) ≡ c .figures
 figures-only Gouraud c = omega arith
 figures-only Constant c = omega arith
@@ -178,9 +186,11 @@ figures-only Line0 c = omega arith
 figures-only Line1 c = omega arith
 figures-only Line2 c = omega arith
 
+-- what passed in a sum of two tallies is what passed in both
 pub passed-added : (t u : Tally) → passedIn (added t u) ≡ passedIn t + passedIn u
 passed-added t u = omega arith
 
+-- a tally of one kind has as many pixels passed in all as its count
 pub passed-only : (kind : Kind) (c : Count) → passedIn (onlyOf kind c) ≡ c .passed
 passed-only Gouraud c = omega arith
 passed-only Constant c = omega arith
@@ -215,6 +225,7 @@ total-balanced-from : (ts : List Tally) (t : Tally) → EachBalanced t → Every
 total-balanced-from [] t h every = h
 total-balanced-from (u ∷ ts) t h every = total-balanced-from ts (added t u) (added-balanced t u h (every .0)) (every .1)
 
+-- the total of tallies that are balanced in every kind is so too
 pub total-balanced : (ts : List Tally) → EveryBalanced ts → EachBalanced (totalOf ts)
 unfolding totalOf
 total-balanced ts every = total-balanced-from ts noTally none-balanced every
@@ -230,6 +241,7 @@ total-each-from n (u ∷ ts) m t h every =
     let same : m + n + length ts * n ≡ m + length (u ∷ ts) * n = omega arith in
     subst (λ (k : ℕ). EachWithin k (foldl added (added t u) ts)) same (total-each-from n ts (m + n) (added t u) (added-each m n t u h (every .0)) (every .1))
 
+-- the total of tallies that are each within the bound of n words is within that of n words for each
 pub total-each : (n : ℕ) (ts : List Tally) → EveryWithin n ts → EachWithin (length ts * n) (totalOf ts)
 unfolding totalOf
 total-each n ts every = subst (λ (k : ℕ). EachWithin k (foldl added noTally ts)) (zero-add (length ts * n)) (total-each-from n ts 0 noTally (none-each 0) every)

@@ -22,6 +22,7 @@ pub entered-none : {e e′ : Entry} {t : Tally} (b : Bool) (n : ℕ) → t ≡ n
 entered-none {e} b n none is so = is ∙ ap (entry b n) none ∙ sym so
 
 module _ (bytes : List ℕ) where
+  -- a recording of more than 8,192 bytes is entered as too long, with nothing counted
   pub entry-long : 8192 < length bytes → entryOf bytes ≡ entry true 0 noTally
   unfolding entryOf
   entry-long h = rw (lt-ltb 8192 (length bytes) h)
@@ -31,6 +32,7 @@ module _ (bytes : List ℕ) where
     unfolding flawOf
     flaw-is some = flaw-told bytes (cond (eqb (length (fresh 8192 .i)) (length (fresh 8192 .z))) 0 2) (λ e. some (number ∙ e)) ∙ sym number
 
+    -- a recording that the checks of its bytes refuse is entered with their number, and nothing counted
     pub entry-flawed : n ≢ 0 → entryOf bytes ≡ entry false n noTally
     unfolding entryOf running talliedOf
     entry-flawed some = rw (le-ltb 8192 (length bytes) short, flaw-is some, ne-eqb n 0 some)
@@ -38,6 +40,7 @@ module _ (bytes : List ℕ) where
     like : eqb (length (fresh 8192 .i)) (length (fresh 8192 .z)) ≡ true
     like = eq-eqb _ _ (length-replicate {A = ℕ} 8192 0 ∙ sym (length-replicate {A = ℕ} 8192 65535))
 
+    -- any other recording is entered with what its words come to on a fresh picture
     pub entry-run : n ≡ 0 → entryOf bytes ≡ entryFrom bytes (fresh 8192)
     unfolding entryOf running talliedOf
     entry-run none = rw (le-ltb 8192 (length bytes) short, lengths-told bytes (fresh 8192) (sym number ∙ none) true like)

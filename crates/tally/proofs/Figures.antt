@@ -94,12 +94,15 @@ module _ (r : Registers) (f : Completed) (i z : List ℕ) {q : Registers} {i′ 
   muted-drew : picture i′ z′ n ≡ drawn (penOf (mutedOf r)) (figureOffers (rowsOf (r .frame) (length i) (length z)) (mutedOf r) f) (picture i z 0)
   muted-drew = drew ∙ ap (λ (s : Registers). drawn (penOf s) (figureOffers (rowsOf (s .frame) (length i) (length z)) s f) (picture i z 0)) is
 
+  -- a figure drawn with muted registers tells as many pixels passed as it offers with its own
   pub muted-count : n ≡ offeredOf (figureOffers (rowsOf (r .frame) (length i) (length z)) r f)
   muted-count = ap (λ (p : Picture). p .passed) muted-drew ∙ muted-passed (rowsOf (r .frame) (length i) (length z)) r f (picture i z 0) ∙ zero-add _
 
+  -- and it leaves the I memory as it was
   pub muted-i : i′ ≡ i
   muted-i = ap (λ (p : Picture). p .i) muted-drew ∙ drawn-leaves-i (penOf (mutedOf r)) _ (picture i z 0) refl
 
+  -- and it leaves the Z memory as it was
   pub muted-z : z′ ≡ z
   muted-z = ap (λ (p : Picture). p .z) muted-drew ∙ drawn-leaves-z (penOf (mutedOf r)) _ (picture i z 0) refl
 
@@ -117,12 +120,14 @@ offered-low r w m e =
 -- ---- a figure's count, by its kind
 
 module _ (r : Registers) (c : Count) where
+  -- a count within what n words can come to stays so as the tally of a figure
   pub figure-each : (n : ℕ) (f : Completed) → Within n c → EachWithin n (figureTally r f c)
   unfolding figureTally
   figure-each n Nothing h = none-each n
   figure-each n (Triangle a b d) h = only-each n (triangleKind (isConstant r)) c h
   figure-each n (Segment a b) h = only-each n (lineKind (modeOf (r .modes .lmode))) c h
 
+  -- a balanced count makes a tally of a figure that is balanced in every kind
   pub figure-tally-balanced : (f : Completed) → Balanced c → EachBalanced (figureTally r f c)
   unfolding figureTally
   figure-tally-balanced Nothing h = none-balanced

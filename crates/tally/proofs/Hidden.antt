@@ -32,6 +32,7 @@ step-hidden pen o p = go (hides pen (o .kind) (o .z) (getD (p .z) (spot pen o) 0
     go true e = rw (step-fail pen (o .kind) (spot pen o) (o .i) (o .z) p (passes-unhidden pen (o .kind) (o .z) _ ∙ ap not e))
     go false e = rw (step-pass pen (o .kind) (spot pen o) (o .i) (o .z) p (passes-unhidden pen (o .kind) (o .z) _ ∙ ap not e)) (omega arith)
 
+-- what drawing some pixels adds to the passed, and how many of them are hidden, come to all of them
 pub drawn-hidden : (pen : Pen) (os : List Offer) (p : Picture) → drawn pen os p .passed + hiddenOf pen os p ≡ p .passed + length os
 unfolding drawn hiddenOf
 drawn-hidden pen [] p = refl
@@ -47,6 +48,7 @@ untested-hides : (pen : Pen) (kind : Kind) (z old : ℕ) → pen .depth ≡ fals
 unfolding hides
 untested-hides pen kind z old h = ap (λ (b : Bool). b && isDeep kind && not (wins kind (comparedOf z old))) h
 
+-- without the depth test no pixel is hidden, whatever the picture
 pub untested-hidden : (pen : Pen) (os : List Offer) (p : Picture) → pen .depth ≡ false → hiddenOf pen os p ≡ 0
 unfolding hiddenOf
 untested-hidden pen [] p h = refl

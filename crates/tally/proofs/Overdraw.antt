@@ -122,6 +122,7 @@ every-within : (streams : List (List ℕ)) → EveryWithin 3276 (map tallyOf str
 every-within [] = tt
 every-within (bytes ∷ streams) = (stream-each bytes, every-within streams)
 
+-- the total of some streams is within what 3,276 words for each of them can come to
 pub streams-small : (streams : List (List ℕ)) → EachWithin (length streams * 3276) (talliesOf streams)
 streams-small streams =
     subst (λ (n : ℕ). EachWithin (n * 3276) (talliesOf streams)) (length-map streams tallyOf) (total-each 3276 (map tallyOf streams) (every-within streams))
@@ -183,6 +184,7 @@ run-passed bytes m = go (eqb (flawOf bytes m) 0)
 
 -- ---- all of it
 
+-- what is promised of the counts of a word, a run and some recordings holds
 pub overdraw : Overdraw
 overdraw =
     record {

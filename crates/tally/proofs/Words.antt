@@ -56,10 +56,12 @@ module _ (r : Registers) (w : Word) (m : Memories) where
   unfolding wordTally
   word-accepted e = rw (eq-eqb (numberOf chip r w m) 0 e)
 
+  -- of each kind, what a word offered passed or is hidden
   pub word-balanced : EachBalanced (wordTally r w m)
   word-balanced =
       word-either EachBalanced (λ e. figure-tally-balanced r _ (completedBy r w) (figure-balanced (penOf r) (pixelsOf r w m) (m .i) (m .z))) none-balanced
 
+  -- of each kind, a word comes to no more than one figure of at most 2^28 pixels
   pub word-each : EachWithin 1 (wordTally r w m)
   word-each =
       word-either (EachWithin 1) (λ e. figure-each r _ 1 (completedBy r w) (count-within (penOf r) (pixelsOf r w m) (m .i) (m .z) (offered-low r w m e)))
@@ -122,12 +124,14 @@ module _ (r : Registers) (w : Word) (i z : List ℕ) {word : Word} {f : Complete
     (is : word ≡ w) (completes : f ≡ completedBy r word)
     (before : (k ≡ offeredOf (figureOffers (rowsOf (r .frame) (length i) (length z)) r f)) × (i₁ ≡ i) × (z₁ ≡ z))
     (told : outcome n p r′ m′ ≡ stepOf chip r w (memories i₁ z₁)) where
+  -- what was told of the word taken after the count is its step over the memories as they were before the count
   pub taken-told : outcome n p r′ m′ ≡ stepOf chip r w (memories i z)
   taken-told = told ∙ ap₂ (λ (a b : List ℕ). stepOf chip r w (memories a b)) (before .1) (before .2)
 
   figure-is : f ≡ completedBy r w
   figure-is = completes ∙ ap (completedBy r) is
 
+  -- of an accepted word no more pixels pass than were counted as offered
   pub taken-low : n ≡ 0 → p ≤ k
   taken-low e =
       omega (
@@ -136,6 +140,7 @@ module _ (r : Registers) (w : Word) (i z : List ℕ) {word : Word} {f : Complete
         before .0 ∙ ap (λ (g : Completed). offeredOf (figureOffers (rowsOf (r .frame) (length i) (length z)) r g)) figure-is,
       )
 
+  -- the tally made of the offers counted, what passed and the difference is the tally of the word
   pub taken-tally : {t : Tally} → t ≡ cond (eqb n 0) (figureTally r f (count 1 k p (k - p))) noTally → t ≡ wordTally r w (memories i z)
   taken-tally e = e ∙ word-counted r w (memories i z) taken-told figure-is (before .0)
 
@@ -171,6 +176,7 @@ module _ (bytes : List ℕ) (m₀ : Memories) where
     pub run : RunReached resetOf bytes m₀ m r (passedIn t % 2 ^ 64) k
     pub each : EachWithin k t
 
+  -- before the first word, with the registers of a reset and nothing counted, the loop's claim holds
   pub reached-start : {r : Registers} {t : Tally} → r ≡ resetOf → t ≡ noTally → Reached m₀ r t 0
   reached-start e f =
       rw (f)
@@ -235,11 +241,13 @@ module _ (bytes : List ℕ) (m₀ : Memories) where
         → e ≡ entry false (runOf (stepOf chip) resetOf (wordsOf bytes) m₀ .refusal) (talliedFrom resetOf m₀ noTally (wordsOf bytes))
     ended {e} n is h = is ∙ ap₂ (λ (a : ℕ) (b : Tally). entry false a b) (sym (h .1)) (sym (h .0))
 
+    -- where the next word is refused, the entry with its number and the tally so far is the entry of the whole stream
     pub ended-halt : {e : Entry} {n p : ℕ} {r′ : Registers} {m′ : Memories} → k < length (unpackOf bytes)
         → outcome n p r′ m′ ≡ stepOf chip r (wordOf (wordAt bytes k)) m → n ≢ 0 → e ≡ entry false n t
         → e ≡ entry false (runOf (stepOf chip) resetOf (wordsOf bytes) m₀ .refusal) (talliedFrom resetOf m₀ noTally (wordsOf bytes))
     ended-halt {n} left told some is = ended n is (reached-halt left told some)
 
+    -- where no word is left, the entry with refusal 0 and the tally so far is the entry of the whole stream
     pub ended-whole : {e : Entry} → length (unpackOf bytes) ≤ k → e ≡ entry false 0 t
         → e ≡ entry false (runOf (stepOf chip) resetOf (wordsOf bytes) m₀ .refusal) (talliedFrom resetOf m₀ noTally (wordsOf bytes))
     ended-whole past is = ended 0 is (reached-end past)

@@ -206,12 +206,15 @@ module _ (x y : ℕ) where
             ≡ drawn (penOf (aimed x y r)) (figureOffers (rowsOf (r .frame) (length i) (length z)) (aimed x y r) f) (picture i z 0)
         aimed-drew = drew ∙ ap (λ (s : Registers). drawn (penOf s) (figureOffers (rowsOf (s .frame) (length i) (length z)) s f) (picture i z 0)) is
 
+        -- what such a drawing counts as passed is how many pixels of the figure pass at (x, y)
         pub aimed-count : n ≡ passesAt x y r f i z
         unfolding passesAt
         aimed-count = ap (λ (p : Picture). p .passed) aimed-drew
 
+        -- such a drawing leaves the I memory as it was
         pub aimed-i : i′ ≡ i
         aimed-i = ap (λ (p : Picture). p .i) aimed-drew ∙ drawn-leaves-i (penOf (aimed x y r)) _ (picture i z 0) refl
 
+        -- and it leaves the Z memory as it was
         pub aimed-z : z′ ≡ z
         aimed-z = ap (λ (p : Picture). p .z) aimed-drew ∙ drawn-leaves-z (penOf (aimed x y r)) _ (picture i z 0) refl

@@ -30,6 +30,7 @@ pub left-neither : (b c : Bool) → not b || c ≡ false → (b ≡ true) × (c 
 left-neither true c e = (refl, e)
 left-neither false c e = (sym e, ap (λ (t : Bool). cond t c false) e)
 
+-- where something is left, the index is that of a word of the recording
 pub left-index : (bytes : List ℕ) (refusal index : ℕ) → isOver bytes refusal index ≡ false → index < length (unpackOf bytes)
 unfolding isOver
 left-index bytes refusal index e = leb-false _ _ (left-neither (eqb refusal 0) (leb (length (unpackOf bytes)) index) e .1)
@@ -45,6 +46,7 @@ module _ (a : Told) (w : Word) (i z : List ℕ) {n p : ℕ} {q : Registers} {i�
       let left = refused-leaves chip (a .registers) w (memories i z) told (eqb-false n 0 e) in
       ap₂ (λ (r : Registers) (m : Memories). ran n (a .index) (a .sum) r m) (left .1) (left .2)
 
+  -- the run that the code has after an answer, with the memories left, is the run that has taken the word
   pub moved-taken : {b : Told} → b ≡ moved a (record { refusal = n; passed = p; registers = q })
       → standing b i′ z′ ≡ taken (standing a i z) (stepOf chip (a .registers) w (memories i z))
   unfolding moved
@@ -59,6 +61,7 @@ module _ (bytes : List ℕ) (a : Told) (i z : List ℕ) {w n p : ℕ} {q : Regis
   unfolding wordOf
   here = told ∙ ap (λ (v : ℕ). stepOf chip (a .registers) (decode (v / 65536) (v % 65536)) (memories i z)) word
 
+  -- the next word is taken where a call tells it with its meaning and its answer, and moves its run by that answer
   pub takes : {means : Meaning} {run : Told}
       → means ≡ meaningOf (a .registers) (decode (w / 65536) (w % 65536))
       → run ≡ moved a (record { refusal = n; passed = p; registers = q })
@@ -86,10 +89,12 @@ module _ (bytes : List ℕ) (a : Told) (i z : List ℕ) where
     unfolding onward
     turns-over {line} {old} {at} f = record { run = rw e; text = laid-as (sym f) (laid-nothing old at) }
 
+    -- where nothing is left there is no line
     pub line-over : lineAt bytes (standing a i z) ≡ []
     unfolding lineAt
     line-over = rw e
 
+    -- where nothing is left there is no line with a pixel's numbers either
     pub watch-over : (x y : ℕ) → watchAt x y bytes (standing a i z) ≡ []
     unfolding watchAt
     watch-over x y = rw e
@@ -101,6 +106,7 @@ module _ (bytes : List ℕ) (a : Told) (i z : List ℕ) where
     unfolding onward
     turns-next f p = record { run = rw e (k .run); text = laid-as f p }
 
+    -- where a word is left, the line of what was traced is the line of the next word
     pub line-next : traceLine (t .traced) ≡ lineAt bytes (standing a i z)
     unfolding lineAt
     line-next = rw (e, k .traced)

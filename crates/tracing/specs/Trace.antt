@@ -22,6 +22,7 @@ use Rattle.tracing.specs.declared.Turn.{Turn}
 use Rattle.tracing.specs.declared.next.Taken.{Taken}
 use Rattle.tracing.specs.Meaning.{meaningOf}
 
+-- a run of the chip: the refusal, the index, the sum, the registers and the memories
 abbrev pub Run : Type 0
 Run = Ran Registers Memories
 

@@ -71,6 +71,7 @@ hitLine x y bytes a =
     (numbersAt (a .registers .frame) x y (answerTo bytes a .memories .i) (answerTo bytes a .memories .z)))
     []
 
+-- the line of the next word, if it has a pixel at (x, y); none where nothing is left
 unfoldable pub watchAt : ℕ → ℕ → List ℕ → Run → List ℕ
 watchAt x y bytes a = cond (isOver bytes (a .refusal) (a .index)) [] (hitLine x y bytes a)
 
