@@ -1,9 +1,9 @@
--- What an edge keeps of a row, told by one number that is carried from row to row: how far the edge is from keeping column 0 where it falls, so that it bounds
--- the columns from the left, and how far from leaving it outside where it does not. Assumes nothing.
+-- What an edge keeps of a row, told by one number that is carried from row to row modulo 2 ^ 64: over the edge's height it is the first column that is kept where
+-- the edge falls, so that it bounds the columns from the left, and the first that is left outside where it does not. Assumes nothing.
 use mathlib.Core.Path.{_≡_, refl, sym, ap, _∙_}
 use mathlib.Core.Bool.{Bool, true, false, true≢false}
-use Prim.Native.Nat.{ℕ, _+_, _*_, _-_, _/_, _≤_, _<_, zero-le, min, max}
-use native.Mathlib.Nat.{le-refl, le-of-lt, min-le-left, mul-comm, mul-add, add-mul, add-sub-of-le, mul-le-mul-right, le-div-iff-mul-le}
+use Prim.Native.Nat.{ℕ, _+_, _*_, _-_, _/_, _%_, _^_, _≤_, _<_, zero-le, min, max}
+use native.Mathlib.Nat.{le-refl, le-of-lt, min-le-left, mul-comm, mul-add, add-mul, add-sub-of-le, mul-le-mul-right, le-div-iff-mul-le, add-comm, add-div-right, div-eq-of-lt, mod-add-mod, mod-eq-of-lt}
 use native.Mathlib.Omega.{arith}
 use lib.Dec.{ltb}
 use borrow.Author.Tests.{ltb-true, ltb-false, lt-ltb, le-ltb}
@@ -11,7 +11,7 @@ use Rattle.picture.specs.declared.Vertex.{Vertex}
 use Rattle.triangle.specs.declared.Side.{Side}
 use Rattle.triangle.specs.declared.Span.{Span}
 use Rattle.triangle.specs.Edge.{plusOf, minusOf, closed}
-use Rattle.triangle.specs.Loops.{short, middle, Keeps, Stands, Bounds, Cuts}
+use Rattle.triangle.specs.Loops.{short, Keeps, Stands, Bounds, Cuts}
 use Rattle.triangle.proofs.Plane.{product-fits, plus-from, minus-from, up-plus, up-minus, first-in, first-out, end-in, end-out, max-le, max-le-r, lt-min, lt-min-r, le-of-not, lt-of-not}
 
 -- ---- the columns that an edge keeps
@@ -46,9 +46,9 @@ module _ (a b : Vertex) (y : ℕ) where
         (λ k. le-of-not (λ g. first-out p m (a .y) (b .y) x h l (rw e at g) (of x k))),
       ))
 
-  fall-none : b .y < a .y → p < m → 65536 * (a .y - b .y) ≤ m - p - 1 → Bounds a b y 65536
+  fall-none : b .y < a .y → p < m → 65535 * (a .y - b .y) ≤ m - p - 1 → Bounds a b y 65536
   fall-none h l far =
-      let q : 65536 ≤ (m - p - 1) / (a .y - b .y) = (le-div-iff-mul-le {k = a .y - b .y} {x = 65536} {y = m - p - 1} (omega arith)) .1 far in
+      let q : 65535 ≤ (m - p - 1) / (a .y - b .y) = (le-div-iff-mul-le {k = a .y - b .y} {x = 65535} {y = m - p - 1} (omega arith)) .1 far in
       fall 65536 h (λ x u. ((λ g. absurd (omega arith)), (λ k. absurd (first-out p m (a .y) (b .y) x h l (omega (arith, q)) (of x k)))))
 
   rise-none : a .y ≤ b .y → p < m → Bounds a b y 0
@@ -62,7 +62,7 @@ module _ (a b : Vertex) (y : ℕ) where
         (λ k. lt-of-not (λ g. end-out p m (a .y) (b .y) x h l (rw e at g) (of x k))),
       ))
 
-  rise-all : a .y ≤ b .y → m ≤ p → 65536 * (b .y - a .y) ≤ p - m → Bounds a b y 65536
+  rise-all : a .y ≤ b .y → m ≤ p → 65535 * (b .y - a .y) ≤ p - m → Bounds a b y 65536
   rise-all h l far =
       rise 65536 h
       (λ x u. (
@@ -73,47 +73,79 @@ module _ (a b : Vertex) (y : ℕ) where
               ap (λ (k : ℕ). k * x) (add-sub-of-le h),
               add-mul (a .y) (b .y - a .y) x,
               mul-comm (b .y - a .y) x,
-              mul-le-mul-right {m = x} {n = 65536} (b .y - a .y) (omega arith),
+              mul-le-mul-right {m = x} {n = 65535} (b .y - a .y) (omega arith),
             ))),
         (λ k. u),
       ))
 
 -- ---- the number of a side
 
-module _ (a b : Vertex) (y : ℕ) (s : Side) (k : Stands a b y s) where
-  falls-or-rises : {A : Type 0} → (b .y < a .y → A) → (a .y ≤ b .y → A) → A
-  falls-or-rises {A} f g = go (ltb (b .y) (a .y)) refl
-    where
-      go : (c : Bool) → ltb (b .y) (a .y) ≡ c → A
-      go true q = f (ltb-true (b .y) (a .y) q)
-      go false q = g (ltb-false (b .y) (a .y) q)
+-- a test of two numbers
+either : {A : Type 0} → (m n : ℕ) → (m < n → A) → (n ≤ m → A) → A
+either {A} m n f g = go (ltb m n) refl
+  where
+    go : (c : Bool) → ltb m n ≡ c → A
+    go true q = f (ltb-true m n q)
+    go false q = g (ltb-false m n q)
 
-  -- below the middle it bounds nothing, or leaves nothing
-  pub bound-low : s .at < middle → Bounds a b y 0
-  bound-low l = falls-or-rises (λ h. fall-all a b y h (omega (arith, k .falls h .0))) (λ h. rise-none a b y h (omega (arith, k .rises h .0)))
+pub short-low : (c : Bool) → short c ≤ 1
+short-low true = omega arith
+short-low false = omega arith
 
-  -- above it a quotient tells
-  pub bound-at : (r : ℕ) → middle ≤ s .at → s .at - middle < 65536 * s .height .tall → r ≡ (s .at - middle) / s .height .tall + 1 → Bounds a b y r
-  bound-at r l near e =
-      falls-or-rises
-      (λ h.
-      let is = k .falls h .0 in
-      let v : s .at - middle ≡ m a b y - p a b y - 1 = omega (arith, is) in
-      let tall : s .height .tall ≡ a .y - b .y = omega (arith, k .height .is) in
-      fall-first a b y r h (omega (arith, is)) (e ∙ rw (v, tall)))
-      (λ h.
-      let is = k .rises h .0 in
-      let v : s .at - middle ≡ p a b y - m a b y = omega (arith, is) in
-      let tall : s .height .tall ≡ b .y - a .y = omega (arith, k .height .is) in
-      rise-end a b y r (omega (arith, tall, near)) (omega (arith, is)) (e ∙ rw (v, tall)))
+-- a quotient with its divisor added once, and one below its divisor
+over-once : (v n d q : ℕ) → 0 < d → n ≡ v + d → q ≡ n / d → q ≡ v / d + 1
+over-once v n d q pos e h = h ∙ ap (λ (k : ℕ). k / d) e ∙ add-div-right v pos
 
-  -- far above it no column is bounded, or none is left
-  pub bound-far : middle ≤ s .at → 65536 * s .height .tall ≤ s .at - middle → Bounds a b y 65536
+over-none : (n d q : ℕ) → n < d → q ≡ n / d → q ≡ 0
+over-none n d q l h = h ∙ div-eq-of-lt l
+
+module _ (a b : Vertex) (y : ℕ) (s : Side) (k : Stands a b y s) (tall : s .height .tall ≤ 65535)
+    (low : plusOf (a .x) (a .y) (b .x) (b .y) 0 y ≤ 12884508675) (few : minusOf (a .x) (a .y) (b .x) (b .y) 0 y ≤ 12884508675) where
+  -- a number that is not large is what it says
+  fall-is : b .y < a .y → s .at ≤ 68719476736 → s .at + p a b y + 1 ≡ m a b y + s .height .tall
+  fall-is h l = omega (arith, k .falls h .0, low)
+
+  rise-is : a .y ≤ b .y → s .at ≤ 68719476736 → s .at + m a b y ≡ p a b y + s .height .tall
+  rise-is h l = omega (arith, k .rises h .0, few, short-low (closed a b))
+
+  -- a large one stands for one below 0, which bounds nothing, or leaves nothing
+  pub bound-low : 68719476736 < s .at → Bounds a b y 0
+  bound-low l =
+      either (b .y) (a .y)
+      (λ h. fall-all a b y h (omega (arith, k .falls h .0, k .fits, few, short-low (closed a b))))
+      (λ h. rise-none a b y h (omega (arith, k .rises h .0, k .fits, low, few, l, short-low (closed a b))))
+
+  -- others tell by a quotient
+  module _ (r : ℕ) (near : s .at < 65536 * s .height .tall) (e : r ≡ s .at / s .height .tall) where
+    at-fall : b .y < a .y → Bounds a b y r
+    at-fall h =
+        let is = fall-is h (omega (arith, near, tall)) in
+        let same : s .height .tall ≡ a .y - b .y = omega (arith, k .height .is) in
+        either (p a b y) (m a b y)
+        (λ l. fall-first a b y r h l (rw same at (over-once (m a b y - p a b y - 1) (s .at) (s .height .tall) r (omega (arith, same)) (omega (arith, is)) e)))
+        (λ l. rw (over-none (s .at) (s .height .tall) r (omega (arith, is)) e) (fall-all a b y h l))
+
+    at-rise : a .y ≤ b .y → Bounds a b y r
+    at-rise h =
+        let is = rise-is h (omega (arith, near, tall)) in
+        let same : s .height .tall ≡ b .y - a .y = omega (arith, k .height .is) in
+        either (p a b y) (m a b y)
+        (λ l. rw (over-none (s .at) (s .height .tall) r (omega (arith, is)) e) (rise-none a b y h l))
+        (λ l.
+        rise-end a b y r (omega (arith, same, near)) l
+        (rw same at (over-once (p a b y - m a b y) (s .at) (s .height .tall) r (omega (arith, near)) (omega (arith, is)) e)))
+
+    pub bound-at : Bounds a b y r
+    bound-at = either (b .y) (a .y) at-fall at-rise
+
+  -- far above 0 no column is bounded, or none is left
+  pub bound-far : s .at ≤ 68719476736 → 65536 * s .height .tall ≤ s .at → Bounds a b y 65536
   bound-far l far =
-      falls-or-rises
-      (λ h. fall-none a b y h (omega (arith, k .falls h .0)) (omega (arith, k .falls h .0, k .height .is)))
-      (λ h. rise-all a b y h (omega (arith, k .rises h .0)) (omega (arith, k .rises h .0, k .height .is)))
+      either (b .y) (a .y)
+      (λ h. let is = fall-is h l in fall-none a b y h (omega (arith, is, far, k .height .is)) (omega (arith, is, far, k .height .is)))
+      (λ h. let is = rise-is h l in rise-all a b y h (omega (arith, is, far)) (omega (arith, is, far, k .height .is)))
 
+module _ (a b : Vertex) (y : ℕ) (s : Side) (k : Stands a b y s) where
   -- a bound cuts a span
   pub cut-left : (s₀ : Span) (r : ℕ) → s .left ≡ true → s₀ .hi ≤ 65536 → Bounds a b y r → Cuts a b y s₀ (record { lo = max (s₀ .lo) r; hi = s₀ .hi })
   cut-left s₀ r e wide n =
@@ -134,32 +166,65 @@ module _ (a b : Vertex) (y : ℕ) (s : Side) (k : Stands a b y s) where
         outer = λ x u v g. (u, lt-min (s₀ .hi) r x v (f x (omega arith) .1 g));
       }
 
-  module _ (low : plusOf (a .x) (a .y) (b .x) (b .y) 0 y ≤ 12884508675) (few : minusOf (a .x) (a .y) (b .x) (b .y) 0 y ≤ 12884508675) where
-    -- the number is far from both ends of its type
-    pub side-room : (s .at ≤ 137438953472) × (65536 ≤ s .at)
-    side-room =
-        falls-or-rises
-        (λ h. (omega (arith, k .falls h .0, short-low), omega (arith, k .falls h .0)))
-        (λ h. (omega (arith, k .rises h .0), omega (arith, k .rises h .0, short-low)))
-      where
-        short-low : short (closed a b) ≤ 1
-        short-low = go (closed a b)
-          where
-            go : (c : Bool) → short c ≤ 1
-            go true = omega arith
-            go false = omega arith
+-- ---- a row on
+
+next-mod : (n a u p q x y : ℕ) → n ≡ (a + u) % 2 ^ 64 → (a + p) % 2 ^ 64 ≡ x → (u + q) % 2 ^ 64 ≡ y → x + y < 18446744073709551616
+    → (n + (p + q)) % 2 ^ 64 ≡ x + y
+next-mod n a u p q x y e f g h =
+    ap (λ (k : ℕ). (k + (p + q)) % 2 ^ 64) e
+    ∙ mod-add-mod (a + u) (2 ^ 64) (p + q)
+    ∙ ap (λ (k : ℕ). k % 2 ^ 64) (regroup a u p q)
+    ∙ sym (mod-add-mod (a + p) (2 ^ 64) (u + q))
+    ∙ ap (λ (k : ℕ). (k + (u + q)) % 2 ^ 64) f
+    ∙ ap (λ (k : ℕ). k % 2 ^ 64) (add-comm x (u + q))
+    ∙ sym (mod-add-mod (u + q) (2 ^ 64) x)
+    ∙ ap (λ (k : ℕ). (k + x) % 2 ^ 64) g
+    ∙ ap (λ (k : ℕ). k % 2 ^ 64) (add-comm y x)
+    ∙ mod-eq-of-lt h
+  where
+    regroup : (a u p q : ℕ) → a + u + (p + q) ≡ a + p + (u + q)
+    regroup a u p q = omega arith
 
 -- a side a row on
-pub side-next : (a b : Vertex) (y : ℕ) (s r : Side) → Stands a b y s → s .down ≤ s .at + s .up
-    → r ≡ record { left = s .left; at = s .at + s .up - s .down; up = s .up; down = s .down; height = s .height } → Stands a b (y + 1) r
-side-next a b y s r k room e =
-    rw e
-    (record {
-      left = k .left;
-      falls = λ h. let f = k .falls h in (omega (arith, f .0, f .1, f .2, room, up-plus (a .x) (a .y) (b .x) (b .y) 0 y, up-minus (a .x) (a .y) (b .x) (b .y) 0 y), f .1, f .2);
-      rises = λ h. let f = k .rises h in (omega (arith, f .0, f .1, f .2, room, up-plus (a .x) (a .y) (b .x) (b .y) 0 y, up-minus (a .x) (a .y) (b .x) (b .y) 0 y), f .1, f .2);
-      height = k .height;
-    })
+module _ (a b : Vertex) (y : ℕ) (s : Side) (n : ℕ) (k : Stands a b y s) (tall : s .height .tall ≤ 65535)
+    (low : plusOf (a .x) (a .y) (b .x) (b .y) 0 y ≤ 12884508675) (few : minusOf (a .x) (a .y) (b .x) (b .y) 0 y ≤ 12884508675)
+    (hx : a .x ≤ 65535) (kx : b .x ≤ 65535) (e : n ≡ (s .at + s .step) % 2 ^ 64) where
+  abbrev plus₀ : ℕ
+  plus₀ = plusOf (a .x) (a .y) (b .x) (b .y) 0 y
+
+  abbrev minus₀ : ℕ
+  minus₀ = minusOf (a .x) (a .y) (b .x) (b .y) 0 y
+
+  falls-on : b .y < a .y → (n + (plusOf (a .x) (a .y) (b .x) (b .y) 0 (y + 1) + 1)) % 2 ^ 64 ≡ minusOf (a .x) (a .y) (b .x) (b .y) 0 (y + 1) + short (closed a b) + s .height .tall
+  falls-on h =
+      let f = k .falls h in
+      let from : plusOf (a .x) (a .y) (b .x) (b .y) 0 (y + 1) + 1 ≡ plus₀ + 1 + b .x = omega (arith, up-plus (a .x) (a .y) (b .x) (b .y) 0 y) in
+      let to : minus₀ + short (closed a b) + s .height .tall + a .x ≡ minusOf (a .x) (a .y) (b .x) (b .y) 0 (y + 1) + short (closed a b) + s .height .tall
+      = omega (arith, up-minus (a .x) (a .y) (b .x) (b .y) 0 y) in
+      ap (λ (j : ℕ). (n + j) % 2 ^ 64) from
+      ∙ next-mod n (s .at) (s .step) (plus₀ + 1) (b .x) _ (a .x) e (f .0) (f .1) (omega (arith, few, tall, hx, short-low (closed a b)))
+      ∙ to
+
+  rises-on : a .y ≤ b .y → (n + (minusOf (a .x) (a .y) (b .x) (b .y) 0 (y + 1) + short (closed a b))) % 2 ^ 64 ≡ plusOf (a .x) (a .y) (b .x) (b .y) 0 (y + 1) + s .height .tall
+  rises-on h =
+      let f = k .rises h in
+      let from : minusOf (a .x) (a .y) (b .x) (b .y) 0 (y + 1) + short (closed a b) ≡ minus₀ + short (closed a b) + a .x
+      = omega (arith, up-minus (a .x) (a .y) (b .x) (b .y) 0 y) in
+      let to : plus₀ + s .height .tall + b .x ≡ plusOf (a .x) (a .y) (b .x) (b .y) 0 (y + 1) + s .height .tall
+      = omega (arith, up-plus (a .x) (a .y) (b .x) (b .y) 0 y) in
+      ap (λ (j : ℕ). (n + j) % 2 ^ 64) from
+      ∙ next-mod n (s .at) (s .step) (minus₀ + short (closed a b)) (a .x) _ (b .x) e (f .0) (f .1) (omega (arith, low, tall, kx))
+      ∙ to
+
+  pub side-next : Stands a b (y + 1) (record { left = s .left; at = n; step = s .step; height = s .height })
+  side-next =
+      record {
+        left = k .left;
+        fits = omega (arith, e);
+        falls = λ h. (falls-on h, k .falls h .1);
+        rises = λ h. (rises-on h, k .rises h .1);
+        height = k .height;
+      }
 
 -- an edge's two numbers at column 0
 pub edge-low : (a b : Vertex) (y : ℕ) → a .x ≤ 65535 → a .y ≤ 65535 → b .x ≤ 65535 → b .y ≤ 65535 → y ≤ 65535

@@ -64,20 +64,17 @@ pub record Measures (a b : Vertex) (h : Height) : Type 0 where
 pub record Keeps (a b : Vertex) (x y : ℕ) : Type 0 where
   pub so : minusOf (a .x) (a .y) (b .x) (b .y) x y + short (closed a b) ≤ plusOf (a .x) (a .y) (b .x) (b .y) x y
 
--- what stands for 0 among numbers that may fall below it: for a side, that its edge just keeps column 0
-abbrev pub middle : ℕ
-middle = 68719476736
-
--- s is the edge from a to b in row y: one that falls bounds the columns from the left, any other from the right, and its number is as far above `middle` as
--- the edge is from keeping column 0, or from leaving it outside
+-- s is the edge from a to b in row y: one that falls bounds the columns from the left, any other from the right, by its number over its height; what a row adds
+-- to the number is `step`, both modulo 2 ^ 64
 pub record Stands (a b : Vertex) (y : ℕ) (s : Side) : Type 0 where
   pub left : s .left ≡ ltb (b .y) (a .y)
+  pub fits : s .at < 18446744073709551616
   pub falls : b .y < a .y
-      → (s .at + plusOf (a .x) (a .y) (b .x) (b .y) 0 y + 1 ≡ middle + (minusOf (a .x) (a .y) (b .x) (b .y) 0 y + short (closed a b)))
-      × (s .up ≡ a .x) × (s .down ≡ b .x)
+      → ((s .at + (plusOf (a .x) (a .y) (b .x) (b .y) 0 y + 1)) % 2 ^ 64 ≡ minusOf (a .x) (a .y) (b .x) (b .y) 0 y + short (closed a b) + s .height .tall)
+      × ((s .step + b .x) % 2 ^ 64 ≡ a .x)
   pub rises : a .y ≤ b .y
-      → (s .at + (minusOf (a .x) (a .y) (b .x) (b .y) 0 y + short (closed a b)) ≡ middle + plusOf (a .x) (a .y) (b .x) (b .y) 0 y)
-      × (s .up ≡ b .x) × (s .down ≡ a .x)
+      → ((s .at + (minusOf (a .x) (a .y) (b .x) (b .y) 0 y + short (closed a b))) % 2 ^ 64 ≡ plusOf (a .x) (a .y) (b .x) (b .y) 0 y + s .height .tall)
+      × ((s .step + a .x) % 2 ^ 64 ≡ b .x)
   pub height : Measures a b (s .height)
 
 -- r bounds the columns that the edge keeps of row y: those from r on where it falls, and those below r where it does not
@@ -120,6 +117,10 @@ ahead u v w p q r = p * v + q * w + r * u
 -- the corner numbers p, q, r, each times the coordinate of the corner before, added up
 abbrev pub behind : ℕ → ℕ → ℕ → ℕ → ℕ → ℕ → ℕ
 behind u v w p q r = p * w + q * u + r * v
+
+-- what stands for 0 among numbers that may fall below it
+abbrev pub middle : ℕ
+middle = 68719476736
 
 -- s is what a step along an axis adds to 2 N, from `middle` on; u, v, w are the corners' coordinates along the other axis
 pub record Slants (u v w p q r s : ℕ) : Type 0 where

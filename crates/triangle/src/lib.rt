@@ -47,13 +47,12 @@ pub(crate) struct Height {
     pub(crate) inv: usize,
 }
 
-// An edge in a row: whether it bounds the covered columns from the left, by a number that tells how far it is from keeping column 0, what the next row
-// adds to that number and takes from it, and the edge's height.
+// An edge in a row: whether it bounds the covered columns from the left, a number that over the edge's height is the bound, and what the next row adds to that
+// number, both modulo 2^64, and the edge's height.
 pub(crate) struct Side {
     pub(crate) left: bool,
     pub(crate) at: usize,
-    pub(crate) up: u16,
-    pub(crate) down: u16,
+    pub(crate) step: usize,
     pub(crate) height: Height,
 }
 

@@ -56,19 +56,21 @@ pub(crate) fn side_of(a: Vertex, b: Vertex, y: usize) -> Side
     let minus = e.minus + short_of(a, b);
     let height = height_of(a, b);
     if b.y < a.y {
+        let at = std::num::wrapping_sub_usize(minus + height.tall, plus + 1);
+        let step = std::num::wrapping_sub_usize(a.x as usize, b.x as usize);
         return Side {
             left: true,
-            at: MIDDLE + minus - plus - 1,
-            up: a.x,
-            down: b.x,
+            at,
+            step,
             height,
         };
     }
+    let at = std::num::wrapping_sub_usize(plus + height.tall, minus);
+    let step = std::num::wrapping_sub_usize(b.x as usize, a.x as usize);
     Side {
         left: false,
-        at: MIDDLE + plus - minus,
-        up: b.x,
-        down: a.x,
+        at,
+        step,
         height,
     }
 }
@@ -81,24 +83,22 @@ pub(crate) fn raised(a: Vertex, b: Vertex, y: usize, s: Side) -> Side
     let height = s.height;
     Side {
         left: s.left,
-        at: s.at + (s.up as usize) - (s.down as usize),
-        up: s.up,
-        down: s.down,
+        at: std::num::wrapping_add_usize(s.at, s.step),
+        step: s.step,
         height,
     }
 }
 
 // The first column that an edge keeps of row y, where it bounds from the left, and one past the last, where it bounds from the right. No picture has
-// columns from 65,536 on.
+// columns from 65,536 on. A number above `MIDDLE` stands for one below 0: none that is not below 0 is so large.
 fn bound(a: Vertex, b: Vertex, y: usize, s: Side) -> usize
     requires { ⌜ (y ≤ 65535) × (Stands a b y s) ⌝ }
     ensures { λ r. ⌜ Bounds a b y r ⌝ }
 {
-    let v = std::num::wrapping_sub_usize(s.at, MIDDLE);
-    if v < 65536 * s.height.tall {
-        return v * s.height.inv / CARRIED_ONE + 1;
+    if s.at < 65536 * s.height.tall {
+        return s.at * s.height.inv / CARRIED_ONE;
     }
-    if s.at < MIDDLE {
+    if MIDDLE < s.at {
         return 0;
     }
     65536

@@ -1,7 +1,7 @@
 -- `row::side_of` meets its contract. Assumes nothing.
-use mathlib.Core.Path.{_≡_, refl, sym, ap}
+use mathlib.Core.Path.{_≡_, sym, ap}
 use native.Mathlib.Omega.{arith}
-use Prim.Native.Nat.{ℕ, _+_, _<_}
+use Prim.Native.Nat.{ℕ, _+_}
 use borrow.Author.Tests.{lt-ltb, le-ltb}
 use Rattle.triangle.specs.Edge.{plusOf, minusOf, closed}
 use Rattle.triangle.specs.Loops.{short}
@@ -30,43 +30,69 @@ add-minus c = search needs
 height-of-requires : tie.Need-height-of-requires
 height-of-requires c κs = search needs
 
-add-t10 : tie.Need-add-t10
-add-t10 c = search needs
+add-wrapping-sub-usize : tie.Need-add-wrapping-sub-usize
+add-wrapping-sub-usize c = search needs
 
-sub-t11 : tie.Need-sub-t11
-sub-t11 c = search needs
+add-wrapping-sub-usize-2 : tie.Need-add-wrapping-sub-usize-2
+add-wrapping-sub-usize-2 c = search needs
 
-sub-t12 : tie.Need-sub-t12
-sub-t12 c = search needs
+wrapping-sub-usize-requires : tie.Need-wrapping-sub-usize-requires
+wrapping-sub-usize-requires c κs = search needs
+
+cast-wrapping-sub-usize : tie.Need-cast-wrapping-sub-usize
+cast-wrapping-sub-usize c = search needs
+
+cast-wrapping-sub-usize-2 : tie.Need-cast-wrapping-sub-usize-2
+cast-wrapping-sub-usize-2 c = search needs
+
+wrapping-sub-usize-requires-2 : tie.Need-wrapping-sub-usize-requires-2
+wrapping-sub-usize-requires-2 c κs = search needs
 
 returns : tie.Need-returns
 returns c =
-    let k = c .before .before .before .before .before in
-    let h = c .if1 .taken in
-    let e = eqs k in
+    let at-sub = c .before .before .before in
+    let at-if1 = at-sub .before .before in
+    let at-height-of = at-if1 .before .before .before in
+    let h = at-if1 .if1 .taken in
+    let e = eqs (at-height-of .before .before) in
+    let n = at-sub .wrapping-sub-usize in
     record {
       left = sym (lt-ltb _ _ h);
-      falls = λ _. (omega (arith, e .0, e .1, k .before .edge-at .ensures .1), refl, refl);
+      fits = omega (arith, n .ok);
+      falls = λ _. (omega (arith, e .0, e .1, n .ensures), c .wrapping-sub-usize2 .ensures);
       rises = λ g. absurd (omega (arith, h, g));
-      height = c .before .before .before .height-of .ensures;
+      height = at-height-of .height-of .ensures;
     }
 
-add-t8 : tie.Need-add-t8
-add-t8 c = search needs
+add-wrapping-sub-usize-3 : tie.Need-add-wrapping-sub-usize-3
+add-wrapping-sub-usize-3 c = search needs
 
-sub-t13 : tie.Need-sub-t13
-sub-t13 c = search needs
+wrapping-sub-usize-requires-3 : tie.Need-wrapping-sub-usize-requires-3
+wrapping-sub-usize-requires-3 c κs = search needs
+
+cast-wrapping-sub-usize-3 : tie.Need-cast-wrapping-sub-usize-3
+cast-wrapping-sub-usize-3 c = search needs
+
+cast-wrapping-sub-usize-4 : tie.Need-cast-wrapping-sub-usize-4
+cast-wrapping-sub-usize-4 c = search needs
+
+wrapping-sub-usize-requires-4 : tie.Need-wrapping-sub-usize-requires-4
+wrapping-sub-usize-requires-4 c κs = search needs
 
 returns-2 : tie.Need-returns-2
 returns-2 c =
-    let k = c .before .before .before .before .before in
-    let h = c .if1 .left in
-    let e = eqs k in
+    let at-sub = c .before .before .before in
+    let at-if1 = at-sub .before .before in
+    let at-height-of = at-if1 .before .before .before in
+    let h = at-if1 .if1 .left in
+    let e = eqs (at-height-of .before .before) in
+    let n = at-sub .wrapping-sub-usize3 in
     record {
       left = sym (le-ltb _ _ h);
+      fits = omega (arith, n .ok);
       falls = λ g. absurd (omega (arith, h, g));
-      rises = λ _. (omega (arith, e .0, e .1, k .before .edge-at .ensures .2, k .short-of .ensures .1), refl, refl);
-      height = c .before .before .before .height-of .ensures;
+      rises = λ _. (omega (arith, e .0, e .1, n .ensures), c .wrapping-sub-usize4 .ensures);
+      height = at-height-of .height-of .ensures;
     }
 
 pub side-of-spec : {M : Type 1} → statement M
@@ -77,10 +103,16 @@ side-of-spec =
     short-of-requires
     add-minus
     height-of-requires
-    add-t10
-    sub-t11
-    sub-t12
+    add-wrapping-sub-usize
+    add-wrapping-sub-usize-2
+    wrapping-sub-usize-requires
+    cast-wrapping-sub-usize
+    cast-wrapping-sub-usize-2
+    wrapping-sub-usize-requires-2
     returns
-    add-t8
-    sub-t13
+    add-wrapping-sub-usize-3
+    wrapping-sub-usize-requires-3
+    cast-wrapping-sub-usize-3
+    cast-wrapping-sub-usize-4
+    wrapping-sub-usize-requires-4
     returns-2)

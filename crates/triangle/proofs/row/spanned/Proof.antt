@@ -21,13 +21,19 @@ cast-cut : tie.Need-cast-cut
 cast-cut c = search needs
 
 cut-requires : tie.Need-cut-requires
-cut-requires c κs = let s = c .before .before .before .before .before .before .before .before .before .before in (omega (arith, s .fits), s .pre .ab, omega (arith, c .before .least .ensures, s .good .0))
+cut-requires c κs =
+    let s = c .before .before .before .before .before .before .before .before .before .before in
+    (omega (arith, s .fits), s .pre .ab, omega (arith, c .before .least .ensures, s .good .0))
 
 cut-requires-2 : tie.Need-cut-requires-2
-cut-requires-2 c κs = let s = c .before .before .before .before .before .before .before .before .before .before .before in (omega (arith, s .fits), s .pre .bc, omega (arith, c .cut .ensures .shrinks, c .before .before .least .ensures, s .good .0))
+cut-requires-2 c κs =
+    let s = c .before .before .before .before .before .before .before .before .before .before .before in
+    (omega (arith, s .fits), s .pre .bc, omega (arith, c .cut .ensures .shrinks, c .before .before .least .ensures, s .good .0))
 
 cut-requires-3 : tie.Need-cut-requires-3
-cut-requires-3 c κs = let s = c .before .before .before .before .before .before .before .before .before .before .before .before in (omega (arith, s .fits), s .pre .ca, omega (arith, c .cut2 .ensures .shrinks, c .before .cut .ensures .shrinks, c .before .before .before .least .ensures, s .good .0))
+cut-requires-3 c κs =
+    let s = c .before .before .before .before .before .before .before .before .before .before .before .before in
+    (omega (arith, s .fits), s .pre .ca, omega (arith, c .cut2 .ensures .shrinks, c .before .cut .ensures .shrinks, c .before .before .before .least .ensures, s .good .0))
 
 returns : tie.Need-returns
 returns c =
