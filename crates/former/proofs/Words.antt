@@ -53,27 +53,16 @@ was-taken ni nz r w e =
 -- ---- whichever window stands
 
 module _ (r : Registers) (v : Window) where
-  allowed-same : (w : Word) → allowed (withWindow r v) w ≡ allowed r w
-  allowed-same (Init d) = refl
-  allowed-same (Aux n) = refl
-  allowed-same (Parm n) = refl
-  allowed-same (At c n) = refl
-  allowed-same (Img d) = refl
-  allowed-same (Ptrn n) = refl
-  allowed-same Reserved = refl
-  allowed-same Unmodelled = refl
-  allowed-same Unknown = refl
-
-  fits-same : (w : Word) → fits (withWindow r v) w ≡ fits r w
-  fits-same (Init d) = refl
-  fits-same (Aux n) = refl
-  fits-same (Parm n) = refl
-  fits-same (At c n) = refl
-  fits-same (Img d) = refl
-  fits-same (Ptrn n) = refl
-  fits-same Reserved = refl
-  fits-same Unmodelled = refl
-  fits-same Unknown = refl
+  word-same : (w : Word) → (allowed (withWindow r v) w ≡ allowed r w) × (fits (withWindow r v) w ≡ fits r w)
+  word-same (Init d) = (refl, refl)
+  word-same (Aux n) = (refl, refl)
+  word-same (Parm n) = (refl, refl)
+  word-same (At c n) = (refl, refl)
+  word-same (Img d) = (refl, refl)
+  word-same (Ptrn n) = (refl, refl)
+  word-same Reserved = (refl, refl)
+  word-same Unmodelled = (refl, refl)
+  word-same Unknown = (refl, refl)
 
 -- today's window of a record that breaks no bound breaks none
 window-fits : (w v : Window) → Widened w v → windowFits w ≡ true → windowFits v ≡ true
@@ -97,8 +86,8 @@ wider-taken ni nz r v w h e =
       expected = a .expected;
       wanted = a .wanted;
       listed = a .listed;
-      valued = allowed-same r v w ∙ a .valued;
-      fitting = fits-same r v w ∙ a .fitting;
+      valued = word-same r v w .0 ∙ a .valued;
+      fitting = word-same r v w .1 ∙ a .fitting;
       placed = a .placed;
     })
 
