@@ -34,6 +34,13 @@ fn pen_of(line: u16, layout: u16) -> Pen
     }
 }
 
+// A vertex at a pixel, with its two numbers.
+fn vertex_of(x: u16, y: u16, i: u16, z: u16) -> Vertex
+    ensures { λ r. ⌜ r ≡ vertexOf x y i z ⌝ }
+{
+    Vertex { x, y, i, z }
+}
+
 // Draws a triangle.
 #[no_mangle]
 pub extern "C" fn dextolumen_bench_triangle(
@@ -57,24 +64,9 @@ pub extern "C" fn dextolumen_bench_triangle(
 ) -> u64
     ensures { λ r. ⌜ Draws (penOf line layout) (λ rows. triangleOffers (penOf line layout) rows constant (vertexOf ax ay ai az) (vertexOf bx by bi bz) (vertexOf cx cy ci cz)) im zm 0 r ⌝ }
 {
-    let a = Vertex {
-        x: ax,
-        y: ay,
-        i: ai,
-        z: az,
-    };
-    let b = Vertex {
-        x: bx,
-        y: by,
-        i: bi,
-        z: bz,
-    };
-    let c = Vertex {
-        x: cx,
-        y: cy,
-        i: ci,
-        z: cz,
-    };
+    let a = vertex_of(ax, ay, ai, az);
+    let b = vertex_of(bx, by, bi, bz);
+    let c = vertex_of(cx, cy, ci, cz);
     triangle::draw::triangle(pen_of(line, layout), constant, a, b, c, im, zm)
 }
 
@@ -100,18 +92,8 @@ pub extern "C" fn dextolumen_bench_segment(
 ) -> u64
     ensures { λ r. ⌜ Draws (penOf line layout) (λ rows. segmentOffers (penOf line layout) rows (styleOf mode pattern foreground background) (vertexOf ax ay ai az) (vertexOf bx by bi bz)) im zm 0 r ⌝ }
 {
-    let a = Vertex {
-        x: ax,
-        y: ay,
-        i: ai,
-        z: az,
-    };
-    let b = Vertex {
-        x: bx,
-        y: by,
-        i: bi,
-        z: bz,
-    };
+    let a = vertex_of(ax, ay, ai, az);
+    let b = vertex_of(bx, by, bi, bz);
     let m = mode_of(mode as u16);
     let style = Style {
         mode: m,

@@ -12,6 +12,12 @@ use borrow.Author.Needs.{needs}
 use Rattle.bench.proofs.dextolumen_bench_segment.Statement.{statement}
 use Rattle.bench.proofs.dextolumen_bench_segment.Tie as tie
 
+vertex-of-requires : tie.Need-vertex-of-requires
+vertex-of-requires c κs = search needs
+
+vertex-of-requires-2 : tie.Need-vertex-of-requires-2
+vertex-of-requires-2 c κs = search needs
+
 mode-of-requires : tie.Need-mode-of-requires
 mode-of-requires c κs = search needs
 
@@ -32,8 +38,10 @@ returns c =
     let at-segment = c .before .before .before .before in
     let at-pen-of = at-segment .before .before .before in
     let at-mode-of = at-pen-of .before in
-    let a = at-mode-of .before .before .before .args in
-    at-segment .segment .ensures
+    let second = at-mode-of .before in
+    let first = second .before in
+    let a = first .before .before .before .args in
+    (rw (first .vertex-of .ensures, second .vertex-of2 .ensures) at (at-segment .segment .ensures))
     ∙ ap₂
     (λ (p : Pen) (m : Mode).
     drawn p
@@ -45,4 +53,4 @@ returns c =
 pub dextolumen-bench-segment-spec : {M : Type 1} → statement M
 dextolumen-bench-segment-spec =
     tie.close
-    (tie.spec mode-of-requires pen-of-requires segment-requires same-length same-length-2 returns)
+    (tie.spec vertex-of-requires vertex-of-requires-2 mode-of-requires pen-of-requires segment-requires same-length same-length-2 returns)

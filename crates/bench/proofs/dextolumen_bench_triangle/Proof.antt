@@ -10,6 +10,15 @@ use borrow.Author.Needs.{needs}
 use Rattle.bench.proofs.dextolumen_bench_triangle.Statement.{statement}
 use Rattle.bench.proofs.dextolumen_bench_triangle.Tie as tie
 
+vertex-of-requires : tie.Need-vertex-of-requires
+vertex-of-requires c κs = search needs
+
+vertex-of-requires-2 : tie.Need-vertex-of-requires-2
+vertex-of-requires-2 c κs = search needs
+
+vertex-of-requires-3 : tie.Need-vertex-of-requires-3
+vertex-of-requires-3 c κs = search needs
+
 pen-of-requires : tie.Need-pen-of-requires
 pen-of-requires c κs = search needs
 
@@ -26,8 +35,11 @@ returns : tie.Need-returns
 returns c =
     let at-triangle = c .before .before .before .before in
     let at-pen-of = at-triangle .before .before .before in
-    let a = at-pen-of .before .before .before .args in
-    at-triangle .triangle .ensures
+    let third = at-pen-of .before in
+    let second = third .before in
+    let first = second .before in
+    let a = first .before .before .before .args in
+    (rw (first .vertex-of .ensures, second .vertex-of2 .ensures, third .vertex-of3 .ensures) at (at-triangle .triangle .ensures))
     ∙ ap
     (λ (p : Pen).
     drawn p
@@ -37,4 +49,4 @@ returns c =
 
 pub dextolumen-bench-triangle-spec : {M : Type 1} → statement M
 dextolumen-bench-triangle-spec =
-    tie.close (tie.spec pen-of-requires triangle-requires same-length same-length-2 returns)
+    tie.close (tie.spec vertex-of-requires vertex-of-requires-2 vertex-of-requires-3 pen-of-requires triangle-requires same-length same-length-2 returns)
