@@ -274,24 +274,11 @@ module _ (depth : Bool) (r : Range) (im zm : List ℕ) where
 
 -- ---- up to where anything was drawn
 
-module _ (im zm : List ℕ) (left last : ℕ) (e : left ≡ suc last) {i z : ℕ} {fresh : Bool} where
-  module _ (p : i ≡ getD im last 0) (q : z ≡ getD zm last 0) (f : fresh ≡ isFresh i z) where
-    told : fresh ≡ isFresh (getD im last 0) (getD zm last 0)
-    told = f ∙ ap₂ (λ (a b : ℕ). isFresh a b) p q
-
-    -- a place that nothing was drawn at is left out
-    pub drawn-less : fresh ≡ true → drawnPlaces im zm last ≡ drawnPlaces im zm left
-    unfolding drawnPlaces
-    drawn-less t =
-        let is : isFresh (getD im last 0) (getD zm last 0) ≡ true = sym told ∙ t in
-        rw (e, is)
-
-    -- any other is the last
-    pub drawn-here : fresh ≡ false → left ≡ drawnPlaces im zm left
-    unfolding drawnPlaces
-    drawn-here t =
-        let is : isFresh (getD im last 0) (getD zm last 0) ≡ false = sym told ∙ t in
-        rw (e, is)
+-- a place that nothing was drawn at is left out, and any other is the last
+pub drawn-next : (im zm : List ℕ) (left last : ℕ) {i z : ℕ} {fresh : Bool} → left ≡ suc last → i ≡ getD im last 0 → z ≡ getD zm last 0 → fresh ≡ isFresh i z
+    → cond fresh (drawnPlaces im zm last) left ≡ drawnPlaces im zm left
+unfolding drawnPlaces
+drawn-next im zm left last e p q f = rw (e, f, p, q)
 
 pub drawn-none : (im zm : List ℕ) → drawnPlaces im zm 0 ≡ 0
 unfolding drawnPlaces

@@ -1,12 +1,13 @@
 -- `scale::drawn_places` meets its contract. The invariant of its loop: the places left have what all of them have. The measure is their number. Assumes
 -- nothing.
 use mathlib.Core.Path.{_≡_, refl, sym, _∙_}
+use mathlib.Core.Bool.{true, false, cond}
 use Prim.Native.Nat.{suc, _-_}
 use native.Mathlib.Omega.{arith}
 use borrow.Author.Needs.{needs}
 use borrow.Author.Tests.{not-true, not-false}
 use Rattle.report.specs.Levels.{drawnPlaces}
-use Rattle.report.proofs.Levels.{drawn-less, drawn-here, drawn-none}
+use Rattle.report.proofs.Levels.{drawn-next, drawn-none}
 use Rattle.report.proofs.scale.drawn_places.Statement.{statement}
 use Rattle.report.proofs.scale.drawn_places.Tie as tie
 
@@ -31,30 +32,25 @@ number-at-requires-2 c κs = search needs
 is-fresh-requires : tie.Need-is-fresh-requires Inv-loop μ-loop
 is-fresh-requires c κs = search needs
 
-returns : tie.Need-returns Inv-loop μ-loop
-returns c =
-    let f = c .before in
+-- one place less, or no more to look at
+next : (f : tie.After-is-fresh Inv-loop μ-loop) → let l = f .before .before .before .before in let a = l .before .before .before .args in
+    cond (f .is-fresh .result) (drawnPlaces (a .im .now) (a .zm .now) (l .loop .left - 1)) (l .loop .left) ≡ drawnPlaces (a .im .now) (a .zm .now) (a .n)
+next f =
     let z = f .before in
     let i = z .before in
     let l = i .before .before in
     let a = l .before .before .before .args in
-    let left = l .loop .left in
-    let one : left ≡ suc (left - 1) = omega arith in
-    drawn-here (a .im .now) (a .zm .now) left (left - 1) one (i .number-at .ensures) (z .number-at2 .ensures) (f .is-fresh .ensures) (not-true _ (c .if1 .taken)) ∙ l .loop .inv
+    let one : l .loop .left ≡ suc (l .loop .left - 1) = omega arith in
+    drawn-next (a .im .now) (a .zm .now) _ _ one (i .number-at .ensures) (z .number-at2 .ensures) (f .is-fresh .ensures) ∙ l .loop .inv
+
+returns : tie.Need-returns Inv-loop μ-loop
+returns c = let drawn : c .before .is-fresh .result ≡ false = not-true _ (c .if1 .taken) in rw drawn at (next (c .before))
 
 loop-less : tie.Need-loop-less Inv-loop μ-loop
 loop-less c = omega arith
 
 loop-again : tie.Need-loop-again Inv-loop μ-loop
-loop-again c =
-    let f = c .before in
-    let z = f .before in
-    let i = z .before in
-    let l = i .before .before in
-    let a = l .before .before .before .args in
-    let left = l .loop .left in
-    let one : left ≡ suc (left - 1) = omega arith in
-    drawn-less (a .im .now) (a .zm .now) left (left - 1) one (i .number-at .ensures) (z .number-at2 .ensures) (f .is-fresh .ensures) (not-false _ (c .if1 .left)) ∙ l .loop .inv
+loop-again c = let fresh : c .before .is-fresh .result ≡ true = not-false _ (c .if1 .left) in rw fresh at (next (c .before))
 
 returns-2 : tie.Need-returns-2 Inv-loop μ-loop
 returns-2 c =
