@@ -21,6 +21,7 @@ use Rattle.ground.proofs.Truth.{both, same-test}
 use Rattle.picture.proofs.Spans.{spans-zero, spans-suc, spans-same}
 use Rattle.triangle.specs.Edge.{covers, edgeAt}
 use Rattle.triangle.specs.Offers.{pixelAt, pixelOffers, rowOffers, turnedOffers, cornersOf, triangleOffers}
+use Rattle.triangle.proofs.Once.{at-nil, at-append}
 use Rattle.line.specs.declared.Mode.{Mode}
 use Rattle.line.specs.declared.Mode.the-variants.{Zero, One, Two}
 use Rattle.line.specs.declared.Style.{Style}
@@ -33,24 +34,11 @@ use Rattle.chip.specs.Chip.{isConstant, styleOf, wholeOffers, isCut, figureOffe
 use Rattle.tracing.specs.Watch.{aimed, passesAt}
 
 module _ (x y : ℕ) where
-  at-nil : onPixel x y [] ≡ []
-  unfolding onPixel
-  at-nil = refl
-
-  at-append : (os ps : List Offer) → onPixel x y (os ++ ps) ≡ onPixel x y os ++ onPixel x y ps
-  unfolding onPixel
-  at-append [] ps = refl
-  at-append (o ∷ os) ps = rw (at-append os ps) (go (eqb (o .x) x && eqb (o .y) y) (onPixel x y os) (onPixel x y ps))
-    where
-      go : (b : Bool) (l r : List Offer) → cond b (o ∷ (l ++ r)) (l ++ r) ≡ cond b (o ∷ l) l ++ r
-      go true l r = refl
-      go false l r = refl
-
   at-spans : (f : ℕ → List Offer) (n : ℕ) → onPixel x y (spans f n) ≡ spans (λ k. onPixel x y (f k)) n
-  at-spans f zero = ap (onPixel x y) (spans-zero f) ∙ at-nil ∙ sym (spans-zero (λ k. onPixel x y (f k)))
+  at-spans f zero = ap (onPixel x y) (spans-zero f) ∙ at-nil x y ∙ sym (spans-zero (λ k. onPixel x y (f k)))
   at-spans f (suc n) =
       ap (onPixel x y) (spans-suc f n)
-      ∙ at-append (spans f n) (f n)
+      ∙ at-append x y (spans f n) (f n)
       ∙ ap (λ (os : List Offer). os ++ onPixel x y (f n)) (at-spans f n)
       ∙ sym (spans-suc (λ k. onPixel x y (f k)) n)
 
@@ -111,7 +99,7 @@ module _ (x y : ℕ) where
       pixel-aimed : (constant : Bool) (p q s u : Vertex) (a b : ℕ)
           → pixelOffers (penOf (aimed x y r)) rows constant (cornersOf p q s u) a b ≡ onPixel x y (pixelOffers (penOf r) rows constant (cornersOf p q s u) a b)
       unfolding pixelOffers
-      pixel-aimed constant p q s u a b = at-cond (covers (cornersOf p q s u) a b) (keep (penOf r) rows (pixelAt constant (cornersOf p q s u) a b)) [] (keep-aimed (pixelAt constant (cornersOf p q s u) a b)) (sym at-nil)
+      pixel-aimed constant p q s u a b = at-cond (covers (cornersOf p q s u) a b) (keep (penOf r) rows (pixelAt constant (cornersOf p q s u) a b)) [] (keep-aimed (pixelAt constant (cornersOf p q s u) a b)) (sym (at-nil x y))
 
       row-aimed : (constant : Bool) (p q s u : Vertex) (b : ℕ)
           → rowOffers (penOf (aimed x y r)) rows constant (cornersOf p q s u) b ≡ onPixel x y (rowOffers (penOf r) rows constant (cornersOf p q s u) b)
@@ -135,7 +123,7 @@ module _ (x y : ℕ) where
           let right = ltb (edgeAt a b (c .x) (c .y) .plus) (edgeAt a b (c .x) (c .y) .minus) in
           let one = turnedOffers (penOf r) rows constant (cornersOf a b c c) in
           let two = turnedOffers (penOf r) rows constant (cornersOf a c b c) in
-          at-cond left one (cond right two []) (turned-aimed constant a b c c) (at-cond right two [] (turned-aimed constant a c b c) (sym at-nil))
+          at-cond left one (cond right two []) (turned-aimed constant a b c c) (at-cond right two [] (turned-aimed constant a c b c) (sym (at-nil x y)))
 
       -- ---- lines
 
@@ -146,11 +134,11 @@ module _ (x y : ℕ) where
           let fore = offer kind (xAt a b k) (yAt a b k) (style .foreground) 0 in
           let back = offer kind (xAt a b k) (yAt a b k) (style .background) 0 in
           at-cond (isSet style k) (keep (penOf r) rows fore) (cond ground (keep (penOf r) rows back) []) (keep-aimed fore)
-          (at-cond ground (keep (penOf r) rows back) [] (keep-aimed back) (sym at-nil))
+          (at-cond ground (keep (penOf r) rows back) [] (keep-aimed back) (sym (at-nil x y)))
 
       from-aimed : (first : ℕ) (f g : ℕ → List Offer) (k : ℕ) → f k ≡ onPixel x y (g k) → from first f k ≡ onPixel x y (from first g k)
       unfolding from
-      from-aimed first f g k e = at-cond (ltb k first) [] (g k) (sym at-nil) e
+      from-aimed first f g k e = at-cond (ltb k first) [] (g k) (sym (at-nil x y)) e
 
       step-aimed : (style : Style) (mode : Mode) (a b : Vertex) (k : ℕ)
           → stepOffers (penOf (aimed x y r)) rows style mode a b k ≡ onPixel x y (stepOffers (penOf r) rows style mode a b k)
@@ -173,7 +161,7 @@ module _ (x y : ℕ) where
 
       whole-aimed : (f : Completed) → wholeOffers rows (aimed x y r) f ≡ onPixel x y (wholeOffers rows r f)
       unfolding wholeOffers
-      whole-aimed Nothing = sym at-nil
+      whole-aimed Nothing = sym (at-nil x y)
       whole-aimed (Triangle a b c) = triangle-aimed (isConstant r) a b c
       whole-aimed (Segment a b) = segment-aimed (styleOf r) a b
 
@@ -186,7 +174,7 @@ module _ (x y : ℕ) where
       -- what a figure offers with the window narrowed is what it offers at (x, y)
       pub offers-aimed : (f : Completed) → figureOffers rows (aimed x y r) f ≡ onPixel x y (figureOffers rows r f)
       unfolding figureOffers
-      offers-aimed f = rw (cut-aimed f) (at-cond (isCut r f) [] (wholeOffers rows r f) (sym at-nil) (whole-aimed f))
+      offers-aimed f = rw (cut-aimed f) (at-cond (isCut r f) [] (wholeOffers rows r f) (sym (at-nil x y)) (whole-aimed f))
 
     module _ (f : Completed) (i z : List ℕ) where
       -- so what is counted are those of a figure's offers at (x, y) that pass

@@ -27,11 +27,13 @@ differs i j x y h = go (eqb i x) refl
     go false q = refl
 
 module _ (x y : ℕ) where
-  at-nil : onPixel x y [] ≡ []
+  -- of no offers, none
+  pub at-nil : onPixel x y [] ≡ []
   unfolding onPixel
   at-nil = refl
 
-  at-append : (os ps : List Offer) → onPixel x y (os ++ ps) ≡ onPixel x y os ++ onPixel x y ps
+  -- of offers behind others, theirs behind those of the others
+  pub at-append : (os ps : List Offer) → onPixel x y (os ++ ps) ≡ onPixel x y os ++ onPixel x y ps
   unfolding onPixel
   at-append [] ps = refl
   at-append (o ∷ os) ps = rw (at-append os ps) (go (eqb (o .x) x && eqb (o .y) y) (onPixel x y os) (onPixel x y ps))
