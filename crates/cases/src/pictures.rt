@@ -1,51 +1,26 @@
 // Pictures (document 02, [1]): regions that are open, used up, against the direction or refused, and values that are not allowed.
 use crate::row::row;
 
+// A region of two pixels that is open to memory, and three pixels for it.
+const PICTURE: [u32; 9] = [
+    0xF0000,
+    0x90000,
+    0xD0001,
+    0xD0000,
+    0xD0000,
+    0xD0000,
+    0x00001,
+    0x00002,
+    0x00003,
+];
+
 // PTRN is taken while a region is open to memory, pixel by pixel, and else is 14.
 fn transfers() -> bool {
+    let picture = PICTURE;
     row(b"PTRN with no region", &[0xF0000, 0x00001], 14)
-        && row(
-            b"PTRN on a region to memory",
-            &[
-                0xF0000,
-                0x90000,
-                0xD0001,
-                0xD0000,
-                0xD0000,
-                0xD0000,
-                0x00001,
-            ],
-            0,
-        )
-        && row(
-            b"PTRN on its last pixel",
-            &[
-                0xF0000,
-                0x90000,
-                0xD0001,
-                0xD0000,
-                0xD0000,
-                0xD0000,
-                0x00001,
-                0x00002,
-            ],
-            0,
-        )
-        && row(
-            b"PTRN after its last pixel",
-            &[
-                0xF0000,
-                0x90000,
-                0xD0001,
-                0xD0000,
-                0xD0000,
-                0xD0000,
-                0x00001,
-                0x00002,
-                0x00003,
-            ],
-            14,
-        )
+        && row(b"PTRN on a region to memory", &picture[0..7], 0)
+        && row(b"PTRN on its last pixel", &picture[0..8], 0)
+        && row(b"PTRN after its last pixel", &picture[0..9], 14)
         && row(
             b"PTRN on a region from memory",
             &[
