@@ -30,25 +30,34 @@ least-below z (p ∷ os) o u =
     ⊎-elim (λ e. let low = least-low (min z (p .z)) os in omega (arith, low, ap (λ (q : Offer). q .z) e)) (λ v. least-below (min z (p .z)) os o v)
     (List·Memᴰ·cases-cons u)
 
--- an offer with a depth, before which none has it; the earliest intensity is its
-pub record First (depth : ℕ) (os : List Offer) : Type 0 where
+-- an offer among others: those before it, and the rest behind it
+pub record Amidst (os : List Offer) : Type 0 where
   pub before : List Offer
   pub offer : Offer
   pub rest : List Offer
   pub among : os ≡ before ++ (offer ∷ rest)
-  pub has : offer .z ≡ depth
-  pub none : (o : Offer) → List·Memᴰ o before → o .z ≢ depth
-  pub gives : earliest depth os ≡ offer .i
+
+-- the first of them
+abbrev foremost : (o : Offer) (os : List Offer) → Amidst (o ∷ os)
+foremost o os = record { before = []; offer = o; rest = os; among = refl }
+
+-- one behind the first
+abbrev behind : (o : Offer) {os : List Offer} → Amidst os → Amidst (o ∷ os)
+behind o a = record { before = o ∷ a .before; offer = a .offer; rest = a .rest; among = ap (λ (us : List Offer). o ∷ us) (a .among) }
+
+-- an offer with a depth, before which none has it; the earliest intensity is its
+pub record First (depth : ℕ) (os : List Offer) : Type 0 where
+  pub here : Amidst os
+  pub has : here .offer .z ≡ depth
+  pub none : (o : Offer) → List·Memᴰ o (here .before) → o .z ≢ depth
+  pub gives : earliest depth os ≡ here .offer .i
 
 -- an offer with another depth does not come before it
 first-later : (depth : ℕ) (o : Offer) (os : List Offer) → o .z ≢ depth → First depth os → First depth (o ∷ os)
 unfolding earliest
 first-later depth o os other f =
     record {
-      before = o ∷ f .before;
-      offer = f .offer;
-      rest = f .rest;
-      among = ap (λ (us : List Offer). o ∷ us) (f .among);
+      here = behind o (f .here);
       has = f .has;
       none = λ p u. ⊎-elim (λ same e. other (ap (λ (q : Offer). q .z) (sym same) ∙ e)) (λ v. f .none p v) (List·Memᴰ·cases-cons u);
       gives = rw (ne-eqb (o .z) depth other) (f .gives);
@@ -65,7 +74,7 @@ least-offered z (o ∷ os) h = go (ℕ-discrete (o .z) d) (least-offered (min z 
 
     go : Dec (o .z ≡ d) → (d < min z (o .z) → First d os) → First d (o ∷ os)
     go (yes e) rest =
-        record { before = []; offer = o; rest = os; among = refl; has = e; none = λ p u. absurd (List·Memᴰ·not-nil u); gives = rw (eq-eqb (o .z) d e) }
+        record { here = foremost o os; has = e; none = λ p u. absurd (List·Memᴰ·not-nil u); gives = rw (eq-eqb (o .z) d e) }
     go (no e) rest = let low = least-low (min z (o .z)) os in first-later d o os e (rest (omega (arith, h, low, e)))
 
 -- a line has a depth
@@ -78,13 +87,10 @@ Unlined depth os = (o : Offer) → List·Memᴰ o os → Lines depth o → ⊥
 
 -- a line with a depth, after which none has it; the last line's intensity is its
 pub record Last (depth : ℕ) (os : List Offer) : Type 0 where
-  pub before : List Offer
-  pub offer : Offer
-  pub rest : List Offer
-  pub among : os ≡ before ++ (offer ∷ rest)
-  pub has : Lines depth offer
-  pub none : Unlined depth rest
-  pub gives : (other : ℕ) → lastLine depth os other ≡ offer .i
+  pub here : Amidst os
+  pub has : Lines depth (here .offer)
+  pub none : Unlined depth (here .rest)
+  pub gives : (other : ℕ) → lastLine depth os other ≡ here .offer .i
 
 -- without one the intensity is another's
 unlined-gives : (depth : ℕ) (os : List Offer) → Unlined depth os → (other : ℕ) → lastLine depth os other ≡ other
@@ -107,10 +113,7 @@ last-or-none depth (o ∷ os) = ⊎-elim (λ f. inl (later f)) (λ none. go none
     later : Last depth os → Last depth (o ∷ os)
     later f =
         record {
-          before = o ∷ f .before;
-          offer = f .offer;
-          rest = f .rest;
-          among = ap (λ (us : List Offer). o ∷ us) (f .among);
+          here = behind o (f .here);
           has = f .has;
           none = f .none;
           gives = λ other. f .gives (cond (isEdge (o .kind) && eqb (o .z) depth) (o .i) other);
@@ -123,10 +126,7 @@ last-or-none depth (o ∷ os) = ⊎-elim (λ f. inl (later f)) (λ none. go none
     go none true true e f =
         inl
         (record {
-          before = [];
-          offer = o;
-          rest = os;
-          among = refl;
+          here = foremost o os;
           has = (e, eqb-true _ _ f);
           none = none;
           gives = λ other. rw (e, f) (unlined-gives depth os none (o .i));
@@ -144,7 +144,7 @@ module _ (depth : ℕ) (start : Cell) (os : List Offer) (none : Unlined depth os
   unfolding intensity unlined
   not-below h = unlined-gives depth os none _ ∙ rw (le-ltb _ _ h)
 
-lined-gives : (depth : ℕ) (start : Cell) (os : List Offer) (f : Last depth os) → intensity depth start os ≡ f .offer .i
+lined-gives : (depth : ℕ) (start : Cell) (os : List Offer) (f : Last depth os) → intensity depth start os ≡ f .here .offer .i
 unfolding intensity
 lined-gives depth start os f = f .gives (unlined depth start os)
 
@@ -162,7 +162,7 @@ module _ {start end : Cell} {os : List Offer} (b : Believed start os end) where
   by-depth = b .shown ∙ ap (λ (d : ℕ). intensity d start os) (sym (b .depth))
 
   -- where a line has the depth that it ends with, the starting depth too, the last such line gives the intensity
-  pub ends-lined : (f : Last (end .z) os) → end .i ≡ f .offer .i
+  pub ends-lined : (f : Last (end .z) os) → end .i ≡ f .here .offer .i
   ends-lined f = by-depth ∙ lined-gives (end .z) start os f
 
   module _ (h : end .z < start .z) where
@@ -171,7 +171,7 @@ module _ {start end : Cell} {os : List Offer} (b : Believed start os end) where
     ends-offered = subst (λ (d : ℕ). First d os) (sym (b .depth)) (least-offered (start .z) os (rw (b .depth) at h))
 
     -- and where no line has it, the earliest that has it gives the intensity
-    pub ends-earliest : Unlined (end .z) os → end .i ≡ ends-offered .offer .i
+    pub ends-earliest : Unlined (end .z) os → end .i ≡ ends-offered .here .offer .i
     ends-earliest none = by-depth ∙ below-start (end .z) start os none h ∙ ends-offered .gives
 
   -- otherwise the intensity is unchanged
