@@ -1,1 +1,3 @@
 pub mod Settled
+pub mod Front
+pub mod Arguments
