@@ -2,3 +2,4 @@
 pub mod Taken
 -- arrays of one number, as the programs make room
 pub mod Room
+pub mod Digits

@@ -69,6 +69,11 @@ columns-parts (suc k) n h = let same : k ≡ suc k - 1 = omega arith in ap (λ (
 
 -- ---- lines
 
+-- five parts, one behind the other
+length-five : (a b d e f : List ℕ) → length (a ++ b ++ d ++ e ++ f) ≡ length a + length b + length d + length e + length f
+length-five a b d e f =
+    omega (arith, length-append a b, length-append (a ++ b) d, length-append (a ++ b ++ d) e, length-append (a ++ b ++ d ++ e) f)
+
 -- the heading has 79 bytes, the line's end included
 pub length-heading : length heading ≡ 79
 unfolding heading
@@ -78,19 +83,9 @@ length-heading = refl
 pub length-numbers : (c : Count) → length (numbers c) ≡ 64
 unfolding numbers
 length-numbers c =
-    let a = columns 8 (c .figures) in
-    let b = columns 16 (c .offered) in
-    let d = columns 16 (c .passed) in
-    let e = columns 16 (c .hidden) in
-    let f = columns 8 (percentOf c) in
-    let whole : length (numbers c) ≡ length (a ++ b ++ d ++ e ++ f) = refl in
     omega (
       arith,
-      whole,
-      length-append a b,
-      length-append (a ++ b) d,
-      length-append (a ++ b ++ d) e,
-      length-append (a ++ b ++ d ++ e) f,
+      length-five (columns 8 (c .figures)) (columns 16 (c .offered)) (columns 16 (c .passed)) (columns 16 (c .hidden)) (columns 8 (percentOf c)),
       length-columns 8 (c .figures),
       length-columns 16 (c .offered),
       length-columns 16 (c .passed),
@@ -120,19 +115,10 @@ module _ (name : List ℕ) where
   pub length-tally : (t : Tally) → length (tallyLines name t) ≡ length name * 5 + 365
   unfolding tallyLines
   length-tally t =
-      let a = countLine name gouraudName (t .gouraud) in
-      let b = countLine name constantName (t .constant) in
-      let d = countLine name line0Name (t .line0) in
-      let e = countLine name line1Name (t .line1) in
-      let f = countLine name line2Name (t .line2) in
-      let whole : length (tallyLines name t) ≡ length (a ++ b ++ d ++ e ++ f) = refl in
       omega (
         arith,
-        whole,
-        length-append a b,
-        length-append (a ++ b) d,
-        length-append (a ++ b ++ d) e,
-        length-append (a ++ b ++ d ++ e) f,
+        length-five (countLine name gouraudName (t .gouraud)) (countLine name constantName (t .constant)) (countLine name line0Name (t .line0))
+            (countLine name line1Name (t .line1)) (countLine name line2Name (t .line2)),
         kind-line gouraudName (t .gouraud) refl,
         kind-line constantName (t .constant) refl,
         kind-line line0Name (t .line0) refl,

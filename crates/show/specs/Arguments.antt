@@ -1,25 +1,12 @@
 -- What the arguments of the program ask for: `show [i|z] [levels] [PLACES]`.
-use Prim.Native.Nat.{ℕ, _+_, _*_, _%_, _≤_, min}
-use mathlib.Core.Bool.{Bool, true, false, cond, not, _&&_}
-use mathlib.Core.List.{List, [], _∷_}
+use Prim.Native.Nat.{ℕ, _+_, _≤_, min}
+use mathlib.Core.Bool.{Bool, true, false, cond, _&&_}
+use mathlib.Core.List.{List}
 use lib.ListN.{length, getD}
 use lib.Dec.{ltb, eqb}
+use Rattle.console.specs.Digits.{digitsOnly, valueOf}
 use Rattle.show.specs.declared.Asked.{Asked}
 use Rattle.show.specs.declared.Asked.the-variants.{Image, TooMany, Unclear}
-
--- a digit in ASCII
-unfoldable pub isDigit : ℕ → Bool
-isDigit byte = not (ltb byte 48) && ltb byte 58
-
--- whether all bytes are digits
-unfoldable pub digitsOnly : List ℕ → Bool
-digitsOnly [] = true
-digitsOnly (byte ∷ rest) = isDigit byte && digitsOnly rest
-
--- the number that digits tell behind those that told n; a digit's number is its byte mod 16
-unfoldable pub valueOf : ℕ → List ℕ → ℕ
-valueOf n [] = n
-valueOf n (byte ∷ rest) = valueOf (n * 10 + byte % 16) rest
 
 -- how many places an argument asks for: 0 where it tells no number, and 1,048,577 for any number above 1,048,576
 unfoldable pub placesOf : List ℕ → ℕ

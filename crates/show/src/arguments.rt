@@ -1,53 +1,11 @@
 // What the arguments ask for: which memory, in levels or as it stands, and how many places the memories have.
 ghost use mathlib.Core.Path.{_≡_};
-ghost use mathlib.Core.Bool.{true, false};
-ghost use Prim.Native.Nat.{_+_, _*_, _%_, _≤_, min};
-ghost use Rattle.show.specs.Arguments.{isDigit, digitsOnly, valueOf, placesIf, memoryOf, isLevels, askedFor, sizedOf, scaledOf, askedOf};
+ghost use Prim.Native.Nat.{_≤_};
+ghost use Rattle.show.specs.Arguments.{placesIf, memoryOf, isLevels, askedFor, sizedOf, scaledOf, askedOf};
 use crate::Asked;
 use crate::Wanted;
-use ground::least;
-
-// Whether a byte is a digit.
-fn is_digit(byte: u8) -> bool
-    ensures { λ r. ⌜ r ≡ isDigit byte ⌝ }
-{
-    !(byte < 48) & (byte < 58)
-}
-
-// Whether all bytes are digits.
-fn digits_only(arg: &[u8]) -> bool
-    ensures { λ r. ⌜ r ≡ digitsOnly (now (arg .entry)) ⌝ }
-{
-    let mut k = 0;
-    while k < arg.len() {
-        if !is_digit(arg[k]) {
-            return false;
-        }
-        k += 1;
-    }
-    true
-}
-
-// A number with one digit more, or 1,048,577 if it is greater: no number of digits can wrap.
-fn with_digit(n: usize, byte: u8) -> usize
-    requires { ⌜ n ≤ 1048577 ⌝ }
-    ensures { λ r. ⌜ r ≡ min (n * 10 + byte % 16) 1048577 ⌝ }
-{
-    least(n * 10 + (byte % 16) as usize, 1048577)
-}
-
-// The number that digits tell, or 1,048,577 if it is greater.
-fn value(arg: &[u8]) -> usize
-    ensures { λ r. ⌜ r ≡ min (valueOf 0 (now (arg .entry))) 1048577 ⌝ }
-{
-    let mut n = 0;
-    let mut k = 0;
-    while k < arg.len() {
-        n = with_digit(n, arg[k]);
-        k += 1;
-    }
-    n
-}
+use console::digits::digits_only;
+use console::digits::value;
 
 // How many places an argument asks for, if it is given.
 fn places_if(given: bool, arg: &[u8]) -> usize
@@ -57,7 +15,7 @@ fn places_if(given: bool, arg: &[u8]) -> usize
         return 1048576;
     }
     if digits_only(arg) {
-        return value(arg);
+        return value(arg, 1048577);
     }
     0
 }

@@ -1,12 +1,12 @@
 -- `assemble` meets its contract. The invariant of its loop: no more words are stored than there is room for. The measure is the number of
 -- pieces that may still come. Assumes nothing.
-use mathlib.Core.Path.{_≡_, refl, sym, _∙_}
+use mathlib.Core.Path.{_≡_, refl, _∙_}
 use Prim.Native.Nat.{_≤_}
 use native.Mathlib.Omega.{arith}
 use lib.ListN.{length}
-use lib.Seq.{length-take-le}
 use borrow.Author.Needs.{needs}
 use Rattle.listing.proofs.Kept.{held-fits}
+use Rattle.console.proofs.Front.{taken-fits, taken-front}
 use Rattle.assemble.proofs.assemble.Statement.{statement}
 use Rattle.assemble.proofs.assemble.Tie as tie
 
@@ -54,14 +54,12 @@ returns c = search needs
 array-share-prefix-piece : tie.Need-array-share-prefix-piece Inv-loop μ-loop
 array-share-prefix-piece c =
     let at-take = c .before .before .before .before in
-    let n = rw (c .before .taken .given .1) at (at-take .take .ensures) in
-    omega (arith, n, at-take .take .kept .0)
+    taken-fits (at-take .take .ensures) (c .before .taken .given .1) (at-take .take .kept .0)
 
 slice-aggregate-read : tie.Need-slice-aggregate-read Inv-loop μ-loop
 slice-aggregate-read c =
     let at-take = c .before .before .before .before .before in
-    let n = rw (c .before .before .taken .given .1) at (at-take .take .ensures) in
-    sym (length-take-le _ _ (omega (arith, n, at-take .take .kept .0)))
+    taken-front _ (at-take .take .ensures) (c .before .before .taken .given .1) (at-take .take .kept .0)
 
 read-requires : tie.Need-read-requires Inv-loop μ-loop
 read-requires c κs = search needs

@@ -1,8 +1,6 @@
 -- `main` meets its contract: the bytes taken stand at the start of the buffer. Assumes nothing.
-use mathlib.Core.Path.{sym}
-use native.Mathlib.Omega.{arith}
-use lib.Seq.{length-take-le}
 use borrow.Author.Needs.{needs}
+use Rattle.console.proofs.Front.{taken-fits, taken-front}
 use Rattle.mend.proofs.main.Statement.{statement}
 use Rattle.mend.proofs.main.Tie as tie
 
@@ -33,14 +31,12 @@ enum-known-taken c = search needs
 array-share-prefix-bytes : tie.Need-array-share-prefix-bytes
 array-share-prefix-bytes c =
     let at-take = c .before .before .before .before in
-    let n = rw (c .before .taken .given .1) at (at-take .take .ensures) in
-    omega (arith, n, at-take .take .kept .0)
+    taken-fits (at-take .take .ensures) (c .before .taken .given .1) (at-take .take .kept .0)
 
 slice-aggregate-mend-read : tie.Need-slice-aggregate-mend-read
 slice-aggregate-mend-read c =
     let at-take = c .before .before .before .before .before in
-    let n = rw (c .before .before .taken .given .1) at (at-take .take .ensures) in
-    sym (length-take-le _ _ (omega (arith, n, at-take .take .kept .0)))
+    taken-front _ (at-take .take .ensures) (c .before .before .taken .given .1) (at-take .take .kept .0)
 
 mend-read-requires : tie.Need-mend-read-requires
 mend-read-requires c κs = search needs

@@ -1,10 +1,10 @@
 -- `receive` meets its contract. The invariant of its loop: the buffer keeps its length. The measure is the number of pieces that may still come.
 -- Assumes nothing.
-use mathlib.Core.Path.{_≡_, sym}
+use mathlib.Core.Path.{_≡_}
 use native.Mathlib.Omega.{arith}
 use lib.ListN.{length}
-use lib.Seq.{length-take-le}
 use borrow.Author.Needs.{needs}
+use Rattle.console.proofs.Front.{taken-fits, taken-front}
 use Rattle.receive.proofs.receive.Statement.{statement}
 use Rattle.receive.proofs.receive.Tie as tie
 
@@ -47,14 +47,12 @@ returns c = search needs
 array-share-prefix-piece : tie.Need-array-share-prefix-piece Inv-loop μ-loop
 array-share-prefix-piece c =
     let at-take = c .before .before .before .before in
-    let n = rw (c .before .taken .given .1) at (at-take .take .ensures) in
-    omega (arith, n, at-take .take .kept .0)
+    taken-fits (at-take .take .ensures) (c .before .taken .given .1) (at-take .take .kept .0)
 
 slice-aggregate-dextolumen-feed : tie.Need-slice-aggregate-dextolumen-feed Inv-loop μ-loop
 slice-aggregate-dextolumen-feed c =
     let at-take = c .before .before .before .before .before in
-    let n = rw (c .before .before .taken .given .1) at (at-take .take .ensures) in
-    sym (length-take-le _ _ (omega (arith, n, at-take .take .kept .0)))
+    taken-front _ (at-take .take .ensures) (c .before .before .taken .given .1) (at-take .take .kept .0)
 
 dextolumen-feed-requires : tie.Need-dextolumen-feed-requires Inv-loop μ-loop
 dextolumen-feed-requires c κs = search needs

@@ -1,4 +1,4 @@
--- `arguments::digits_only` meets its contract. The invariant of its loop: the bytes from k on are digits where all of them are. The measure is the number
+-- `digits::digits_only` meets its contract. The invariant of its loop: the bytes from k on are digits where all of them are. The measure is the number
 -- of bytes left. Assumes nothing.
 use mathlib.Core.Path.{_≡_, refl, sym, _∙_}
 use mathlib.Core.Bool.{true, false}
@@ -8,10 +8,10 @@ use borrow.Author.Needs.{needs}
 use borrow.Author.Tests.{not-true, not-false}
 use lib.ListN.{length, drop}
 use lib.Seq.{drop-length}
-use Rattle.show.specs.Arguments.{digitsOnly}
-use Rattle.show.proofs.Asking.{digits-none, digits-more, digits-end}
-use Rattle.show.proofs.arguments.digits_only.Statement.{statement}
-use Rattle.show.proofs.arguments.digits_only.Tie as tie
+use Rattle.console.specs.Digits.{digitsOnly}
+use Rattle.console.proofs.Arguments.{digits-none, digits-more, digits-end}
+use Rattle.console.proofs.digits.digits_only.Statement.{statement}
+use Rattle.console.proofs.digits.digits_only.Tie as tie
 
 abbrev Inv-loop : tie.InvT-loop
 Inv-loop arg k₀ k = (k ≤ length arg) × (digitsOnly (drop k arg) ≡ digitsOnly arg)

@@ -1,8 +1,8 @@
--- `arguments::is_digit` meets its contract: the same test. Assumes nothing.
+-- `digits::is_digit` meets its contract: the same test. Assumes nothing.
 use mathlib.Core.Path.{refl}
-use Rattle.show.specs.Arguments.{isDigit}
-use Rattle.show.proofs.arguments.is_digit.Statement.{statement}
-use Rattle.show.proofs.arguments.is_digit.Tie as tie
+use Rattle.console.specs.Digits.{isDigit}
+use Rattle.console.proofs.digits.is_digit.Statement.{statement}
+use Rattle.console.proofs.digits.is_digit.Tie as tie
 
 returns : tie.Need-returns
 unfolding isDigit

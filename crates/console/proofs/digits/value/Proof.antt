@@ -1,4 +1,4 @@
--- `arguments::value` meets its contract. The invariant of its loop: the number so far, with the bytes from k on, tells what all bytes tell. The measure
+-- `digits::value` meets its contract. The invariant of its loop: the number so far, with the bytes from k on, tells what all bytes tell. The measure
 -- is the number of bytes left. Assumes nothing.
 use mathlib.Core.Path.{_≡_, refl, sym, _∙_}
 use Prim.Native.Nat.{_-_, _≤_, min}
@@ -6,19 +6,16 @@ use native.Mathlib.Omega.{arith}
 use borrow.Author.Needs.{needs}
 use lib.ListN.{length, drop}
 use lib.Seq.{drop-length}
-use Rattle.show.specs.Arguments.{valueOf}
-use Rattle.show.proofs.Asking.{value-more, value-end}
-use Rattle.show.proofs.arguments.value.Statement.{statement}
-use Rattle.show.proofs.arguments.value.Tie as tie
+use Rattle.console.specs.Digits.{valueOf}
+use Rattle.console.proofs.Arguments.{value-more, value-end}
+use Rattle.console.proofs.digits.value.Statement.{statement}
+use Rattle.console.proofs.digits.value.Tie as tie
 
 abbrev Inv-loop : tie.InvT-loop
-Inv-loop arg n₀ k₀ n k =
-    (k ≤ length arg)
-    × (n ≤ 1048577)
-    × (min (valueOf n (drop k arg)) 1048577 ≡ min (valueOf 0 arg) 1048577)
+Inv-loop arg most n₀ k₀ n k = (k ≤ length arg) × (n ≤ most) × (min (valueOf n (drop k arg)) most ≡ min (valueOf 0 arg) most)
 
 abbrev μ-loop : tie.MeasureT-loop
-μ-loop arg n₀ k₀ n k = length arg - k
+μ-loop arg most n₀ k₀ n k = length arg - k
 
 loop-holds : tie.Need-loop-holds Inv-loop μ-loop
 loop-holds c = (search needs, search needs, refl)
@@ -41,7 +38,7 @@ loop-again c =
     let a = l .before .before .args in (
       omega arith,
       omega (arith, c .with-digit .ensures),
-      value-more (a .arg .now) (l .loop .n) (l .loop .k) (omega arith) (c .with-digit .ensures) ∙ l .loop .inv .2,
+      value-more (a .arg .now) (a .most) (l .loop .n) (l .loop .k) (omega arith) (c .with-digit .ensures) ∙ l .loop .inv .2,
     )
 
 returns : tie.Need-returns Inv-loop μ-loop
@@ -49,7 +46,7 @@ returns c =
     let l = c .before in
     let a = l .before .before .args in
     let all : l .loop .k ≡ length (a .arg .now) = omega arith in
-    sym (value-end (l .loop .n) (l .loop .inv .1)) ∙ rw (all, drop-length (a .arg .now)) at (l .loop .inv .2)
+    sym (value-end (l .loop .n) (a .most) (l .loop .inv .1)) ∙ rw (all, drop-length (a .arg .now)) at (l .loop .inv .2)
 
 pub value-spec : {M : Type 1} → statement M
 value-spec =

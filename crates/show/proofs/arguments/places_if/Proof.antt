@@ -3,7 +3,8 @@ use mathlib.Core.Path.{_≡_, sym, _∙_}
 use mathlib.Core.Bool.{true, false}
 use borrow.Author.Needs.{needs}
 use borrow.Author.Tests.{not-true, not-false}
-use Rattle.show.specs.Arguments.{digitsOnly, placesOf, placesIf}
+use Rattle.console.specs.Digits.{digitsOnly}
+use Rattle.show.specs.Arguments.{placesOf, placesIf}
 use Rattle.show.proofs.arguments.places_if.Statement.{statement}
 use Rattle.show.proofs.arguments.places_if.Tie as tie
 
