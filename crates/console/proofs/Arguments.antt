@@ -55,6 +55,7 @@ pub value-more : (arg : List ℕ) (most n k : ℕ) {r : ℕ} → k < length arg 
 unfolding valueOf
 value-more arg most n k h e = rw (e, drop-cons arg k 0 h, add-one k) (value-cut (n * 10 + getD arg k 0 % 16) most (drop (suc k) arg))
 
+-- where no digit is left, the number is what was told so far
 pub value-end : (n most : ℕ) → n ≤ most → min (valueOf n []) most ≡ n
 unfolding valueOf
 value-end n most h = omega arith

@@ -88,6 +88,7 @@ either {A} m n f g = go (ltb m n) refl
     go true q = f (ltb-true m n q)
     go false q = g (ltb-false m n q)
 
+-- an edge must exceed the other side by at most 1
 pub short-low : (c : Bool) → short c ≤ 1
 short-low true = omega arith
 short-low false = omega arith
@@ -135,6 +136,7 @@ module _ (a b : Vertex) (y : ℕ) (s : Side) (k : Stands a b y s) (tall : s .hei
         rise-end a b y r (omega (arith, same, near)) l
         (rw same at (over-once (p a b y - m a b y) (s .at) (s .height .tall) r (omega (arith, near)) (omega (arith, is)) e)))
 
+    -- where the number is near, its quotient by the height bounds the columns
     pub bound-at : Bounds a b y r
     bound-at = either (b .y) (a .y) at-fall at-rise
 
@@ -216,6 +218,7 @@ module _ (a b : Vertex) (y : ℕ) (s : Side) (n : ℕ) (k : Stands a b y s) (tal
       ∙ next-mod n (s .at) (s .step) (minus₀ + short (closed a b)) (a .x) _ (b .x) e (f .0) (f .1) (omega (arith, low, tall, kx))
       ∙ to
 
+  -- a row on the edge stands with its number raised by its step
   pub side-next : Stands a b (y + 1) (record { left = s .left; at = n; step = s .step; height = s .height })
   side-next =
       record {

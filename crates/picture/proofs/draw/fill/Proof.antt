@@ -110,7 +110,8 @@ loop-again c =
       carried-next (a .i .first) (a .i .add) (k .j) _ (k .ki) (k .inv .5) (c .before .wrapping-add-u64 .ensures),
       carried-next (a .z .first) (a .z .add) (k .j) _ (k .kz) (k .inv .6) (c .wrapping-add-u642 .ensures),
       reached-more (k .inv .7)
-          (row-turn (a .pen) rows (a .kind) (a .lo) (a .y) (a .i) (a .z) (k .j) (picture (k .im) (k .zm) (k .n)) (inside-of (a .pen .frame) rows (a .lo + k .j) (a .y) (omega (arith, k .inv .1, in-loop .loop-test .taken, s .pre .0, s .pre .1)) (s .pre .2) (whole-mine (a .pen .frame) (a .lo + k .j) (s .pre .3)))
+          (row-turn (a .pen) rows (a .kind) (a .lo) (a .y) (a .i) (a .z) (k .j) (picture (k .im) (k .zm) (k .n))
+          (inside-of (a .pen .frame) rows (a .lo + k .j) (a .y) (omega (arith, k .inv .1, in-loop .loop-test .taken, s .pre .0, s .pre .1)) (s .pre .2) (whole-mine (a .pen .frame) (a .lo + k .j) (s .pre .3)))
           (at-whole .whole .ensures ∙ carried-at (a .i) (k .j) (k .ki) (k .inv .5)) (at-whole2 .whole2 .ensures ∙ carried-at (a .z) (k .j) (k .kz) (k .inv .6)) (d .draw-one .ensures .0)),
     )
 

@@ -40,7 +40,10 @@ mul-result-2 : tie.Need-mul-result-2
 mul-result-2 c = record { fits = omega (arith, c .before .before .shared-slice-known .given (c .before .before .before .args .i + 2) .fits) }
 
 add-result-4 : tie.Need-add-result-4
-add-result-4 c = record { fits = omega (arith, c .before .before .shared-slice-known .given (c .before .before .before .args .i) .fits, c .before .before .shared-slice-known .given (c .before .before .before .args .i + 1) .fits, c .before .before .shared-slice-known .given (c .before .before .before .args .i + 2) .fits) }
+add-result-4 c =
+    let known = c .before .before in
+    let i = known .before .args .i in
+    record { fits = omega (arith, known .shared-slice-known .given i .fits, known .shared-slice-known .given (i + 1) .fits, known .shared-slice-known .given (i + 2) .fits) }
 
 add-result-5 : tie.Need-add-result-5
 add-result-5 c = search needs
@@ -60,8 +63,11 @@ mul-result-3 c =
 
 add-result-6 : tie.Need-add-result-6
 add-result-6 c =
-    let start = c .before .before .before .before in
-    record { fits = omega (arith, c .before .before .before .shared-slice-known .given (start .args .i) .fits, c .before .before .before .shared-slice-known .given (start .args .i + 1) .fits, c .before .before .before .shared-slice-known .given (start .args .i + 2) .fits, c .before .before .before .shared-slice-known .given (start .args .i + 3) .fits) }
+    let known = c .before .before .before in
+    let i = known .before .args .i in
+    let first = known .shared-slice-known .given i .fits in
+    let second = known .shared-slice-known .given (i + 1) .fits in
+    record { fits = omega (arith, first, second, known .shared-slice-known .given (i + 2) .fits, known .shared-slice-known .given (i + 3) .fits) }
 
 returns : tie.Need-returns
 returns c =
