@@ -29,7 +29,7 @@ use Rattle.line.specs.Course.{spotAt}
 use Rattle.line.specs.Part.{part, partOf, hasPlace}
 use Rattle.line.specs.Walk.{Stands, twiceOf, nextOf}
 use Rattle.line.specs.Field.{inField, endsWithin, AllOffered, isOpen, isBare}
-use Rattle.line.specs.Route.{liesOf, wayOf, widthOf, columnOf, rowOf, isHere, placedAt, farOf, OnRoute, onwardOf, Begins, Goes, Sets, Traces}
+use Rattle.line.specs.Route.{liesOf, wayOf, spotWidth, columnOf, rowOf, isHere, placedAt, farOf, OnRoute, onwardOf, Begins, Goes, Sets, Traces}
 use Rattle.line.proofs.Steps.{steps-apart}
 use Rattle.line.proofs.Insides.{step-offered, step-low, direct-offered, inside-whole}
 use Rattle.line.proofs.Parts.{part-mine, part-place, part-between}
@@ -85,13 +85,13 @@ pub sets-of : {pen : Pen} {rows used : ℕ} {style : Style} {way w : ℕ} {deep 
 sets-of e f d g o b = record { goes = rw (e, f) at g; route = rw (e, f, d) at o; begins = b }
 
 -- the width of spots, where they are places of rows, and where column and row are read from them
-width-line : (frame : Frame) {way : ℕ} → (way ≡ 0) ⊎ (way ≡ 2) → widthOf way frame ≡ frame .line
-unfolding widthOf
+width-line : (frame : Frame) {way : ℕ} → (way ≡ 0) ⊎ (way ≡ 2) → spotWidth way frame ≡ frame .line
+unfolding spotWidth
 width-line frame (inl e) = rw e
 width-line frame (inr e) = rw e
 
-width-read : (frame : Frame) {way : ℕ} → (way ≡ 1) ⊎ (way ≡ 3) → widthOf way frame ≡ 65536
-unfolding widthOf
+width-read : (frame : Frame) {way : ℕ} → (way ≡ 1) ⊎ (way ≡ 3) → spotWidth way frame ≡ 65536
+unfolding spotWidth
 width-read frame (inl e) = rw e
 width-read frame (inr e) = rw e
 

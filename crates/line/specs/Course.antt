@@ -24,8 +24,8 @@ moveOf from to width = cond (leb from to) (move width 0) (move 0 width)
 -- a pixel along x is one, a pixel along y is a width
 unfoldable pub courseOf : ℕ → Vertex → Vertex → Bool → Course
 courseOf width a b level =
-    cond level (course (a .y * width + a .x) (moveOf (a .x) (b .x) 1) (moveOf (a .y) (b .y) (width)))
-    (course (a .y * width + a .x) (moveOf (a .y) (b .y) (width)) (moveOf (a .x) (b .x) 1))
+    cond level (course (a .y * width + a .x) (moveOf (a .x) (b .x) 1) (moveOf (a .y) (b .y) width))
+    (course (a .y * width + a .x) (moveOf (a .y) (b .y) width) (moveOf (a .x) (b .x) 1))
 
 -- c is the course of the segment from a to b
 abbrev pub OnCourse : ℕ → Vertex → Vertex → Slope → Course → Type 0

@@ -31,8 +31,8 @@ unfoldable pub wayOf : Frame → Bool → ℕ
 wayOf frame inside = cond inside (liesOf frame) 3
 
 -- the width of spots: the line length, so that a spot is the place in a picture of rows; in the ways 1 and 3 it is 65,536, so that column and row are read from it
-unfoldable pub widthOf : ℕ → Frame → ℕ
-widthOf way frame = cond (eqb way 1 || eqb way 3) 65536 (frame .line)
+unfoldable pub spotWidth : ℕ → Frame → ℕ
+spotWidth way frame = cond (eqb way 1 || eqb way 3) 65536 (frame .line)
 
 -- the column of a spot whose width is 65,536
 abbrev pub columnOf : ℕ → ℕ
@@ -60,7 +60,7 @@ farOf part s w = cond (s .level) (cond (eqb (part .shift) 1) (twiceOf w) (twiceO
 -- r is the route of the segment from a to b, in a way, with so many rows in use, for lines that have depths or not
 pub record OnRoute (frame : Frame) (rows way : ℕ) (deep : Bool) (a b : Vertex) (r : Route) : Type 0 where
   pub sloped : r .slope ≡ slopeOf a b
-  pub wide : r .width ≡ widthOf way frame
+  pub wide : r .width ≡ spotWidth way frame
   pub placed : OnCourse (r .width) a b (r .slope) (r .course)
   pub limited : r .rows ≡ rows
   pub shared : r .part ≡ partOf frame

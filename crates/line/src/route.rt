@@ -4,7 +4,7 @@ ghost use Prim.Native.Nat.{_≤_};
 ghost use Rattle.line.specs.Course.{OnCourse, spotAt};
 ghost use Rattle.line.specs.Part.{partOf};
 ghost use Rattle.line.specs.Walk.{OnWalk};
-ghost use Rattle.line.specs.Route.{wayOf, widthOf, columnOf, rowOf, isHere, placedAt, farOf, OnRoute, onwardOf};
+ghost use Rattle.line.specs.Route.{wayOf, spotWidth, columnOf, rowOf, isHere, placedAt, farOf, OnRoute, onwardOf};
 use crate::course::Course;
 use crate::course::course_of;
 use crate::course::spot_at;
@@ -65,8 +65,8 @@ pub(crate) fn way_of(frame: Frame, inside: bool) -> u16
 }
 
 // The width of spots.
-fn width_of(way: u16, frame: Frame) -> u32
-    ensures { λ r. ⌜ (r ≡ widthOf way frame) × (r ≤ 65536) ⌝ }
+fn spot_width(way: u16, frame: Frame) -> u32
+    ensures { λ r. ⌜ (r ≡ spotWidth way frame) × (r ≤ 65536) ⌝ }
 {
     if (way == TILES) | (way == ASKED) {
         return 65536;
@@ -115,7 +115,7 @@ pub(crate) fn route_of(
     ensures { λ r. ⌜ OnRoute frame rows way deep a b r ⌝ }
 {
     let slope = slope_of(a, b);
-    let width = width_of(way, frame);
+    let width = spot_width(way, frame);
     let course = course_of(width, a, b, slope);
     let part = part_of(frame);
     let near = walk_of(a, b, slope, deep);
