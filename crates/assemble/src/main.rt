@@ -1,5 +1,6 @@
 // Assembles a recording: reads a text of words from standard input, as `list` prints it or with bare words, and writes the packed stream.
 // What is a word and what a remark is said in listing's specs/Reading.antt. Nothing is written of a text that has something else in it.
+#![tactic(auto)]
 ghost use Rattle.std.specs.Prelude.{◌≤◌, length};
 
 use console::say::{say, say_number};

@@ -1,1 +1,2 @@
 // What an operator believes of a board's picture. specs/Believed.antt has the statements; no function is declared here.
+#![tactic(auto)]

@@ -2,6 +2,7 @@
 // some words from reset, as hexadecimal command and data, and the number that the last of them should be given, or how many of its pixels should
 // pass. Its line tells the number that the chip gives as well: the stored output is met only where the two agree in every row. The first line
 // that cannot be written ends it.
+#![tactic(auto)]
 mod answer;
 mod pictures;
 mod row;

@@ -1,6 +1,7 @@
 // The console of the programs: what they read, standard input or another descriptor, to its end or until a lent buffer is full; and what they
 // say on standard error. Which bytes come no contract can say; specs/Taken.antt says how many may. Beside it, room for what is read
 // (specs/Room.antt), and numbers as arguments tell them (specs/Digits.antt).
+#![tactic(auto)]
 pub mod digits;
 pub mod say;
 

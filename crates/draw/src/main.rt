@@ -1,5 +1,6 @@
 // The drawing program: reads a packed stream from standard input, draws it, and prints the picture as text. What it prints for what it
 // reads is `printed` (specs/Draw.antt). Where a read or a write fails, or where it is given arguments, it says so on standard error.
+#![tactic(auto)]
 mod text;
 
 use console::say::say;

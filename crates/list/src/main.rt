@@ -1,5 +1,6 @@
 // Lists a recording: reads a packed stream from standard input and prints its words, a line each (`listing`, of listing's specs/Text.antt),
 // or the number that refuses the stream, which it says on standard error as well. `assemble` turns the lines back into the recording.
+#![tactic(auto)]
 mod page;
 
 ghost use Rattle.std.specs.Prelude.{◌≤◌, length};

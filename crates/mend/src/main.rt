@@ -1,6 +1,7 @@
 // Mends a recording: reads damaged bytes from standard input and writes the good stream of the whole words that are not refused. On
 // standard error it lists the words that it dropped, a line each, and tells what was kept, dropped, cut and cleared; of a recording with nothing
 // to mend it says nothing.
+#![tactic(auto)]
 mod say;
 mod space;
 

@@ -1,6 +1,7 @@
 // The overdraw report: reads the files 000, 001 and on to 999 where it stands, until one is missing, and prints what each draws for nothing, and
 // all of them. What it prints is `Printed` (specs/Report.antt). A file that cannot be read is told on standard error, and ends the report:
 // what came before it is printed, and no total.
+#![tactic(auto)]
 mod file;
 mod page;
 mod text;

@@ -1,5 +1,6 @@
 // The two lent memories, and what an offered pixel does to them. specs/ says where pixels lie (Place), what is offered (Offer), what
 // passes and is stored (Picture), and what pictures store (Store).
+#![tactic(auto)]
 mod carry;
 pub mod draw;
 pub mod limits;

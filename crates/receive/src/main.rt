@@ -1,6 +1,7 @@
 // Receives a recording of any length, as a slow line delivers it: the bytes are taken in instalments as they come, and the picture is printed
 // as text once the end is reached. Of a stream that 11 and 12 don't touch that is what the drawing program prints. Where a read or a write
 // fails, it says so on standard error.
+#![tactic(auto)]
 mod text;
 
 use console::say::say;

@@ -1,6 +1,7 @@
 // The text of a run: a line for its three numbers, and one for each place of the picture that shows. And the image of a memory, as it stands or
 // in levels. And any text, laid at a place. specs/Text.antt is the text, specs/Image.antt the image, specs/Levels.antt the levels, specs/Calls.antt what the calls that write
 // tell and leave.
+#![tactic(auto)]
 mod heading;
 mod image;
 mod number;
