@@ -1,5 +1,5 @@
 -- What a call makes of the two memories that it is lent: said of these once, so that a contract names the offers and nothing else.
-use Rattle.std.specs.Borrow.{Bor}
+use Rattle.std.specs.Borrow.{MutBor}
 use denote.Triple.Both.{Both}
 use Rattle.std.specs.Prelude.{◌≡◌, ℕ, List, length}
 use Rattle.picture.specs.declared.Frame.{Frame}
@@ -11,7 +11,7 @@ use Rattle.picture.specs.Store.{Store, filled}
 
 -- a lent memory, and one as a call finds it and as it leaves it
 abbrev pub Memory : Type 0
-Memory = Bor (List ℕ)
+Memory = MutBor (List ℕ)
 
 -- a lent memory twice, as a call finds it and as it leaves it
 abbrev pub Lent : Type 0

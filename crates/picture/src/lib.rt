@@ -1,6 +1,7 @@
 // The two lent memories, and what an offered pixel does to them. specs/ says where pixels lie (Place), what is offered (Offer), what
 // passes and is stored (Picture), and what pictures store (Store).
 #![tactic(auto)]
+
 mod carry;
 pub mod draw;
 pub mod limits;
@@ -13,14 +14,14 @@ pub mod transfer;
 // Where pixels lie: the line length, and the number of the layout (specs/Place.antt), 0 for rows one after the other and 1 for tiles of four by
 // four.
 #[repr(C)]
-#[derive(Drop)]
+#[derive(Clone, Copy)]
 pub struct Frame {
     pub line: u16,
     pub layout: u16,
 }
 
 // What the modes say of drawing. The window's borders belong to it.
-#[derive(Drop)]
+#[derive(Clone, Copy)]
 pub struct Pen {
     pub frame: Frame,
     pub left: u16,
@@ -35,7 +36,7 @@ pub struct Pen {
 }
 
 // The figures that pixels belong to: Gouraud and constant triangles, lines of the modes 0, 1 and 2.
-#[derive(Drop)]
+#[derive(Clone, Copy)]
 pub enum Kind {
     Gouraud,
     Constant,
@@ -45,7 +46,7 @@ pub enum Kind {
 }
 
 // How a new depth stands to the old one.
-#[derive(Drop)]
+#[derive(Clone, Copy)]
 pub enum Compared {
     Nearer,
     Equal,
@@ -54,7 +55,7 @@ pub enum Compared {
 
 // A point of a figure, with its two numbers.
 #[repr(C)]
-#[derive(Drop)]
+#[derive(Clone, Copy)]
 pub struct Vertex {
     pub x: u16,
     pub y: u16,
@@ -67,14 +68,14 @@ pub const CARRIED_ONE: u64 = 1 << 48;
 
 // A number carried along a row, as 2^48 times itself and a part: what it is at the row's first pixel, and what each pixel adds, modulo
 // 2^64.
-#[derive(Drop)]
+#[derive(Clone, Copy)]
 pub struct Carried {
     pub first: u64,
     pub add: u64,
 }
 
 // Pixels that lie side by side: the place of the first, how many, and their numbers.
-#[derive(Drop)]
+#[derive(Clone, Copy)]
 struct Run {
     base: usize,
     count: u16,
@@ -83,7 +84,7 @@ struct Run {
 }
 
 // A number for each of eight pixels that lie side by side.
-#[derive(Drop)]
+#[derive(Clone, Copy)]
 struct Eight {
     a: u16,
     b: u16,

@@ -1,0 +1,9 @@
+-- `nearer::run_of` meets its contract. Assumes nothing.
+use Rattle.std.proofs.Common.{sym, ◌∙◌}
+use Rattle.picture.proofs.Runs.{plain_beside}
+use Rattle.picture.proofs.nearer.run_of.Goals as goal
+
+pub returns-then-lies_plain : goal.returns-then-lies_plain
+returns-then-lies_plain c =
+    let a = c.args in
+    plain_beside a.frame a.lo a.hi a.y a.i a.z c.requires.0 c.requires.1 (sym c.lies_plain.ensures ∙ c.if-lies_plain.true) c.place-base.ensures.0 c.place-base.ensures.1

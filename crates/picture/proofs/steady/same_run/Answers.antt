@@ -1,0 +1,12 @@
+-- `steady::same_run` meets its contract. Assumes nothing.
+use Rattle.std.proofs.Common.{sym, ◌∙◌}
+use Rattle.picture.specs.Draw.{steady_of}
+use Rattle.picture.proofs.Runs.{plain_beside}
+use Rattle.picture.proofs.steady.same_run.Goals as goal
+
+pub returns-then-lies_plain : goal.returns-then-lies_plain
+returns-then-lies_plain c =
+    let a = c.args in
+    rw (c.carried-ki.ensures, c.carried-kz.ensures)
+    (plain_beside a.frame a.lo a.hi a.y (steady_of a.i) (steady_of a.z) c.requires.0 c.requires.1
+    (sym c.lies_plain.ensures ∙ c.if-lies_plain.true) c.place-base.ensures.0 c.place-base.ensures.1)
