@@ -16,7 +16,7 @@ use registers::Registers;
 
 // The number of units, and the registers, which are those of one chip.
 #[repr(C)]
-#[derive(Drop)]
+#[derive(Clone, Copy)]
 pub struct Board {
     pub units: u16,
     pub registers: Registers,
@@ -24,7 +24,7 @@ pub struct Board {
 
 // The answer to a reset: the number that refuses it, 0 for accepted, and the board.
 #[repr(C)]
-#[derive(Drop)]
+#[derive(Clone, Copy)]
 pub struct Started {
     pub refusal: u64,
     pub board: Board,

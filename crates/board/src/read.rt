@@ -11,7 +11,7 @@ use refusals::bounds::is_sound;
 
 // The answer to a read: the number that refuses it, 0 for accepted; the pixel, 0 where it is refused; and the next board.
 #[repr(C)]
-#[derive(Drop)]
+#[derive(Clone, Copy)]
 pub struct Seen {
     pub refusal: u64,
     pub pixel: u16,

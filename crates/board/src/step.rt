@@ -10,7 +10,7 @@ use crate::{Board, is_board};
 
 // The answer to a word: the number that refuses it, 0 for accepted; how many pixels passed in all units; and the next board.
 #[repr(C)]
-#[derive(Drop)]
+#[derive(Clone, Copy)]
 pub struct Reply {
     pub refusal: u64,
     pub passed: u64,

@@ -8,7 +8,7 @@ fn taken(r: Registers, word: u32, im: &mut [u16], zm: &mut [u16]) -> Answer {
 }
 
 // The number that a word is given, and how many of its pixels pass.
-#[derive(Drop)]
+#[derive(Clone, Copy)]
 pub(crate) struct Got {
     pub(crate) number: u64,
     pub(crate) passed: u64,

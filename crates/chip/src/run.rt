@@ -16,7 +16,7 @@ use stream::read::{flaw, held, word};
 
 // How a run ended: the number that refused a word or the stream, 0 for none; the index of that word, or how many words there are; the sum
 // of the counts of the words before it, modulo 2^64; and the registers.
-#[derive(Drop)]
+#[derive(Clone, Copy)]
 pub struct Ran {
     pub refusal: u64,
     pub index: u64,

@@ -13,7 +13,7 @@ use registers::Registers;
 use registers::word::{Word, decoded};
 
 // The answer to a word: the number that refuses it, 0 for accepted; how many pixels passed; and the next registers.
-#[derive(Drop)]
+#[derive(Clone, Copy)]
 pub struct Answer {
     pub refusal: u64,
     pub passed: u64,

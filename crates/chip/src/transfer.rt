@@ -30,7 +30,7 @@ fn pixel(r: Registers, im: &[u16], zm: &[u16]) -> u16
 }
 
 // The answer to the read call: the number that refuses it, 0 for accepted; the pixel, 0 where it is refused; and the next registers.
-#[derive(Drop)]
+#[derive(Clone, Copy)]
 pub struct Reading {
     pub refusal: u64,
     pub pixel: u16,

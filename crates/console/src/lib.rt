@@ -12,7 +12,7 @@ ghost use Rattle.console.specs.Room.{Filled};
 use libc::STDIN_FILENO;
 
 // How many bytes came, or that a read failed.
-#[derive(Drop)]
+#[derive(Clone, Copy)]
 pub enum Taken {
     Bytes(usize),
     Failed,

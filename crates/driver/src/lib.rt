@@ -10,7 +10,7 @@ use registers::Registers;
 
 // The answer to a word: the number that refuses it, 0 for accepted, and how many pixels passed. The next registers are in the record.
 #[repr(C)]
-#[derive(Drop)]
+#[derive(Clone, Copy)]
 pub struct Told {
     pub refusal: u64,
     pub passed: u64,

@@ -13,7 +13,7 @@ use registers::Registers;
 // were run, and the sum of their counts, both modulo 2^64; the bits of a word that has not come whole, and how many they are; 1 once the
 // end was told with no word refused before it, else 0; and the registers.
 #[repr(C)]
-#[derive(Drop)]
+#[derive(Clone, Copy)]
 pub struct Intake {
     pub refusal: u64,
     pub index: u64,

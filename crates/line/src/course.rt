@@ -9,14 +9,14 @@ use crate::slope::Slope;
 use picture::Vertex;
 
 // What a pixel along an axis adds to the spot, and what it takes from it: one of them is 0.
-#[derive(Drop)]
+#[derive(Clone, Copy)]
 pub(crate) struct Move {
     pub(crate) up: u32,
     pub(crate) down: u32,
 }
 
 // The first spot, and the moves along the axis that leads and along the other.
-#[derive(Drop)]
+#[derive(Clone, Copy)]
 pub(crate) struct Course {
     pub(crate) first: u32,
     pub(crate) ahead: Move,

@@ -10,7 +10,7 @@ use picture::place::{TILED, lies_plain, rows_of};
 use picture::{Frame, Kind, Pen, Vertex};
 
 // The rows in use, and whether nothing but the window and the memory is asked: in rows and in tiles, where the transparency pattern hides nothing.
-#[derive(Drop)]
+#[derive(Clone, Copy)]
 pub(crate) struct Field {
     pub(crate) direct: bool,
     pub(crate) rows: usize,

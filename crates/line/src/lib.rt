@@ -24,7 +24,7 @@ mod trace;
 mod walk;
 
 // The line modes 0, 1 and 2.
-#[derive(Drop)]
+#[derive(Clone, Copy)]
 pub enum Mode {
     Zero,
     One,
@@ -44,7 +44,7 @@ pub fn mode_of(number: u16) -> Mode
 
 // What the modes say of lines, and what the line says of its next segment: how many steps it has made, and whether the segment leaves out its
 // first point, which the one before it drew. All but the mode serves the modes 0 and 1.
-#[derive(Drop)]
+#[derive(Clone, Copy)]
 pub struct Style {
     pub mode: Mode,
     pub pattern: u32,

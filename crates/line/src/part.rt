@@ -6,7 +6,7 @@ ghost use Rattle.line.specs.Part.{part_of, has_place};
 use picture::Frame;
 
 // A unit's remainder, the mask that takes a place's remainder, and the shift that leaves its quotient.
-#[derive(Drop)]
+#[derive(Clone, Copy)]
 pub(crate) struct Part {
     pub(crate) shift: u32,
     pub(crate) mask: usize,

@@ -9,7 +9,7 @@ use crate::walk::{Step, whole};
 use crate::{Mode, Style};
 
 // Whether a step is drawn, and its two numbers.
-#[derive(Drop)]
+#[derive(Clone, Copy)]
 pub(crate) struct Ink {
     pub(crate) drawn: bool,
     pub(crate) i: u16,

@@ -24,7 +24,7 @@ pub(crate) const SHARES: u16 = 2;
 pub(crate) const ASKED: u16 = 3;
 
 // What stays from step to step. A unit that has drawn a step goes the far walk to the next.
-#[derive(Drop)]
+#[derive(Clone, Copy)]
 pub(crate) struct Route {
     pub(crate) slope: Slope,
     pub(crate) width: u32,

@@ -6,7 +6,7 @@ ghost use Rattle.line.specs.Step.{slope_of, step_pixel, OnStep};
 use picture::Vertex;
 
 // Which axis leads (level: x does), the larger distance n and the smaller distance m.
-#[derive(Drop)]
+#[derive(Clone, Copy)]
 pub(crate) struct Slope {
     pub(crate) level: bool,
     pub(crate) n: u16,
@@ -14,7 +14,7 @@ pub(crate) struct Slope {
 }
 
 // A pixel.
-#[derive(Drop)]
+#[derive(Clone, Copy)]
 pub(crate) struct Pixel {
     pub(crate) x: u16,
     pub(crate) y: u16,

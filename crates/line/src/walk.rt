@@ -9,7 +9,7 @@ use crate::slope::Slope;
 use picture::{CARRIED_ONE, Carried, Vertex};
 
 // What stays from step to step: how many steps are gone at once, and what is carried over them.
-#[derive(Drop)]
+#[derive(Clone, Copy)]
 pub(crate) struct Walk {
     pub(crate) stride: u64,
     pub(crate) side: Carried,
@@ -18,7 +18,7 @@ pub(crate) struct Walk {
 }
 
 // Step k, and what is carried there.
-#[derive(Drop)]
+#[derive(Clone, Copy)]
 pub(crate) struct Step {
     pub(crate) k: u64,
     pub(crate) side: u64,

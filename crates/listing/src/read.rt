@@ -5,7 +5,7 @@ ghost use Rattle.listing.specs.Reading.{reading, stored, closed, in_words, taken
 
 // What the next byte is part of; or why reading has stopped: something that is no word of five digits, or a word more than the buffer has
 // room for.
-#[derive(Drop)]
+#[derive(Clone, Copy)]
 pub enum Mood {
     Words,
     Remark,
@@ -15,7 +15,7 @@ pub enum Mood {
 
 // How far reading has come: the digits of the word that has begun and how many they are, how many words are stored, and the number of
 // the line, from 1 on.
-#[derive(Drop)]
+#[derive(Clone, Copy)]
 pub struct Reader {
     pub mood: Mood,
     pub value: u32,

@@ -7,7 +7,7 @@ use crate::write::{put_digits, put_name, put_part, put_word};
 use report::has_room;
 
 // What a word means: a row of the table of meanings, and which of how many parameters it is, 0 of 0 where there are none.
-#[derive(Drop)]
+#[derive(Clone, Copy)]
 pub struct Meaning {
     pub row: u64,
     pub came: u64,
@@ -15,7 +15,7 @@ pub struct Meaning {
 }
 
 // A word with what the machine made of it: its index, what it means, the number that refuses it or 0, and how many pixels passed.
-#[derive(Drop)]
+#[derive(Clone, Copy)]
 pub struct Traced {
     pub index: u64,
     pub word: u32,
@@ -25,7 +25,7 @@ pub struct Traced {
 }
 
 // The two numbers of a pixel.
-#[derive(Drop)]
+#[derive(Clone, Copy)]
 pub struct Numbers {
     pub i: u16,
     pub z: u16,

@@ -13,7 +13,7 @@ use stream::read::{flaw, held};
 // What mending tells: the number that refused it, 0 for none; the length of the new stream; how many words were dropped; how many bits
 // were cut from the end; and whether a closing half byte that was not 0 was cleared, 1 or 0. All are numbers of 64 bits, as C takes them.
 #[repr(C)]
-#[derive(Drop)]
+#[derive(Clone, Copy)]
 pub struct Mended {
     pub refusal: u64,
     pub size: usize,

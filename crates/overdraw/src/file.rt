@@ -7,7 +7,7 @@ use console::{Taken, take_from};
 use libc::ENOENT;
 
 // What looking for a file comes to: so many of its bytes, or it is missing, or it cannot be read.
-#[derive(Drop)]
+#[derive(Clone, Copy)]
 pub(crate) enum Found {
     Bytes(usize),
     Missing,

@@ -14,7 +14,7 @@ use libc::STDOUT_FILENO;
 use page::{Reached, add, begin, finish};
 
 // What was gathered: how far the report has come, and whether no file is left out.
-#[derive(Drop)]
+#[derive(Clone, Copy)]
 struct Gathered {
     reached: Reached,
     whole: bool,

@@ -9,7 +9,7 @@ use crate::text::{name_of, put_entry, put_heading, put_tally};
 use tally::{Tally, enter};
 
 // How far the report has come: how many recordings it has, where its lines end, and the total.
-#[derive(Drop)]
+#[derive(Clone, Copy)]
 pub(crate) struct Reached {
     pub(crate) files: u64,
     pub(crate) end: usize,

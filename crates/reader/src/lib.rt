@@ -10,7 +10,7 @@ use registers::Registers;
 
 // The answer to a read: the number that refuses it, 0 for accepted, and the pixel. The next registers are in the record.
 #[repr(C)]
-#[derive(Drop)]
+#[derive(Clone, Copy)]
 pub struct Seen {
     pub refusal: u64,
     pub pixel: u16,

@@ -14,7 +14,7 @@ use registers::Registers;
 // How a run ended: the number that refused a word or the stream, 0 for none; the index of that word, or how many words there are; the sum
 // of the counts of the words before it, modulo 2^64; and the registers.
 #[repr(C)]
-#[derive(Drop)]
+#[derive(Clone, Copy)]
 pub struct Ended {
     pub refusal: u64,
     pub index: u64,

@@ -39,7 +39,7 @@ pub(crate) const LOAD: u16 = 14;
 
 // The words of PMODE, LMODE, ZCONTROL, HCONTROL, LSTATUS, TPATTERN, MASK and SECTION, as they were sent. LX rewrites LSTATUS.
 #[repr(C)]
-#[derive(Drop)]
+#[derive(Clone, Copy)]
 pub struct Modes {
     pub pmode: u16,
     pub lmode: u16,
@@ -53,7 +53,7 @@ pub struct Modes {
 
 // The clipping window. Its borders belong to it.
 #[repr(C)]
-#[derive(Drop)]
+#[derive(Clone, Copy)]
 pub struct Window {
     pub left: u16,
     pub top: u16,
@@ -63,7 +63,7 @@ pub struct Window {
 
 // What lines of the modes 0 and 1 are drawn with: two colours, and the pattern's bits 31 to 16 and 15 to 0.
 #[repr(C)]
-#[derive(Drop)]
+#[derive(Clone, Copy)]
 pub struct Dash {
     pub foreground: u16,
     pub background: u16,
@@ -73,7 +73,7 @@ pub struct Dash {
 
 // The I, Z and Y registers.
 #[repr(C)]
-#[derive(Drop)]
+#[derive(Clone, Copy)]
 pub struct Latch {
     pub i: u16,
     pub z: u16,
@@ -83,7 +83,7 @@ pub struct Latch {
 // The open figure: 0 for none, 1 a strip, 2 a fan, 3 a line. `first` is the vertex that the next one joins; where `pair` is 1, so is `second`.
 // Of a line, `steps` is how many it has made since LX, modulo 32, and `dashed` is 1 if its last segment was visible and of mode 0 or 1.
 #[repr(C)]
-#[derive(Drop)]
+#[derive(Clone, Copy)]
 pub struct Figure {
     pub shape: u16,
     pub pair: u16,
@@ -95,7 +95,7 @@ pub struct Figure {
 
 // The AUX number whose parameters are awaited, 13 for none, 14 and 15 for IMG's; how many have come, and those.
 #[repr(C)]
-#[derive(Drop)]
+#[derive(Clone, Copy)]
 pub struct Parked {
     pub subcommand: u16,
     pub came: u16,
@@ -105,7 +105,7 @@ pub struct Parked {
 // The region of a picture: 0 for none, 1 to memory, 2 from memory; the column of its first corner, its second corner, and the pixel that the
 // next transfer is of.
 #[repr(C)]
-#[derive(Drop)]
+#[derive(Clone, Copy)]
 pub struct Region {
     pub way: u16,
     pub x0: u16,
@@ -118,7 +118,7 @@ pub struct Region {
 // All registers. Every field is an unsigned number, so that any bits are a record; docs/REGISTERS.md lists the bounds. `started` is 1 once
 // an INIT was accepted.
 #[repr(C)]
-#[derive(Drop)]
+#[derive(Clone, Copy)]
 pub struct Registers {
     pub started: u16,
     pub frame: Frame,

@@ -8,7 +8,7 @@ use line::step_count;
 use picture::Vertex;
 
 // The shapes of open figures.
-#[derive(Drop)]
+#[derive(Clone, Copy)]
 pub enum Shape {
     Closed,
     Strip,
@@ -17,7 +17,7 @@ pub enum Shape {
 }
 
 // What a word completes: nothing, a triangle of three vertices of which the last is new, or a visible segment to the new endpoint.
-#[derive(Drop)]
+#[derive(Clone, Copy)]
 pub enum Completed {
     Nothing,
     Triangle(Vertex, Vertex, Vertex),

@@ -8,7 +8,7 @@ pub const LARGEST_AUX: u16 = 12;
 pub const UNMODELLED_AUX: u16 = 11;
 
 // The subcommands that are modelled, and none.
-#[derive(Drop)]
+#[derive(Clone, Copy)]
 pub enum Subcommand {
     Nothing,
     Pmode,

@@ -3,7 +3,7 @@ ghost use Rattle.std.specs.Prelude.{◌≡◌};
 ghost use Rattle.registers.specs.Word.{decode};
 
 // The commands that carry a number of a vertex.
-#[derive(Drop)]
+#[derive(Clone, Copy)]
 pub enum Coordinate {
     I,
     Z,
@@ -16,7 +16,7 @@ pub enum Coordinate {
 }
 
 // A decoded word. Reserved are 7 and C hex; the sheet has A hex, and it is not modelled; above F hex no command is known.
-#[derive(Drop)]
+#[derive(Clone, Copy)]
 pub enum Word {
     Init(u16),
     Aux(u16),

@@ -16,14 +16,14 @@ pub use scale::{drawn_places, to_levels};
 pub use text::write;
 
 // What writing answers: the length that it wrote, or that the text does not fit. specs/Calls.antt has document 01's number of each.
-#[derive(Drop)]
+#[derive(Clone, Copy)]
 pub enum Written {
     Done(usize),
     NoRoom,
 }
 
 // The least and the greatest number that is shown.
-#[derive(Drop)]
+#[derive(Clone, Copy)]
 struct Range {
     low: u16,
     high: u16,

@@ -16,7 +16,7 @@ use registers::Registers;
 use write::write_drawn;
 
 // What is to be shown: which memory, whether in levels, and how many places the memories have, given or not.
-#[derive(Drop)]
+#[derive(Clone, Copy)]
 struct Wanted {
     depth: bool,
     levels: bool,
@@ -25,7 +25,7 @@ struct Wanted {
 }
 
 // What the arguments ask for.
-#[derive(Drop)]
+#[derive(Clone, Copy)]
 enum Asked {
     Image(Wanted),
     TooMany,
@@ -33,14 +33,14 @@ enum Asked {
 }
 
 // The highest figure that has a vertex above the rows in use: the rows up to that vertex, and those that were in use. 0 and 0 for none.
-#[derive(Drop)]
+#[derive(Clone, Copy)]
 struct Above {
     height: usize,
     rows: usize,
 }
 
 // How far the words have come: the registers, and the highest figure so far.
-#[derive(Drop)]
+#[derive(Clone, Copy)]
 struct Came {
     registers: Registers,
     above: Above,

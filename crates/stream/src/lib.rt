@@ -8,7 +8,7 @@ mod word;
 pub mod write;
 
 // What packing or unpacking answers: the length that it wrote, or why it refused. specs/Calls.antt has document 01's number of each.
-#[derive(Drop)]
+#[derive(Clone, Copy)]
 pub enum Coded {
     Done(usize),
     BadWord,

@@ -8,7 +8,7 @@ mod sums;
 pub use recording::enter;
 
 // Figures of one kind that were completed, and of their pixels how many were offered, passed and hidden.
-#[derive(Drop)]
+#[derive(Clone, Copy)]
 pub struct Count {
     pub figures: u64,
     pub offered: u64,
@@ -17,7 +17,7 @@ pub struct Count {
 }
 
 // A count for each kind.
-#[derive(Drop)]
+#[derive(Clone, Copy)]
 pub struct Tally {
     pub gouraud: Count,
     pub constant: Count,
@@ -27,7 +27,7 @@ pub struct Tally {
 }
 
 // A recording in the report: whether it is too long, the number that refused it or one of its words, and its tally.
-#[derive(Drop)]
+#[derive(Clone, Copy)]
 pub struct Entry {
     pub long: bool,
     pub refusal: u64,

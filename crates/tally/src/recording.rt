@@ -15,7 +15,7 @@ use registers::word::decoded;
 use stream::read::{flaw, held, word};
 
 // What comes of a word: what `step` tells of it, and what it is counted as.
-#[derive(Drop)]
+#[derive(Clone, Copy)]
 struct Turn {
     refusal: u64,
     passed: u64,

@@ -11,7 +11,7 @@ use console::{Taken, recording, take};
 use print::{print, print_stream};
 
 // What is to be traced: all words, or those that have a pixel.
-#[derive(Drop)]
+#[derive(Clone, Copy)]
 enum Asked {
     Whole,
     Pixel(u16, u16),

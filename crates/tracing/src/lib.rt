@@ -10,7 +10,7 @@ pub use next::trace;
 pub use pixel::watch;
 
 // What one word more comes to: the run after it, and the place after its line.
-#[derive(Drop)]
+#[derive(Clone, Copy)]
 pub struct Turn {
     pub run: Ran,
     pub next: usize,

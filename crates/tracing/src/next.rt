@@ -12,7 +12,7 @@ use registers::word::decoded;
 use stream::read::{held, word};
 
 // A word that was taken: what is traced of it, and the run after it.
-#[derive(Drop)]
+#[derive(Clone, Copy)]
 pub(crate) struct Taken {
     pub(crate) traced: Traced,
     pub(crate) run: Ran,

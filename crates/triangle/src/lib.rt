@@ -15,7 +15,7 @@ pub(crate) const CARRIED_ONE: usize = picture::CARRIED_ONE as usize;
 pub(crate) const MIDDLE: usize = 68719476736;
 
 // Three corners that turn anticlockwise, and the vertex that completed them.
-#[derive(Drop)]
+#[derive(Clone, Copy)]
 pub(crate) struct Corners {
     pub(crate) a: Vertex,
     pub(crate) b: Vertex,
@@ -24,14 +24,14 @@ pub(crate) struct Corners {
 }
 
 // An edge's expression at a pixel: plus less minus.
-#[derive(Drop)]
+#[derive(Clone, Copy)]
 pub(crate) struct Edge {
     pub(crate) plus: usize,
     pub(crate) minus: usize,
 }
 
 // The three edges of a triangle at a pixel.
-#[derive(Drop)]
+#[derive(Clone, Copy)]
 pub(crate) struct Edges {
     pub(crate) ab: Edge,
     pub(crate) bc: Edge,
@@ -39,14 +39,14 @@ pub(crate) struct Edges {
 }
 
 // The columns of a row from lo up to and without hi.
-#[derive(Drop)]
+#[derive(Clone, Copy)]
 pub(crate) struct Span {
     pub(crate) lo: usize,
     pub(crate) hi: usize,
 }
 
 // An edge's height, and 2^48 over it and a little more.
-#[derive(Drop)]
+#[derive(Clone, Copy)]
 pub(crate) struct Height {
     pub(crate) tall: usize,
     pub(crate) inv: usize,
@@ -54,7 +54,7 @@ pub(crate) struct Height {
 
 // An edge in a row: a number that over the edge's height is the column at which it bounds the row, and what the next row adds to that number, both modulo 2^64,
 // and the edge's height.
-#[derive(Drop)]
+#[derive(Clone, Copy)]
 pub(crate) struct Side {
     pub(crate) at: usize,
     pub(crate) step: usize,
@@ -63,7 +63,7 @@ pub(crate) struct Side {
 
 // 2 N + D at column 0 of a row, where N is the weighted sum of three corner numbers, and what a row up adds to it, both modulo 2^64; what a pixel to the right
 // adds is counted from `MIDDLE` on, since a product takes no numbers modulo 2^64.
-#[derive(Drop)]
+#[derive(Clone, Copy)]
 pub(crate) struct Sum {
     pub(crate) at: usize,
     pub(crate) right: usize,
@@ -72,7 +72,7 @@ pub(crate) struct Sum {
 
 // The two edges that bound a row from the left and from the right, and, up to row `turn`, the third as it stands in that row: above it, it takes the place of one of
 // them.
-#[derive(Drop)]
+#[derive(Clone, Copy)]
 pub(crate) struct Flanks {
     pub(crate) left: Side,
     pub(crate) right: Side,
@@ -81,7 +81,7 @@ pub(crate) struct Flanks {
 }
 
 // What is carried from row to row: the edges, and the sums of I and Z.
-#[derive(Drop)]
+#[derive(Clone, Copy)]
 pub(crate) struct Rising {
     pub(crate) flanks: Flanks,
     pub(crate) i: Sum,
@@ -90,7 +90,7 @@ pub(crate) struct Rising {
 
 // How the numbers of a triangle are carried along its rows: the factor of a sum, or `long` for sums that want divisions in each row, and what
 // a step to the right adds to I and to Z, modulo 2^64.
-#[derive(Drop)]
+#[derive(Clone, Copy)]
 pub(crate) struct Slopes {
     pub(crate) long: bool,
     pub(crate) f: usize,
@@ -99,7 +99,7 @@ pub(crate) struct Slopes {
 }
 
 // How the numbers of a triangle come to its pixels: the completing vertex's, carried along the rows, or by divisions.
-#[derive(Drop)]
+#[derive(Clone, Copy)]
 pub(crate) enum Shades {
     Flat,
     Carried(Slopes),
@@ -107,14 +107,14 @@ pub(crate) enum Shades {
 }
 
 // I and Z along a row's run of covered pixels.
-#[derive(Drop)]
+#[derive(Clone, Copy)]
 pub(crate) struct Run {
     pub(crate) i: Carried,
     pub(crate) z: Carried,
 }
 
 // How a row is drawn: as one run, or each pixel by itself.
-#[derive(Drop)]
+#[derive(Clone, Copy)]
 pub(crate) enum Way {
     Along(Run),
     Each,

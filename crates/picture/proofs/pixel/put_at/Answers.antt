@@ -6,8 +6,7 @@ use Rattle.picture.proofs.pixel.put_at.Goals as goal
 
 pub returns-then-is_passed : goal.returns-then-is_passed
 returns-then-is_passed c =
-    let s = c.before in
-    let a = s.args in
+    let a = c.args in
     let p = picture a.im.now a.zm.now a.n in (
       ap₂ (λ (i z : List ℕ). picture i z (a.n + 1)) c.store_i.ensures c.store_z.ensures
           ∙ sym (step_pass a.pen a.kind a.at a.i a.z p (sym c.is_passed.ensures ∙ c.if-is_passed.true)),
@@ -16,7 +15,7 @@ returns-then-is_passed c =
 
 pub returns : goal.returns
 returns c =
-    let a = c.before.args in (
+    let a = c.args in (
       sym (step_fail a.pen a.kind a.at a.i a.z (picture a.im.now a.zm.now a.n) (sym c.is_passed.ensures ∙ c.if-is_passed.false)),
       omega arith,
     )
