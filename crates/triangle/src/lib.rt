@@ -1,6 +1,7 @@
 // Triangles: which pixels three corners cover, with which numbers, and how they are drawn. specs/Edge.antt, Number.antt and Offers.antt
 // are document 01's "Triangle"; specs/Loops.antt is what the code leans on.
 #![tactic(auto)]
+
 mod cover;
 pub mod draw;
 mod number;

@@ -1,0 +1,12 @@
+-- `draw::draw_row` meets its contract: either way of drawing draws the row, and a row with no covered pixel has no offers. Assumes nothing.
+use Rattle.std.proofs.Common.{length, arith}
+use Rattle.picture.specs.Place.{rows_of}
+use Rattle.picture.specs.Picture.{picture}
+use Rattle.triangle.proofs.Rows.{row_empty}
+use Rattle.triangle.proofs.draw.draw_row.Goals as goal
+
+pub returns : goal.returns
+returns c =
+    let a = c.args in
+    row_empty a.pen (rows_of a.pen.frame (length a.im.now) (length a.zm.now)) a.constant a.t a.y _
+    c.spanned-s.ensures (omega (arith, c.if-s.false)) (picture a.im.now a.zm.now 0)

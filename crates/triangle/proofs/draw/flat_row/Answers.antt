@@ -1,0 +1,33 @@
+-- `draw::flat_row` meets its contract: the covered columns with the completing vertex's numbers are the row. Assumes nothing.
+use Rattle.std.proofs.Common.{true, List, length, sym, ap, ◌∙◌, arith}
+use Rattle.picture.specs.declared.Kind.TheVariants.{Constant}
+use Rattle.picture.specs.Draw.{steady_of}
+use Rattle.picture.specs.Place.{rows_of}
+use Rattle.picture.specs.Offer.{Offer}
+use Rattle.picture.specs.Picture.{picture, drawn}
+use Rattle.picture.proofs.Eights.{steady_at}
+use Rattle.picture.proofs.Rows.{plain_span}
+use Rattle.triangle.specs.Offers.{pixel_at}
+use Rattle.triangle.proofs.Rows.{row_span, row_empty}
+use Rattle.triangle.proofs.draw.flat_row.Goals as goal
+
+pub returns-then-s : goal.returns-then-s
+unfolding pixel_at
+returns-then-s c =
+    let a = c.args in
+    let rows = rows_of a.pen.frame (length a.im.now) (length a.zm.now) in
+    let p = picture a.im.now a.zm.now 0 in
+    let k = c.spanned-s in
+    let i = steady_of a.t.last.i in
+    let z = steady_of a.t.last.z in
+    rw c.requires.0.rows at c.span_steady.ensures
+    ∙ sym (plain_span a.pen Constant c.requires.0.plain rows k.result.lo k.result.hi a.y i z p)
+    ∙ ap (λ (os : List Offer). drawn a.pen os p)
+    (row_span a.pen rows true a.t a.y k.result k.ensures c.requires.3 c.if-s.true i z
+    (λ j l. (steady_at a.t.last.i j (omega (arith, c.well_formed.1.0)), steady_at a.t.last.z j (omega (arith, c.well_formed.1.0)))))
+
+pub returns : goal.returns
+returns c =
+    let a = c.args in
+    row_empty a.pen (rows_of a.pen.frame (length a.im.now) (length a.zm.now)) true a.t a.y _
+    c.spanned-s.ensures (omega (arith, c.if-s.false)) (picture a.im.now a.zm.now 0)
