@@ -58,7 +58,7 @@ module _ (leg : Leg) (legs : List Leg) (before : ℕ) (joined : Bool) (a : Verte
       let past : n < n + 1 + j = omega arith in
       let rest : n + 1 + j - n ≡ 1 + j = omega arith in
       let place : (before + (n + 1 + j)) % 32 ≡ ((before + n) % 32 + (1 + j)) % 32 = omega arith in
-      rw (lt-leb (n + 1 + j) n past, rest) ?
+      rw (lt-leb (n + 1 + j) n past, rest) (ap (λ (p : ℕ). bend_offers (31 - p) leg.to legs (1 + j)) place)
 
   -- a line of one leg more
   line_more : spans (from (first_of joined) (dashes leg before joined a)) (larger a leg.to + 1)

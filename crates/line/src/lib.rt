@@ -1,5 +1,6 @@
 // Line segments. specs/Segment.antt says which pixels a segment has and what is offered of them.
 #![tactic(auto)]
+
 ghost use Rattle.std.specs.Prelude.{◌≡◌};
 ghost use Rattle.picture.specs.Picture.{picture};
 ghost use Rattle.line.specs.Segment.{mode_of, larger, segment_offers};

@@ -15,4 +15,4 @@ returns-in-1 c = sym (ap mode_of c.in-1.is)
 
 pub returns-in_default : goal.returns-in_default
 unfolding mode_of
-returns-in_default c = default (Zero ∷ One ∷ []) Two c.args.number c.in_default.rest
+returns-in_default c = default (Zero ∷ One ∷ []) Two c.args.number c.in_default.in_default-own.rest
