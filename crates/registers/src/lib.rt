@@ -1,6 +1,7 @@
 // The command machine without its drawing: words, the register record, the record after an accepted word, and the figure that a word
 // completes. Which words are refused is asked elsewhere (the crate `refusals`).
 #![tactic(auto)]
+
 pub mod lines;
 mod next;
 pub mod regions;
