@@ -1,6 +1,7 @@
 // What is refused: the numbers that a word and the read call get. Each kind of word can get only some of them; an arm asks for these, lowest
 // first. What is allowed of a word's data is in allow.rt, and the bounds on the record are in bounds.rt.
 #![tactic(auto)]
+
 ghost use Rattle.std.specs.Prelude.{◌≡◌, false, not, [], ◌∷◌};
 ghost use Rattle.refusals.specs.Refusal.{is_unknown, awaits, table, lowest, refusal_of, read_refusal_of};
 ghost use Rattle.refusals.specs.Rows.{aux_rows, parm_rows, coordinate_rows, transfer_rows};

@@ -2,6 +2,7 @@
 // in levels. And any text, laid at a place. specs/Text.antt is the text, specs/Image.antt the image, specs/Levels.antt the levels, specs/Calls.antt what the calls that write
 // tell and leave.
 #![tactic(auto)]
+
 mod heading;
 mod image;
 mod number;
