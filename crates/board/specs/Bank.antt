@@ -1,7 +1,6 @@
 -- The memories of a board's units (document 02, [8]).
 use Rattle.std.specs.Prelude.{ℕ, Bool, ◌&&◌, ◌||◌, List, [], ◌∷◌, length, ◌==◌, nat_le, slice_index_or}
-use denote.Triple.Both.{Both}
-use Rattle.picture.specs.Lent.{Memory, Lent}
+use Rattle.picture.specs.Lent.{Lent}
 use Rattle.machine.specs.Machine.{Memories, memories}
 
 -- those of four units, in order; those of units that a board lacks are neither looked at nor touched
@@ -19,8 +18,8 @@ bank first second third fourth = record { first = first; second = second; third 
 abbrev pub lent : List ℕ → List ℕ → List ℕ → List ℕ → List ℕ → List ℕ → List ℕ → List ℕ → Bank
 lent i0 z0 i1 z1 i2 z2 i3 z3 = bank (memories i0 z0) (memories i1 z1) (memories i2 z2) (memories i3 z3)
 
--- as a call finds them, also those that it may only read
-abbrev pub found_in : {A B C D E F G H : Type 0} → Both Memory A → Both Memory B → Both Memory C → Both Memory D → Both Memory E → Both Memory F → Both Memory G → Both Memory H → Bank
+-- as a call finds them
+abbrev pub found_in : Lent → Lent → Lent → Lent → Lent → Lent → Lent → Lent → Bank
 found_in i0 z0 i1 z1 i2 z2 i3 z3 =
     lent i0.entry.now z0.entry.now i1.entry.now z1.entry.now i2.entry.now z2.entry.now i3.entry.now z3.entry.now
 

@@ -1,7 +1,7 @@
 -- What the card's calls promise of a word and of a recording, each said once: the contracts of the calls cite it, those by value and those for
 -- C, and so do the demands and the theorems about outcomes.
 use Rattle.std.specs.Prelude.{◌≡◌, ℕ, List}
-use Rattle.std.specs.Borrow.{Bor}
+use Rattle.std.specs.Borrow.{MutBor}
 use denote.Triple.Both.{Both}
 use Rattle.picture.specs.Lent.{Lent}
 use Rattle.registers.specs.declared.Registers.{Registers}
@@ -17,7 +17,7 @@ abbrev pub Takes : Registers → Word → Memories → ℕ → ℕ → Registers
 Takes r w m refusal passed next left = outcome refusal passed next left ≡ step_of chip r w m
 
 -- the same on a record where it stands: the registers are found and left in it
-abbrev pub TakesInPlace : Both (Bor Registers) (Bor Registers) → Word → Lent → Lent → ℕ → ℕ → Type 0
+abbrev pub TakesInPlace : Both (MutBor Registers) (MutBor Registers) → Word → Lent → Lent → ℕ → ℕ → Type 0
 TakesInPlace r w im zm refusal passed = Takes r.entry.now w (found im zm) refusal passed r.exit.now (left im zm)
 
 -- a packed stream was run from a record: the number, index and sum that were told, and the registers and memories that were left, are those

@@ -5,7 +5,7 @@ ghost use Rattle.registers.specs.Next.{pen_of};
 ghost use Rattle.chip.specs.Chip.{picture_stores};
 ghost use Rattle.chip.specs.Read.{pixel_of, reading};
 ghost use Rattle.picture.specs.Lent.{Fills};
-ghost use Rattle.machine.specs.Lent.{found};
+ghost use Rattle.machine.specs.Machine.{memories};
 
 use picture::transfer::{fetch, store};
 use refusals::read_refusal;
@@ -22,7 +22,7 @@ pub(crate) fn load(r: Registers, value: u16, im: &mut [u16], zm: &mut [u16])
 
 // The number at the region's pixel.
 fn pixel(r: Registers, im: &[u16], zm: &[u16]) -> u16
-    ensures { result ≡ pixel_of r (found im zm) }
+    ensures { result ≡ pixel_of r (memories im.now zm.now) }
 {
     let frame = r.frame;
     let deep = r.is_deep_picture();
@@ -39,7 +39,7 @@ pub struct Reading {
 
 // Reads the region's pixel and moves the region on, or refuses and leaves the registers as they were.
 pub fn read(r: Registers, im: &[u16], zm: &[u16]) -> Reading
-    ensures { result ≡ reading r (found im zm) }
+    ensures { result ≡ reading r (memories im.now zm.now) }
 {
     let number = read_refusal(r, im.len(), zm.len());
     if number != 0 {

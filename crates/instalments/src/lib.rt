@@ -4,6 +4,7 @@
 ghost use Rattle.std.specs.Prelude.{◌≡◌, ◌^◌, ◌<◌, true, false};
 ghost use Rattle.machine.specs.Machine.{memories};
 ghost use Rattle.instalments.specs.Instalments.{so_far, taking, fresh, answering, is_closed, is_word_number, is_end_number, number_fits, bits_fit, is_sound, word_in, bytes_in, feeding, end_number, ending};
+ghost use Rattle.machine.specs.Machine.{memories};
 ghost use Rattle.machine.specs.Lent.{found, left};
 
 use chip::step::step;
@@ -198,7 +199,7 @@ fn end_number(held: u32, count: u32, ni: usize, nz: usize) -> u64
 // bound is refused with 2.
 #[unsafe(no_mangle)]
 pub extern "C" fn dextolumen_finish(s: Intake, im: &[u16], zm: &[u16]) -> Intake
-    ensures { taking result (found im zm) ≡ ending (taking s (found im zm)) }
+    ensures { taking result (memories im.now zm.now) ≡ ending (taking s (memories im.now zm.now)) }
 {
     if is_sound(s) {
         if is_closed(s.refusal, s.over) {

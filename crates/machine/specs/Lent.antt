@@ -1,10 +1,9 @@
 -- The two memories that a call is lent, as it finds them and as it leaves them.
-use denote.Triple.Both.{Both}
-use Rattle.picture.specs.Lent.{Memory, Lent}
+use Rattle.picture.specs.Lent.{Lent}
 use Rattle.machine.specs.Machine.{Memories, memories}
 
--- also those that it may only read
-abbrev pub found : {X Y : Type 0} → Both Memory X → Both Memory Y → Memories
+-- the two memories as a call finds them
+abbrev pub found : Lent → Lent → Memories
 found im zm = memories im.entry.now zm.entry.now
 
 -- the two memories as a call leaves them

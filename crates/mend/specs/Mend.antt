@@ -1,5 +1,5 @@
 -- What the program makes of a recording, over memories without places.
-use Rattle.std.specs.Borrow.{Bor}
+use Rattle.std.specs.Borrow.{Bor, MutBor}
 use denote.Triple.Both.{Both}
 use Rattle.std.specs.Prelude.{◌≡◌, List, ℕ, ◌≤◌, ◌<◌, length, get_or}
 use Rattle.stream.specs.Format.{unpack_of}
@@ -15,7 +15,7 @@ pub record Enough (bytes out indices numbers : List ℕ) : Type 0 where
 
 -- a lent list, as a call finds it and as it leaves it
 abbrev Lent : Type 0
-Lent = Both (Bor (List ℕ)) (Bor (List ℕ))
+Lent = Both (MutBor (List ℕ)) (MutBor (List ℕ))
 
 -- the recording is mended: the new stream and the list stand at the front of what was lent, and nothing was refused
 pub record Repaired (bytes out₀ indices₀ numbers₀ : List ℕ) (t : Mended) (out indices numbers : List ℕ) : Type 0 where

@@ -7,7 +7,8 @@ use Rattle.registers.specs.declared.Registers.{Registers}
 use Rattle.registers.specs.Record.{reset_of}
 use Rattle.registers.specs.Word.{word_of}
 use Rattle.refusals.specs.Refusal.{refusal_of, next}
-use Rattle.picture.specs.Lent.{Memory, Lent}
+use Rattle.std.specs.Borrow.{Bor}
+use Rattle.picture.specs.Lent.{Lent}
 use Rattle.machine.specs.Machine.{Memories, step_of}
 use Rattle.machine.specs.Lent.{found, left}
 use Rattle.machine.specs.Offers.{all_of}
@@ -134,6 +135,6 @@ outcome_over told stream indices numbers im zm =
     mending told stream.exit.now indices.exit.now numbers.exit.now (left im zm)
 
 -- what mending the bytes comes to over these as a call finds them
-abbrev pub mending_over : {X : Type 0} → Both Memory X → Lent → Lent → Lent → Lent → Lent → Mending
+abbrev pub mending_over : {X : Type 0} → Both (Bor (List ℕ)) X → Lent → Lent → Lent → Lent → Lent → Mending
 mending_over bytes stream indices numbers im zm =
     mending_of bytes.entry.now stream.entry.now indices.entry.now numbers.entry.now (found im zm)

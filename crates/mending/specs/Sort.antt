@@ -2,7 +2,8 @@
 use Rattle.std.specs.Prelude.{◌≡◌, ℕ, ◌*◌, ◌/◌, ◌%◌, ◌≤◌, cond, List, length, eqb}
 use Rattle.std.proofs.lemmas.List.Edits.{sets}
 use denote.Triple.Both.{Both}
-use Rattle.picture.specs.Lent.{Memory, Lent}
+use Rattle.std.specs.Borrow.{Bor}
+use Rattle.picture.specs.Lent.{Lent}
 use Rattle.stream.specs.Format.{pack_of}
 use Rattle.stream.specs.Calls.{over}
 use Rattle.registers.specs.declared.Registers.{Registers}
@@ -30,7 +31,7 @@ pub record Sorted (bytes out₀ indices₀ numbers₀ out indices numbers : List
   pub reasons : numbers ≡ over (numbers_of (dropped_of bytes 0)) numbers₀
 
 -- by what a call is lent
-abbrev pub Sorts : {X : Type 0} → Both Memory X → Lent → Lent → Lent → Type 0
+abbrev pub Sorts : {X : Type 0} → Both (Bor (List ℕ)) X → Lent → Lent → Lent → Type 0
 Sorts bytes out indices numbers =
     Sorted bytes.entry.now out.entry.now indices.entry.now numbers.entry.now
     out.exit.now indices.exit.now numbers.exit.now

@@ -1,7 +1,7 @@
 // The text of a run over a picture of the drawing program's size, for the programs that print it. specs/Printing.antt is the text.
 #![tactic(auto)]
 ghost use Rattle.std.specs.Prelude.{◌≤◌, length};
-ghost use Rattle.machine.specs.Lent.{found};
+ghost use Rattle.machine.specs.Machine.{memories};
 ghost use Rattle.machine.specs.Run.{ran};
 ghost use Rattle.report.specs.Calls.{Stands};
 ghost use Rattle.report.specs.Text.{report};
@@ -33,7 +33,7 @@ fn put_report(
 
 // Puts the text of what a run came to at the front of a page that holds any, and tells its length.
 pub fn put_text(a: Ran, im: &[u16; 8192], zm: &[u16; 8192], out: &mut [u8; 180308]) -> usize
-    ensures { Stands (text_of (ran a.refusal a.index a.sum a.registers (found im zm))) out.old out.new result }
+    ensures { Stands (text_of (ran a.refusal a.index a.sum a.registers (memories im.now zm.now))) out.old out.new result }
 {
     let line = a.registers.frame.line;
     put_report(a.index, a.refusal, a.sum, line, im, zm, out)

@@ -3,7 +3,7 @@
 #![tactic(auto)]
 ghost use Rattle.std.specs.Prelude.{◌≡◌};
 ghost use Rattle.chip.specs.Read.{read_as, reading};
-ghost use Rattle.machine.specs.Lent.{found};
+ghost use Rattle.machine.specs.Machine.{memories};
 
 use chip::transfer::read;
 use registers::Registers;
@@ -19,7 +19,7 @@ pub struct Seen {
 // Reads the region's pixel and updates the record where it stands, or refuses and leaves the record as it was.
 #[unsafe(no_mangle)]
 pub extern "C" fn dextolumen_read(registers: &mut Registers, im: &[u16], zm: &[u16]) -> Seen
-    ensures { read_as result.refusal result.pixel registers.new ≡ reading registers.old (found im zm) }
+    ensures { read_as result.refusal result.pixel registers.new ≡ reading registers.old (memories im.now zm.now) }
 {
     let a = read(*registers, im, zm);
     let moved = a.registers;

@@ -2,7 +2,7 @@
 ghost use Rattle.report.specs.Calls.{Stands};
 ghost use Rattle.instalments.specs.Instalments.{taking};
 ghost use Rattle.receive.specs.Receive.{received};
-ghost use Rattle.machine.specs.Lent.{found};
+ghost use Rattle.machine.specs.Machine.{memories};
 
 use chip::run::Ran;
 use instalments::{Intake, dextolumen_finish};
@@ -15,7 +15,7 @@ pub(crate) fn put_received(
     zm: &[u16; 8192],
     out: &mut [u8; 180308],
 ) -> usize
-    ensures { Stands (received (taking s (found im zm))) out.old out.new result }
+    ensures { Stands (received (taking s (memories im.now zm.now))) out.old out.new result }
 {
     let end = dextolumen_finish(s, im, zm);
     let registers = end.registers;

@@ -1,7 +1,8 @@
 -- What a call makes of the two memories and the buffer that it is lent: said of these once, for the contracts.
 use denote.Triple.Both.{Both}
 use Rattle.std.specs.Prelude.{◌≡◌, ℕ, List}
-use Rattle.picture.specs.Lent.{Memory, Lent}
+use Rattle.std.specs.Borrow.{Bor}
+use Rattle.picture.specs.Lent.{Lent}
 use Rattle.chip.specs.declared.run.Ran.{Ran as Told}
 use Rattle.tracing.specs.declared.Turn.{Turn}
 use Rattle.tracing.specs.Trace.{Run, standing, Turns}
@@ -11,7 +12,7 @@ abbrev pub so_far : Told → Lent → Lent → Run
 so_far a im zm = standing a im.entry.now zm.entry.now
 
 -- the next word was taken, and its line, which the bytes and the run so far make, laid at a place of the buffer
-abbrev pub Turned : {X : Type 0} → (List ℕ → Run → List ℕ) → Both Memory X → Told → Lent → Lent → Lent → ℕ → Turn → Type 0
+abbrev pub Turned : {X : Type 0} → (List ℕ → Run → List ℕ) → Both (Bor (List ℕ)) X → Told → Lent → Lent → Lent → ℕ → Turn → Type 0
 Turned line bytes a im zm out at t =
     Turns bytes.entry.now (line bytes.entry.now (so_far a im zm)) (so_far a im zm) out.entry.now at t im.exit.now zm.exit.now
     out.exit.now
