@@ -72,9 +72,11 @@ front_ends o os c = go (ltb o.z c.z) (eqb o.z c.z) refl refl
     tie true e h =
         let m : min c.z o.z ≡ o.z = omega arith in
         rw (m, e, front_equal o os c (least o.z os) h (least_low o.z os))
+        (ap (λ (v : ℕ). cell (last_line (least v os) os (unlined (least o.z os) (cell o.i o.z) os)) (least o.z os)) (sym m))
     tie false e h =
         let m : min c.z o.z ≡ c.z = omega arith in
         rw (m, e, front_farther o os c (least c.z os) false (omega arith) (λ q. absurd (false≢true q)) (least_low c.z os))
+        (ap (λ (v : ℕ). cell (last_line (least v os) os (unlined (least c.z os) c os)) (least c.z os)) (sym m))
 
     go : (a b : Bool) → ltb o.z c.z ≡ a → eqb o.z c.z ≡ b
         → ends (cond (wins o.kind (cond a Nearer (cond b Equal Farther))) (cell o.i o.z) c) os ≡ ends c (o ∷ os)
@@ -82,11 +84,13 @@ front_ends o os c = go (ltb o.z c.z) (eqb o.z c.z) refl refl
         let h : o.z < c.z = ltb-true _ _ e in
         let m : min c.z o.z ≡ o.z = omega arith in
         rw (m, front_nearer o os c (least o.z os) (is_edge o.kind) h (least_low o.z os))
+        (ap (λ (v : ℕ). cell (last_line (least v os) os (unlined (least o.z os) (cell o.i o.z) os)) (least o.z os)) (sym m))
     go false true e f = tie (is_edge o.kind) refl (eqb-true _ _ f)
     go false false e f =
         let h : c.z < o.z = omega (arith, ltb-false o.z c.z e, eqb-false o.z c.z f) in
         let m : min c.z o.z ≡ c.z = omega arith in
         rw (m, front_farther o os c (least c.z os) (is_edge o.kind) (omega arith) (λ q. h) (least_low c.z os))
+        (ap (λ (v : ℕ). cell (last_line (least v os) os (unlined (least c.z os) c os)) (least c.z os)) (sym m))
 
 -- ---- all of them
 

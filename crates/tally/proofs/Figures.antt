@@ -30,7 +30,7 @@ use Rattle.tally.specs.declared.Count.{Count}
 use Rattle.tally.specs.Hidden.{offered_of}
 use Rattle.tally.specs.Tally.{Balanced, Within, EachBalanced, EachWithin, figures_in, passed_in}
 use Rattle.tally.specs.Overdraw.{line_kind, figure_tally, count_of, figures_of, pixels_of, picture_of, muted_of}
-use Rattle.tally.proofs.Hidden.{drawn_hidden, figure_balanced, untested_hidden}
+use Rattle.tally.proofs.HiddenLaws.{drawn_hidden, figure_balanced, untested_hidden}
 use Rattle.tally.proofs.Adding.{none_balanced, only_balanced, none_each, only_each, figures_only, passed_only}
 
 -- ---- how many pixels a figure offers

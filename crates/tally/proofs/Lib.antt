@@ -1,4 +1,4 @@
-pub mod Hidden
+pub mod HiddenLaws
 pub mod Adding
 pub mod Figures
 pub mod Words

@@ -26,7 +26,7 @@ use Rattle.chip.proofs.Streams.{words_length}
 use Rattle.tally.specs.Tally.{no_tally, added, passed_in, EachBalanced, EachWithin}
 use Rattle.chip.specs.Fresh.{fresh}
 use Rattle.tally.specs.Overdraw.{word_tally, tallied_from, tallied_of, entry, entry_of, tally_of, tallies_of, Overdraw}
-use Rattle.tally.proofs.Hidden.{figure_balanced}
+use Rattle.tally.proofs.HiddenLaws.{figure_balanced}
 use Rattle.tally.proofs.Adding.{
   none_balanced,
   added_balanced,

@@ -25,7 +25,7 @@ use Rattle.tally.specs.declared.Entry.{Entry}
 use Rattle.tally.specs.Hidden.{offered_of, hidden_of}
 use Rattle.tally.specs.Tally.{count, no_tally, added, kept, figures_in, passed_in, EachBalanced, EachWithin}
 use Rattle.tally.specs.Overdraw.{figure_tally, count_of, figures_of, pixels_of, picture_of, word_tally, tallied_from, entry}
-use Rattle.tally.proofs.Hidden.{figure_balanced}
+use Rattle.tally.proofs.HiddenLaws.{figure_balanced}
 use Rattle.tally.proofs.Adding.{none_balanced, none_each, added_each, kept_same, passed_added}
 use Rattle.tally.proofs.Figures.{offered_low, figure_each, figure_tally_balanced, figure_counted, figure_passed, count_within}
 
