@@ -1,6 +1,7 @@
 // The squares of a picture that changed, for viewers that fetch only those: one call lists them, and one copies them. specs/Squares.antt says which
 // squares remain, specs/Change.antt what a difference is, specs/Copy.antt what copying is, specs/Calls.antt what the calls tell and leave.
 #![tactic(auto)]
+
 mod change;
 mod copy;
 mod quarter;

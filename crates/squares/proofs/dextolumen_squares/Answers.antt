@@ -19,7 +19,7 @@ returns-then-number-ne0 c =
     list_flawed a.old.now a.new.now a.width a.rows a.out.now c.flaw-number.ensures c.if-number-ne0.true
 
 pub quarter-n-requires : goal.quarter-n-requires
-quarter-n-requires c = 
+quarter-n-requires c =
     let a = c.args in
     let z = sized (length a.old.now) (length a.new.now) a.width a.rows 0 (sym c.flaw-number.ensures ∙ c.if-number-ne0.false) in
     record { len = (z.old, z.new); side_bound = (omega arith, omega arith); side = record { splits = 5; is = five }; room = λ n e. omega (arith, few (differs a.old.now a.new.now a.width a.rows) n 0 0 e) }
@@ -31,7 +31,7 @@ returns-then-out-n c =
     (omega (arith, c.if-out-n.true, (c.quarter-n.ensures 5 five).ends))
 
 pub write-requires : goal.write-requires
-write-requires c = 
+write-requires c =
     let a = c.args in
     let n = few (differs a.old.now a.new.now a.width a.rows) 5 0 0 five in
     record { n_in_bounds = omega (arith, n, (c.quarter-n.ensures 5 five).ends, c.quarter-n.auto.out); n_in_bounds_2 = omega (arith, c.if-out-n.false) }
