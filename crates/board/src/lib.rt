@@ -2,6 +2,7 @@
 // leaves. The calls are entries for C as they stand (include/dextolumen.h). Unit u of N has the columns whose remainder by N is u; it works on the board's
 // registers in a layout of its own, by which it knows its number.
 #![tactic(auto)]
+
 ghost use Rattle.std.specs.Prelude.{◌≡◌};
 ghost use Rattle.board.specs.Door.{is_board};
 ghost use Rattle.board.specs.Calls.{resetting};

@@ -1,7 +1,7 @@
 // The read call.
 ghost use Rattle.std.specs.Prelude.{◌≡◌};
 ghost use Rattle.board.specs.Calls.{read_number_by, board_reading};
-ghost use Rattle.board.specs.Bank.{found_in};
+ghost use Rattle.board.specs.Bank.{lent};
 
 use crate::Board;
 use crate::step::is_whole;
@@ -48,7 +48,7 @@ pub extern "C" fn dextolumen_board_read(
     i3: &[u16],
     z3: &[u16],
 ) -> Seen
-    ensures { result ≡ board_reading board (found_in i0 z0 i1 z1 i2 z2 i3 z3) }
+    ensures { result ≡ board_reading board (lent i0.now z0.now i1.now z1.now i2.now z2.now i3.now z3.now) }
 {
     let units = board.units;
     let even = is_even(

@@ -2,6 +2,7 @@
 // same definitions. include/dextolumen.h has the C side. Other entries are in crates of their own: `reader` and `recording`, and in those of
 // the calls that they are: `stream`, `board`, `instalments`, `mending`, `squares`.
 #![tactic(auto)]
+
 ghost use Rattle.registers.specs.Word.{decode};
 ghost use Rattle.chip.specs.Promises.{TakesInPlace};
 

@@ -1,6 +1,7 @@
 // The entry for the host program in C that reads a pixel, on the record where it stands. Its result is that of the chip's own `read`, by the
 // same definitions. include/dextolumen.h has the C side.
 #![tactic(auto)]
+
 ghost use Rattle.std.specs.Prelude.{◌≡◌};
 ghost use Rattle.chip.specs.Read.{read_as, reading};
 ghost use Rattle.machine.specs.Machine.{memories};

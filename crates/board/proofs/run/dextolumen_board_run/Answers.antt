@@ -8,7 +8,4 @@ returns-then-started-ne0 c =
 
 pub returns : goal.returns
 returns c =
-    let at_run_from = ran c in
-    let at_if1 = at_run_from.before.before.before.before.before.before.before.before.before in
-    let at_dextolumen_board_reset = at_if1.before.before.before in
-    run_some _ _ _ at_dextolumen_board_reset.dextolumen-board-reset.ensures at_run_from.run-from.ensures at_if1.if1.left
+    run_some _ _ _ c.dextolumen_board_reset-started.ensures c.run_from.ensures c.if-started-ne0.false

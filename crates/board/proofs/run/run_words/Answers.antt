@@ -13,9 +13,10 @@ pub loop-k-preserved : goal.loop-k-preserved
 loop-k-preserved c =
     let going = c.loop-k.invariant in
     let left = rw going.all at c.loop-k-test.true in
+    let s = c.step_at-a.auto in
     record {
       until = omega (arith, c.loop-k-test.true);
       all = going.all;
-      long = as_long_more going.long c.step_at-a.auto.i0;
+      long = as_long_more going.long (s.i0, (s.z0, (s.i1, (s.z1, (s.i2, (s.z2, (s.i3, (s.z3, tt {0}))))))));
       so_far_lem = rw c.wrapping_add_u64-sum.ensures.value (reached_more _ _ _ going.so_far_lem left c.step_at-a.ensures c.if-a-ne0.false);
     }

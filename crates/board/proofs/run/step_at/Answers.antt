@@ -9,4 +9,4 @@ overflow_cast-w c =
     omega (arith, c.word-w.ensures, word_fits c.args.bytes.now c.args.k)
 
 pub returns : goal.returns
-returns c = step_word _ _ (taken c).before.before.before.before.before.before.before.before.before.word.ensures (taken c).dextolumen-board-step.ensures
+returns c = step_word _ _ c.word-w.ensures c.dextolumen_board_step.ensures
