@@ -56,15 +56,19 @@ Runs place i z count im zm from to =
     picture im.exit.now zm.exit.now to ≡ run_over place i z count (picture im.entry.now zm.entry.now from)
 
 -- so many pixels side by side, from place base on, lie inside memories of two lengths
-pub record Fits (base count ni nz : ℕ) : Type 0 where
+pub record FitsFrom (base count ni nz : ℕ) : Type 0 where
   pub low : base ≤ 4294967295
   pub i : base + count ≤ ni
   pub z : base + count ≤ nz
 
+-- so do those of a run
+abbrev pub Fits : Run → ℕ → ℕ → Type 0
+Fits run ni nz = FitsFrom run.base run.count ni nz
+
 -- pixels side by side are what is drawn of a row in use from column lo up to and without hi: they lie in memories that have the row in use, and a number that stays
 -- along the row stays along them
 pub record Beside (frame : Frame) (lo hi y : ℕ) (i z : Carried) (run : Run) : Type 0 where
-  pub fits : (ni nz : ℕ) → y < rows_of frame ni nz → Fits run.base run.count ni nz
+  pub fits : (ni nz : ℕ) → y < rows_of frame ni nz → Fits run ni nz
   pub i_stays : i.add ≡ 0 → i.first < 2 ^ 64 → run.i ≡ i
   pub z_stays : z.add ≡ 0 → z.first < 2 ^ 64 → run.z ≡ z
   pub same : (rows : ℕ) → y < rows → (p : Picture)

@@ -51,7 +51,7 @@ fn put_chosen(at: usize, ki: u64, kz: u64, im: &mut [u16], zm: &mut [u16], n: u1
 
 // Pixels that lie side by side.
 pub(crate) fn draw_run(run: Run, im: &mut [u16], zm: &mut [u16]) -> u64
-    requires { Fits run.base run.count (length im.old) (length zm.old) }
+    requires { Fits run (length im.old) (length zm.old) }
     ensures { Runs (λ j. run.base + j) run.i run.z run.count im zm 0 result }
 {
     let mut ki = run.i.first;
@@ -69,7 +69,7 @@ pub(crate) fn draw_run(run: Run, im: &mut [u16], zm: &mut [u16]) -> u64
 
 // The same, and the loop is compiled once more for fewer than eight pixels, of which it takes none at once: so short rows prepare nothing for that.
 fn draw_beside(run: Run, im: &mut [u16], zm: &mut [u16]) -> u64
-    requires { Fits run.base run.count (length im.old) (length zm.old) }
+    requires { Fits run (length im.old) (length zm.old) }
     ensures { Runs (λ j. run.base + j) run.i run.z run.count im zm 0 result }
 {
     if run.count < 8 {

@@ -4,7 +4,7 @@ ghost use Rattle.std.specs.Prelude.{◌≡◌, ◌+◌, ◌<◌, ◌≤◌, fals
 ghost use Rattle.picture.specs.declared.Kind.TheVariants.{Gouraud};
 ghost use Rattle.picture.specs.Draw.{nearer_pen, span_offers, steady_of, steady_offers};
 ghost use Rattle.picture.specs.Place.{lies_tiled, rows_of};
-ghost use Rattle.picture.specs.Loops.{Runs, Fits, Beside, eight_at, eight_set, pick_eight, count_eight, sum_of};
+ghost use Rattle.picture.specs.Loops.{Runs, FitsFrom, Beside, eight_at, eight_set, pick_eight, count_eight, sum_of};
 ghost use Rattle.picture.specs.Lent.{Draws};
 
 use crate::draw::shorter;
@@ -127,7 +127,7 @@ fn draw_eight(at: usize, i: u16, z: u16, im: &mut [u16], zm: &mut [u16], n: Eigh
 // Eight pixels or more that lie side by side. The last eight begin before the end of those in front of them where count is no multiple of eight: a pixel
 // that is drawn again is not nearer.
 fn draw_many(base: usize, count: u16, i: u16, z: u16, im: &mut [u16], zm: &mut [u16]) -> u64
-    requires { (8 ≤ count) × (Fits base count (length im.old) (length zm.old)) }
+    requires { (8 ≤ count) × (FitsFrom base count (length im.old) (length zm.old)) }
     ensures { Runs (λ j. base + j) (steady_of i) (steady_of z) count im zm 0 result }
 {
     let all = count as usize;
@@ -162,7 +162,7 @@ fn carried(v: u16) -> Carried
 
 // Pixels that lie side by side. Fewer than eight are drawn one after the other.
 fn draw_same(base: usize, count: u16, i: u16, z: u16, im: &mut [u16], zm: &mut [u16]) -> u64
-    requires { Fits base count (length im.old) (length zm.old) }
+    requires { FitsFrom base count (length im.old) (length zm.old) }
     ensures { Runs (λ j. base + j) (steady_of i) (steady_of z) count im zm 0 result }
 {
     if count < 8 {
