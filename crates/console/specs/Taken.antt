@@ -6,4 +6,4 @@ use Rattle.console.specs.declared.Taken.TheVariants.{Bytes, Failed}
 -- no more bytes came than there was room for
 abbrev pub Within : ℕ → Taken → Type 0
 Within room (Bytes n) = n ≤ room
-Within room Failed = Unit {0}
+Within room (Failed error) = Unit {0}

@@ -1,7 +1,9 @@
-// The console of the programs: what they read, standard input or another descriptor, to its end or until a lent buffer is full; and what they
-// say on standard error. Which bytes come no contract can say; specs/Taken.antt says how many may. Beside it, room for what is read
-// (specs/Room.antt), and numbers as arguments tell them (specs/Digits.antt).
+// The console of the programs: what they read, standard input or another reader, to its end or until a lent buffer is full; what they
+// say on standard error; and the arguments that they were started with. Which bytes come no contract can say; specs/Taken.antt says how many may.
+// Beside it, room for what is read (specs/Room.antt), and numbers as arguments tell them (specs/Digits.antt).
 #![tactic(auto)]
+
+pub mod args;
 pub mod digits;
 pub mod say;
 
@@ -9,36 +11,36 @@ ghost use Rattle.std.specs.Prelude.{length, ◌≤◌, ◌-◌};
 ghost use Rattle.console.specs.Taken.{Within};
 ghost use Rattle.console.specs.Room.{Filled};
 
-use libc::STDIN_FILENO;
+use std::io::{Error, Input, Read};
 
-// How many bytes came, or that a read failed.
+// How many bytes came, or that a read failed, and why.
 #[derive(Clone, Copy)]
 pub enum Taken {
     Bytes(usize),
-    Failed,
+    Failed(Error),
 }
 
-// One read of a descriptor, to index `at` and behind it; 0 bytes at the end of the input.
-fn read_from(fd: i32, buf: &mut [u8], at: usize) -> Taken
+// One read, to index `at` and behind it; 0 bytes at the end of the input.
+fn read_from<R: Read>(reader: &mut R, buf: &mut [u8], at: usize) -> Taken
     requires { at ≤ length buf.old }
     ensures { Within (length buf.old - at) result }
 {
-    let got = libc::read(fd, &mut buf[at..]);
-    if got < 0 {
-        return Taken::Failed;
+    let got = reader.read(&mut buf[at..]);
+    match got {
+        Ok(n) => Taken::Bytes(n),
+        Err(error) => Taken::Failed(error),
     }
-    Taken::Bytes(io::count(got, &buf[at..]))
 }
 
-// Reads a descriptor until its input ends or the buffer is full: the bytes may come in pieces.
-pub fn take_from(fd: i32, buf: &mut [u8]) -> Taken
+// Reads until the input ends or the buffer is full: the bytes may come in pieces.
+pub fn take_from<R: Read>(reader: &mut R, buf: &mut [u8]) -> Taken
     ensures { Within (length buf.old) result }
 {
     let mut at = 0;
     while at < buf.len() {
-        let more = read_from(fd, buf, at);
+        let more = read_from(reader, buf, at);
         let Taken::Bytes(n) = more else {
-            return Taken::Failed;
+            return more;
         };
         if n == 0 {
             break;
@@ -49,10 +51,18 @@ pub fn take_from(fd: i32, buf: &mut [u8]) -> Taken
 }
 
 // The same of standard input.
-pub fn take(buf: &mut [u8]) -> Taken
+pub fn take(rt: &impl Input, buf: &mut [u8]) -> Taken
     ensures { Within (length buf.old) result }
 {
-    take_from(STDIN_FILENO, buf)
+    let mut reader = rt.reader();
+    take_from(&mut reader, buf)
+}
+
+// Room for a piece of a long input or output, of 65,536 bytes.
+pub fn piece() -> [u8; 65536]
+    ensures { Filled 65536 0 result }
+{
+    [0; 65536]
 }
 
 // Room for a recording of 1,048,576 bytes and one byte more, which is enough to tell that it is too long.

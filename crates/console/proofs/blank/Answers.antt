@@ -2,12 +2,8 @@
 use mathlib.Core.Path.{refl, sym}
 use lib.ListN.{length-replicate}
 use Rattle.console.specs.Room.{filled}
-use Rattle.console.proofs.blank.Statement.{statement}
-use Rattle.console.proofs.blank.Tie as tie
+use Rattle.console.proofs.blank.Goals as goal
 
-returns : tie.Need-returns
+pub returns : goal.returns
 unfolding filled
 returns c = record { same = refl; long = sym (length-replicate 1048576 c.args.n) }
-
-pub blank-spec : {M : Type 1} → statement M
-blank-spec = tie.close (tie.spec returns)

@@ -3,12 +3,8 @@ use mathlib.Core.Path.{refl, sym}
 use Prim.Native.Nat.{ℕ}
 use lib.ListN.{length-replicate}
 use Rattle.console.specs.Room.{filled}
-use Rattle.console.proofs.recording.Statement.{statement}
-use Rattle.console.proofs.recording.Tie as tie
+use Rattle.console.proofs.recording.Goals as goal
 
-returns : tie.Need-returns
+pub returns : goal.returns
 unfolding filled
 returns c = record { same = refl; long = sym (length-replicate {A = ℕ} 1048577 0) }
-
-pub recording-spec : {M : Type 1} → statement M
-recording-spec = tie.close (tie.spec returns)
