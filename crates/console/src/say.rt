@@ -8,28 +8,28 @@ use std::fmt::Write;
 use std::io::{Error, Print};
 
 // A text.
-pub fn say(err: &impl Print, text: &[u8])
+pub fn say(stderr: &impl Print, text: &[u8])
     ensures { text.now ≡ text.now }
 {
-    let _ = err.write_all(text);
+    let _ = stderr.write_all(text);
 }
 
 // A name and its number.
-pub fn say_number(err: &impl Print, name: &[u8], n: u64)
+pub fn say_number(stderr: &impl Print, name: &[u8], n: u64)
     ensures { name.now ≡ name.now }
 {
-    say(err, name);
-    let _ = err.print(n);
+    say(stderr, name);
+    let _ = stderr.print(n);
 }
 
 // That a program met a word which is refused: the number that refuses it, and its index.
-pub fn say_refused(err: &impl Print, program: &[u8], number: u64, word: u64)
+pub fn say_refused(stderr: &impl Print, program: &[u8], number: u64, word: u64)
     ensures { program.now ≡ program.now }
 {
-    say(err, program);
-    say_number(err, b": refusal ", number);
-    say_number(err, b" at word ", word);
-    say(err, b"\n");
+    say(stderr, program);
+    say_number(stderr, b": refusal ", number);
+    say_number(stderr, b" at word ", word);
+    say(stderr, b"\n");
 }
 
 // The front of a text that is written to it.
@@ -73,7 +73,7 @@ fn bare(text: &[u8]) -> usize
 }
 
 // That something failed, and why: what it is, a colon and the system's text.
-pub fn fail(err: &impl Print, what: &[u8], error: Error)
+pub fn fail(stderr: &impl Print, what: &[u8], error: Error)
     ensures { what.now ≡ what.now }
 {
     let mut why = Reason {
@@ -82,8 +82,22 @@ pub fn fail(err: &impl Print, what: &[u8], error: Error)
     };
     let _ = write!(why, "{error}");
     let text = why.told();
-    say(err, what);
-    say(err, b": ");
-    say(err, &text[..bare(text)]);
-    say(err, b"\n");
+    say(stderr, what);
+    say(stderr, b": ");
+    say(stderr, &text[..bare(text)]);
+    say(stderr, b"\n");
+}
+
+// Writes bytes to standard output, or says that it cannot, with the name of the program and of the output; and tells whether they were taken.
+pub fn write(stdout: &impl Print, stderr: &impl Print, what: &[u8], bytes: &[u8]) -> bool
+    ensures { bytes.now ≡ bytes.now }
+{
+    let done = stdout.write_all(bytes);
+    match done {
+        Ok(()) => true,
+        Err(error) => {
+            fail(stderr, what, error);
+            false
+        }
+    }
 }
