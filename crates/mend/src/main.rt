@@ -2,15 +2,16 @@
 // standard error it lists the words that it dropped, a line each, and tells what was kept, dropped, cut and cleared; of a recording with nothing
 // to mend it says nothing.
 #![tactic(auto)]
+
 mod say;
 mod space;
 
 ghost use Rattle.std.specs.Prelude.{◌≤◌, length};
 ghost use Rattle.mend.specs.Mend.{Enough, Repairs};
 
-use console::say::say;
+use console::args::count;
+use console::say::{fail, say, write};
 use console::{Taken, recording, take};
-use libc::STDOUT_FILENO;
 use mending::{Mended, dextolumen_mend};
 use say::{say_list, say_summary};
 use space::{index_room, number_room};
@@ -28,7 +29,7 @@ fn repair(bytes: &[u8], out: &mut [u8], indices: &mut [u64], numbers: &mut [u8])
 }
 
 // Writes the new stream and says what was mended, if anything was.
-fn write_mended(bytes: &[u8])
+fn write_mended(stdout: &impl Print, stderr: &impl Print, bytes: &[u8])
     requires { length bytes.now ≤ 1048576 }
 {
     let mut out = recording();
@@ -37,36 +38,39 @@ fn write_mended(bytes: &[u8])
     let told = repair(bytes, &mut out, &mut indices, &mut numbers);
     let size = told.size;
     let dropped = told.dropped;
-    if !io::write_all(STDOUT_FILENO, &out[..size]) {
-        os::fail(b"mend: standard output");
+    if !write(stdout, stderr, b"mend: standard output", &out[..size]) {
         return;
     }
     let whole = (dropped == 0) & (told.cut == 0) & (told.cleared == 0);
     if whole {
         return;
     }
-    say_list(bytes, &indices[..dropped], &numbers[..dropped]);
-    say_summary(held(&out[..size]), dropped, told.cut, told.cleared);
+    say_list(stderr, bytes, &indices[..dropped], &numbers[..dropped]);
+    say_summary(stderr, held(&out[..size]), dropped, told.cut, told.cleared);
 }
 
 // Mends the bytes that were read.
-fn mend_read(bytes: &[u8]) {
+fn mend_read(stdout: &impl Print, stderr: &impl Print, bytes: &[u8]) {
     if 1048576 < bytes.len() {
-        say(b"mend: the recording is longer than 1048576 bytes\n");
+        say(
+            stderr,
+            b"mend: the recording is longer than 1048576 bytes\n",
+        );
         return;
     }
-    write_mended(bytes);
+    write_mended(stdout, stderr, bytes);
 }
 
-fn main() {
-    if 1 < os::arg_count() {
-        say(b"usage: mend < DAMAGED > RECORDING\n");
+fn main(rt: HostRuntime) {
+    let stderr = rt.stderr();
+    if 1 < count(&rt) {
+        say(&stderr, b"usage: mend < DAMAGED > RECORDING\n");
         return;
     }
     let mut bytes = recording();
-    let taken = take(&mut bytes);
+    let taken = take(&rt, &mut bytes);
     match taken {
-        Taken::Bytes(n) => mend_read(&bytes[..n]),
-        Taken::Failed => os::fail(b"mend: standard input"),
+        Taken::Bytes(n) => mend_read(&rt, &stderr, &bytes[..n]),
+        Taken::Failed(error) => fail(&stderr, b"mend: standard input", error),
     }
 }

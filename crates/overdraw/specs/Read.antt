@@ -8,7 +8,7 @@ use Rattle.overdraw.specs.declared.file.Found.TheVariants.{Bytes, Missing, Unrea
 -- what reading an open file came to
 abbrev pub found_of : Taken → Found
 found_of (Came n) = Bytes n
-found_of Failed = Unreadable
+found_of (Failed error) = Unreadable
 
 -- no more bytes came than there was room for
 abbrev pub Within : ℕ → Found → Type 0

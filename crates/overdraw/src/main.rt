@@ -2,16 +2,18 @@
 // all of them. What it prints is `Printed` (specs/Report.antt). A file that cannot be read is told on standard error, and ends the report:
 // what came before it is printed, and no total.
 #![tactic(auto)]
+
 mod file;
 mod page;
 mod text;
 
 ghost use Rattle.overdraw.specs.Report.{Come, Printed};
 
-use console::say::say;
+use console::args::count;
+use console::say::{say, write};
 use file::{Found, find};
-use libc::STDOUT_FILENO;
 use page::{Reached, add, begin, finish};
+use std::rt::Files;
 
 // What was gathered: how far the report has come, and whether no file is left out.
 #[derive(Clone, Copy)]
@@ -31,13 +33,13 @@ fn is_whole(found: Found) -> bool {
 
 // Reads and reports file after file, until one is missing or cannot be read. One byte more than a recording may have is enough to tell that it is
 // too long.
-fn gather(out: &mut [u8; 418474]) -> Gathered
+fn gather(rt: &impl Files, stderr: &impl Print, out: &mut [u8; 418474]) -> Gathered
     ensures { Come out.old out.new result.reached }
 {
     let mut r = begin(out);
     let mut bytes = [0u8; 8193];
     while r.files < 1000 {
-        let found = find(r.files, &mut bytes);
+        let found = find(rt, stderr, r.files, &mut bytes);
         let Found::Bytes(n) = found else {
             let whole = is_whole(found);
             return Gathered {
@@ -55,10 +57,10 @@ fn gather(out: &mut [u8; 418474]) -> Gathered
 }
 
 // The report, at the front of a buffer, and its length.
-fn reported(out: &mut [u8; 418474]) -> usize
+fn reported(rt: &impl Files, stderr: &impl Print, out: &mut [u8; 418474]) -> usize
     ensures { Printed out.old out.new result }
 {
-    let g = gather(out);
+    let g = gather(rt, stderr, out);
     let r = g.reached;
     if g.whole {
         return finish(r, out);
@@ -66,14 +68,16 @@ fn reported(out: &mut [u8; 418474]) -> usize
     r.end
 }
 
-fn main() {
-    if 1 < os::arg_count() {
-        say(b"usage: overdraw, where the recordings 000, 001 and so on stand\n");
+fn main(rt: HostRuntime) {
+    let stderr = rt.stderr();
+    if 1 < count(&rt) {
+        say(
+            &stderr,
+            b"usage: overdraw, where the recordings 000, 001 and so on stand\n",
+        );
         return;
     }
     let mut out = [0u8; 418474];
-    let n = reported(&mut out);
-    if !io::write_all(STDOUT_FILENO, &out[..n]) {
-        os::fail(b"overdraw: standard output");
-    }
+    let n = reported(&rt, &stderr, &mut out);
+    write(&rt, &stderr, b"overdraw: standard output", &out[..n]);
 }

@@ -2,56 +2,64 @@
 // as text once the end is reached. Of a stream that 11 and 12 don't touch that is what the drawing program prints. Where a read or a write
 // fails, it says so on standard error.
 #![tactic(auto)]
+
 mod text;
 
-use console::say::say;
-use console::{Taken, take};
+use console::args::count;
+use console::say::{fail, say, write};
+use console::{Taken, piece, take};
 use instalments::{Intake, dextolumen_begin, dextolumen_feed};
-use libc::STDOUT_FILENO;
 use text::put_received;
 
 // Prints bytes.
-fn print(text: &[u8]) {
-    if !io::write_all(STDOUT_FILENO, text) {
-        os::fail(b"receive: standard output");
-    }
+fn print(stdout: &impl Print, stderr: &impl Print, text: &[u8]) {
+    write(stdout, stderr, b"receive: standard output", text);
 }
 
 // The end is reached: prints what the recording came to.
-fn end(s: Intake, im: &[u16; 8192], zm: &[u16; 8192]) {
+fn end(stdout: &impl Print, stderr: &impl Print, s: Intake, im: &[u16; 8192], zm: &[u16; 8192]) {
     let mut out = [0u8; 180308];
     let n = put_received(s, im, zm, &mut out);
-    print(&out[..n]);
+    print(stdout, stderr, &out[..n]);
 }
 
 // Reads piece by piece; one that is not full is the last. A loop that is proved to end cannot read for ever: 2^48 full pieces, 2^64 bytes,
 // are too long.
-fn receive(im: &mut [u16; 8192], zm: &mut [u16; 8192]) {
-    let mut piece = io::large_buffer();
+fn receive(
+    rt: &(impl Input + Print),
+    stderr: &impl Print,
+    im: &mut [u16; 8192],
+    zm: &mut [u16; 8192],
+) {
+    let mut part = piece();
     let mut s = dextolumen_begin();
     let mut left: u64 = 281474976710656;
     while 0 < left {
-        let taken = take(&mut piece);
-        let Taken::Bytes(n) = taken else {
-            os::fail(b"receive: standard input");
-            return;
+        let taken = take(rt, &mut part);
+        let n = match taken {
+            Taken::Bytes(n) => n,
+            Taken::Failed(error) => {
+                fail(stderr, b"receive: standard input", error);
+                return;
+            }
         };
-        s = dextolumen_feed(s, &piece[..n], im, zm);
+        s = dextolumen_feed(s, &part[..n], im, zm);
         if n < 65536 {
-            end(s, im, zm);
+            end(rt, stderr, s, im, zm);
             return;
         }
         left -= 1;
     }
-    print(b"too long\n");
+    print(rt, stderr, b"too long\n");
 }
 
-fn main() {
-    if 1 < os::arg_count() {
-        say(b"usage: receive < RECORDING\n");
+fn main(rt: HostRuntime) {
+    let stderr = rt.stderr();
+    if 1 < count(&rt) {
+        say(&stderr, b"usage: receive < RECORDING\n");
         return;
     }
     let mut im = [0u16; 8192];
     let mut zm = [65535u16; 8192];
-    receive(&mut im, &mut zm);
+    receive(&rt, &stderr, &mut im, &mut zm);
 }

@@ -2,6 +2,7 @@
 // What the arguments ask for is `asked_of` (specs/Arguments.antt), and the image is `image` (report's specs/Image.antt) or, in levels, `levelImage`
 // (specs/Levels.antt there). What keeps it from being written, and what it misses, the program says on standard error.
 #![tactic(auto)]
+
 mod arguments;
 mod page;
 mod reach;
@@ -10,7 +11,8 @@ mod write;
 ghost use Rattle.std.specs.Prelude.{◌≤◌};
 
 use arguments::asked;
-use console::say::say;
+use console::args::{argument, count};
+use console::say::{fail, say};
 use console::{Taken, blank, recording, take};
 use registers::Registers;
 use write::write_drawn;
@@ -47,43 +49,55 @@ struct Came {
 }
 
 // Draws the bytes on fresh memories and writes the image.
-fn show(wanted: Wanted, bytes: &[u8])
+fn show(stdout: &impl Print, stderr: &impl Print, wanted: Wanted, bytes: &[u8])
     requires { wanted.places ≤ 1048576 }
 {
     if 1048576 < bytes.len() {
-        say(b"show: the recording is longer than 1048576 bytes\n");
+        say(
+            stderr,
+            b"show: the recording is longer than 1048576 bytes\n",
+        );
         return;
     }
     let places = wanted.places;
     let mut im = blank(0);
     let mut zm = blank(65535);
-    write_drawn(wanted, bytes, &mut im[..places], &mut zm[..places]);
+    write_drawn(
+        stdout,
+        stderr,
+        wanted,
+        bytes,
+        &mut im[..places],
+        &mut zm[..places],
+    );
 }
 
 // One byte more than a recording may have is enough to tell that it is too long.
-fn read(wanted: Wanted)
+fn read(rt: &(impl Input + Print), stderr: &impl Print, wanted: Wanted)
     requires { wanted.places ≤ 1048576 }
 {
     let mut bytes = recording();
-    let taken = take(&mut bytes);
+    let taken = take(rt, &mut bytes);
     match taken {
-        Taken::Bytes(n) => show(wanted, &bytes[..n]),
-        Taken::Failed => os::fail(b"show: standard input"),
+        Taken::Bytes(n) => show(rt, stderr, wanted, &bytes[..n]),
+        Taken::Failed(error) => fail(stderr, b"show: standard input", error),
     }
 }
 
-fn main() {
+fn main(rt: HostRuntime) {
+    let stderr = rt.stderr();
     let mut first = [0u8; 64];
-    let n = os::arg(1, &mut first);
+    let n = argument(&rt, 1, &mut first);
     let mut second = [0u8; 64];
-    let m = os::arg(2, &mut second);
+    let m = argument(&rt, 2, &mut second);
     let mut third = [0u8; 64];
-    let k = os::arg(3, &mut third);
-    let wanted = asked(os::arg_count(), &first[..n], &second[..m], &third[..k]);
+    let k = argument(&rt, 3, &mut third);
+    let wanted = asked(count(&rt), &first[..n], &second[..m], &third[..k]);
     match wanted {
-        Asked::Image(w) => read(w),
-        Asked::TooMany => say(b"show: the memories have at most 1048576 places\n"),
+        Asked::Image(w) => read(&rt, &stderr, w),
+        Asked::TooMany => say(&stderr, b"show: the memories have at most 1048576 places\n"),
         Asked::Unclear => say(
+            &stderr,
             b"usage: show [i|z] [levels] [PLACES, 1 to 1048576] < RECORDING > IMAGE.pgm   (i: intensity, z: depth, levels: 8 bits to look at)\n",
         ),
     }

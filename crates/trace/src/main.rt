@@ -2,11 +2,13 @@
 // refused (`traceOf`, of tracing's specs/Trace.antt). With two arguments, the words alone that have a pixel at (X, Y) (`watchOf`, specs/Watch.antt).
 // What the arguments ask for is `asked_of` (specs/Arguments.antt).
 #![tactic(auto)]
+
 mod arguments;
 mod print;
 
 use arguments::asked;
-use console::say::say;
+use console::args::{argument, count};
+use console::say::{fail, say};
 use console::{Taken, recording, take};
 use print::{print, print_stream};
 
@@ -19,34 +21,41 @@ enum Asked {
 }
 
 // Traces the bytes that were read. `too long` is no line of a trace.
-fn trace(pixel: bool, x: u16, y: u16, bytes: &[u8]) {
+fn trace(stdout: &impl Print, stderr: &impl Print, pixel: bool, x: u16, y: u16, bytes: &[u8]) {
     if 1048576 < bytes.len() {
-        say(b"trace: the recording is longer than 1048576 bytes\n");
-        print(b"too long\n");
+        say(
+            stderr,
+            b"trace: the recording is longer than 1048576 bytes\n",
+        );
+        print(stdout, stderr, b"too long\n");
         return;
     }
-    print_stream(pixel, x, y, bytes);
+    print_stream(stdout, stderr, pixel, x, y, bytes);
 }
 
 // One byte more than a recording may have is enough to tell that it is too long.
-fn read(pixel: bool, x: u16, y: u16) {
+fn read(rt: &(impl Input + Print), stderr: &impl Print, pixel: bool, x: u16, y: u16) {
     let mut bytes = recording();
-    let taken = take(&mut bytes);
+    let taken = take(rt, &mut bytes);
     match taken {
-        Taken::Bytes(n) => trace(pixel, x, y, &bytes[..n]),
-        Taken::Failed => os::fail(b"trace: standard input"),
+        Taken::Bytes(n) => trace(rt, stderr, pixel, x, y, &bytes[..n]),
+        Taken::Failed(error) => fail(stderr, b"trace: standard input", error),
     }
 }
 
-fn main() {
+fn main(rt: HostRuntime) {
+    let stderr = rt.stderr();
     let mut first = [0u8; 64];
-    let n = os::arg(1, &mut first);
+    let n = argument(&rt, 1, &mut first);
     let mut second = [0u8; 64];
-    let m = os::arg(2, &mut second);
-    let wanted = asked(os::arg_count(), &first[..n], &second[..m]);
+    let m = argument(&rt, 2, &mut second);
+    let wanted = asked(count(&rt), &first[..n], &second[..m]);
     match wanted {
-        Asked::Whole => read(false, 0, 0),
-        Asked::Pixel(x, y) => read(true, x, y),
-        Asked::Unclear => say(b"usage: trace [X Y, each 0 to 16383] < RECORDING > TEXT\n"),
+        Asked::Whole => read(&rt, &stderr, false, 0, 0),
+        Asked::Pixel(x, y) => read(&rt, &stderr, true, x, y),
+        Asked::Unclear => say(
+            &stderr,
+            b"usage: trace [X Y, each 0 to 16383] < RECORDING > TEXT\n",
+        ),
     }
 }

@@ -2,27 +2,22 @@
 ghost use Rattle.std.specs.Prelude.{◌≡◌, ◌≤◌, length};
 
 use chip::run::Ran;
-use console::blank;
-use console::say::{say, say_refused};
-use libc::STDOUT_FILENO;
+use console::say::{say, say_refused, write};
+use console::{blank, piece};
 use registers::Registers;
 use stream::read::{flaw, held};
 use tracing::{Turn, trace, watch};
 
 // Prints a text, or says that it cannot.
-pub(crate) fn print(text: &[u8]) -> bool {
-    if io::write_all(STDOUT_FILENO, text) {
-        return true;
-    }
-    os::fail(b"trace: standard output");
-    false
+pub(crate) fn print(stdout: &impl Print, stderr: &impl Print, text: &[u8]) -> bool {
+    write(stdout, stderr, b"trace: standard output", text)
 }
 
 // Prints what refuses a stream, and says it as well. It is no line of a word, so that nothing takes it for the trace of an empty recording.
-fn refuse(text: &[u8]) {
-    say(b"trace: ");
-    say(text);
-    print(text);
+fn refuse(stdout: &impl Print, stderr: &impl Print, text: &[u8]) {
+    say(stderr, b"trace: ");
+    say(stderr, text);
+    print(stdout, stderr, text);
 }
 
 // Before the first word.
@@ -58,8 +53,17 @@ fn turn(
 }
 
 // Prints the lines of all words, page after page: a page is printed while there is room for one line more.
-fn print_words(pixel: bool, x: u16, y: u16, bytes: &[u8], im: &mut [u16], zm: &mut [u16]) -> Ran {
-    let mut page = io::large_buffer();
+fn print_words(
+    stdout: &impl Print,
+    stderr: &impl Print,
+    pixel: bool,
+    x: u16,
+    y: u16,
+    bytes: &[u8],
+    im: &mut [u16],
+    zm: &mut [u16],
+) -> Ran {
+    let mut page = piece();
     let count = held(bytes);
     let mut run = begun();
     let mut at = 0;
@@ -71,31 +75,38 @@ fn print_words(pixel: bool, x: u16, y: u16, bytes: &[u8], im: &mut [u16], zm: &m
         at = t.next;
         k += 1;
         if 65460 < at {
-            if !print(&page[..at]) {
+            if !print(stdout, stderr, &page[..at]) {
                 return run;
             }
             at = 0;
         }
     }
-    print(&page[..at]);
+    print(stdout, stderr, &page[..at]);
     run
 }
 
 // Traces a stream on fresh memories, or tells the number that refuses it.
-pub(crate) fn print_stream(pixel: bool, x: u16, y: u16, bytes: &[u8]) {
+pub(crate) fn print_stream(
+    stdout: &impl Print,
+    stderr: &impl Print,
+    pixel: bool,
+    x: u16,
+    y: u16,
+    bytes: &[u8],
+) {
     let number = flaw(bytes);
     if number == 11 {
-        refuse(b"refusal 11\n");
+        refuse(stdout, stderr, b"refusal 11\n");
         return;
     }
     if number == 12 {
-        refuse(b"refusal 12\n");
+        refuse(stdout, stderr, b"refusal 12\n");
         return;
     }
     let mut im = blank(0);
     let mut zm = blank(65535);
-    let run = print_words(pixel, x, y, bytes, &mut im, &mut zm);
+    let run = print_words(stdout, stderr, pixel, x, y, bytes, &mut im, &mut zm);
     if run.refusal != 0 {
-        say_refused(b"trace", run.refusal, run.index);
+        say_refused(stderr, b"trace", run.refusal, run.index);
     }
 }

@@ -2,9 +2,10 @@
 // tiles.
 ghost use Rattle.io.specs.Counts.{IsPrefixLen};
 
-use crate::print::{print, print_hex};
+use crate::print::print_hex;
 use chip::run::{run, run_tiled};
 use printing::put_text;
+use std::io;
 
 // How many bytes stand before the first line's end.
 fn first_line(text: &[u8]) -> usize
@@ -23,11 +24,11 @@ fn first_line(text: &[u8]) -> usize
 // One step of FNV-1a: the byte in, and times 2^40 + 2^8 + 179 modulo 2^64.
 fn mixed(sum: u64, byte: u8) -> u64 {
     let h = sum ^ (byte as u64);
-    let low = std::num::wrapping_add_u64(h, (h << 1));
-    let mid = std::num::wrapping_add_u64((h << 4), (h << 5));
-    let high = std::num::wrapping_add_u64((h << 7), (h << 8));
-    let most = std::num::wrapping_add_u64(high, (h << 40));
-    std::num::wrapping_add_u64(std::num::wrapping_add_u64(low, mid), most)
+    let low = h.wrapping_add(h << 1);
+    let mid = (h << 4).wrapping_add(h << 5);
+    let high = (h << 7).wrapping_add(h << 8);
+    let most = high.wrapping_add(h << 40);
+    low.wrapping_add(mid).wrapping_add(most)
 }
 
 // The checksum of a text: FNV-1a of 64 bits.
@@ -40,43 +41,42 @@ fn checksum(text: &[u8]) -> u64 {
 }
 
 // Prints a text's first line and its checksum.
-fn print_text(text: &[u8]) {
+fn print_text(stdout: &impl Print, text: &[u8]) -> io::Result<()> {
     let n = first_line(text);
-    print(&text[..n]);
-    print(b", text ");
-    print_hex(checksum(text));
+    stdout.write_all(&text[..n])?;
+    stdout.write_all(b", text ")?;
+    print_hex(stdout, checksum(text))
 }
 
 // Prints what a stream comes to on a fresh picture of 8,192 places.
-fn print_drawn(bytes: &[u8]) {
+fn print_drawn(stdout: &impl Print, bytes: &[u8]) -> io::Result<()> {
     let mut im = [0u16; 8192];
     let mut zm = [65535u16; 8192];
     let ran = run(bytes, &mut im, &mut zm);
     let mut out = [0u8; 180308];
     let n = put_text(ran, &im, &zm, &mut out);
-    print_text(&out[..n]);
+    print_text(stdout, &out[..n])
 }
 
 // Prints the checksum of what it comes to over tiles: places are told as in rows, whatever pixel lies at them.
-fn print_tiled(bytes: &[u8]) {
+fn print_tiled(stdout: &impl Print, bytes: &[u8]) -> io::Result<()> {
     let mut im = [0u16; 8192];
     let mut zm = [65535u16; 8192];
     let ran = run_tiled(bytes, &mut im, &mut zm);
     let mut out = [0u8; 180308];
     let n = put_text(ran, &im, &zm, &mut out);
-    print(b", tiled ");
-    print_hex(checksum(&out[..n]));
-    print(b"\n");
+    stdout.write_all(b", tiled ")?;
+    print_hex(stdout, checksum(&out[..n]))?;
+    stdout.write_all(b"\n")
 }
 
 // Prints a stream's line.
-pub(crate) fn print_stream(name: &[u8], bytes: &[u8]) {
-    print(name);
-    print(b": ");
+pub(crate) fn print_stream(stdout: &impl Print, name: &[u8], bytes: &[u8]) -> io::Result<()> {
+    stdout.write_all(name)?;
+    stdout.write_all(b": ")?;
     if 8192 < bytes.len() {
-        print(b"too long\n");
-        return;
+        return stdout.write_all(b"too long\n");
     }
-    print_drawn(bytes);
-    print_tiled(bytes);
+    print_drawn(stdout, bytes)?;
+    print_tiled(stdout, bytes)
 }
