@@ -1,0 +1,15 @@
+-- `assemble` meets its contract: no more words are stored than there is room for. Assumes nothing.
+use mathlib.Core.Path.{◌∙◌}
+use native.Mathlib.Omega.{arith}
+use Rattle.listing.proofs.Kept.{held_fits}
+use Rattle.assemble.proofs.assemble.Goals as goal
+
+pub finish-requires : goal.finish-requires
+finish-requires g c = held_fits _ _ _ _ _ c.read-r.ensures c.loop-left.invariant.2
+
+pub loop-left-preserved : goal.loop-left-preserved
+loop-left-preserved g c = (
+  c.read-r.auto.words ∙ c.loop-left.invariant.0,
+  omega (arith, c.take-taken.auto.buf, c.loop-left.invariant.1),
+  held_fits _ _ _ _ _ c.read-r.ensures c.loop-left.invariant.2,
+)
