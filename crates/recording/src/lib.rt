@@ -2,6 +2,7 @@
 // they make, by the same definitions. include/dextolumen.h has the C side. A word is an entry of `driver`: so each archive calls the chip's
 // `step` from one place, the step is compiled into the loop over the words, and the record is not copied from word to word.
 #![tactic(auto)]
+
 ghost use Rattle.std.specs.Prelude.{◌≡◌};
 ghost use Rattle.registers.specs.Record.{reset_as, reset_of};
 ghost use Rattle.machine.specs.Machine.{memories};
