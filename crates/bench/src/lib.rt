@@ -1,5 +1,6 @@
 // Entries for the benchmark in C (bench/): one figure, or one stream, a call.
 #![tactic(auto)]
+
 ghost use Rattle.std.specs.Prelude.{◌≡◌, length};
 ghost use Rattle.stream.specs.Calls.{size_of, packing, unpacking};
 ghost use Rattle.bench.specs.Bench.{pen_of, style_of, vertex_of, DrawsTriangle, DrawsSegment, Wrote};
