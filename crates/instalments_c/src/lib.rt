@@ -4,6 +4,7 @@
 ghost use Rattle.std.specs.Prelude.{◌≡◌};
 ghost use Rattle.instalments.specs.Instalments.{taking, fresh, feeding, ending};
 ghost use Rattle.machine.specs.Lent.{found, left};
+ghost use Rattle.machine.specs.Machine.{memories};
 
 use instalments::Intake;
 
@@ -26,7 +27,7 @@ pub extern "C" fn dextolumen_feed(s: Intake, bytes: &[u8], im: &mut [u16], zm: &
 // Ends a recording: no more bytes come.
 #[unsafe(no_mangle)]
 pub extern "C" fn dextolumen_finish(s: Intake, im: &[u16], zm: &[u16]) -> Intake
-    ensures { taking result (found im zm) ≡ ending (taking s (found im zm)) }
+    ensures { taking result (memories im.now zm.now) ≡ ending (taking s (memories im.now zm.now)) }
 {
     instalments::dextolumen_finish(s, im, zm)
 }
