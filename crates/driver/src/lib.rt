@@ -1,6 +1,6 @@
 // The entry for the host program in C that takes a word, on the record where it stands. Its result is that of the chip's own `step`, by the
-// same definitions. include/dextolumen.h has the C side. Other entries are in crates of their own: `reader` and `recording`, and in those of
-// the calls that they are: `stream`, `board`, `instalments`, `mending`, `squares`.
+// same definitions. include/dextolumen.h has the C side. Other entries are in crates of their own: `reader` and `recording`, and the calls of
+// libraries are handed on by `stream_c`, `board_c`, `instalments_c`, `mending_c` and `squares_c`.
 #![tactic(auto)]
 
 ghost use Rattle.registers.specs.Word.{decode};
