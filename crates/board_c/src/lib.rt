@@ -5,7 +5,7 @@ ghost use Rattle.std.specs.Prelude.{◌≡◌};
 ghost use Rattle.registers.specs.Word.{decode};
 ghost use Rattle.board.specs.Board.{TakesOn};
 ghost use Rattle.board.specs.Calls.{resetting, board_reading, RunsOn};
-ghost use Rattle.board.specs.Bank.{found_in, left_in};
+ghost use Rattle.board.specs.Bank.{found_in, left_in, lent};
 
 use board::read::Seen;
 use board::run::Ended;
@@ -72,7 +72,7 @@ pub extern "C" fn dextolumen_board_read(
     i3: &[u16],
     z3: &[u16],
 ) -> Seen
-    ensures { result ≡ board_reading board (found_in i0 z0 i1 z1 i2 z2 i3 z3) }
+    ensures { result ≡ board_reading board (lent i0.now z0.now i1.now z1.now i2.now z2.now i3.now z3.now) }
 {
     board::read::dextolumen_board_read(board, i0, z0, i1, z1, i2, z2, i3, z3)
 }
