@@ -1,5 +1,6 @@
 // What belongs to no subject: the least and the greatest of two numbers, and laws of truth values and of promises (proofs/).
 #![tactic(auto)]
+
 ghost use Rattle.std.specs.Prelude.{◌≡◌, min, max};
 
 // The least of two lengths.

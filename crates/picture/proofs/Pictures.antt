@@ -1,15 +1,14 @@
 -- Pixels stored and read: what is read back, what stands elsewhere, and a pixel stored where it was read. Assumes nothing.
-use Rattle.std.proofs.Common.{◌≡◌, ℕ, ◌<◌, ◌≤◌, Bool, true, false, cond, List, [], ◌∷◌, map, length, get_or, set, sym, refl, ap, ◌∙◌, subst, ap₂, arith, get_or-set_same}
+use Rattle.std.proofs.Common.{◌≡◌, ℕ, ◌≤◌, Bool, true, false, cond, List, [], ◌∷◌, map, length, get_or, set, sym, refl, ap, ◌∙◌, ap₂, arith, get_or-set_same}
 use mathlib.Core.List.Memᴰ
 use mathlib.Core.List.{Memᴰ}
 use lib.Seq.{set-get_or}
 use Rattle.ground.proofs.Truth.{either}
-use Rattle.picture.specs.declared.Frame.{Frame}
 use Rattle.picture.specs.declared.Pen.{Pen}
 use Rattle.picture.specs.Place.{place_of, rows_of, in_memory}
 use Rattle.picture.specs.Picture.{Picture, picture, in_planes, new_i}
 use Rattle.picture.specs.Cell.{Cell, cell_at}
-use Rattle.picture.specs.Store.{Store, pixel_for, site, filled, storable, read_of}
+use Rattle.picture.specs.Store.{pixel_for, site, filled, storable, read_of}
 use Rattle.picture.proofs.Places.{place_below, place_apart}
 use Rattle.picture.proofs.Rows.{in_all_planes}
 use Rattle.picture.proofs.Planes.{planes_same}

@@ -1,11 +1,11 @@
 -- Where pixels lie: a pixel inside the memory has a place of its own, below the lent lengths. Assumes nothing.
-use Rattle.std.proofs.Common.{◌≡◌, ℕ, ◌+◌, ◌-◌, ◌*◌, ◌/◌, ◌%◌, ◌<◌, ◌≤◌, min, Bool, true, false, cond, not, ◌&&◌, ◌||◌, eqb, ltb, leb, sym, refl, ap, ◌∙◌, zero-le, add_assoc, mul-le-mul_right, mul-le-mul, zero-add, arith, ltb-false, ltb-true, lt-ltb, eq-eqb, eqb-true, le-leb, leb-true}
+use Rattle.std.proofs.Common.{◌≡◌, ℕ, ◌+◌, ◌-◌, ◌*◌, ◌/◌, ◌%◌, ◌<◌, ◌≤◌, min, Bool, true, false, cond, ◌&&◌, ◌||◌, eqb, ltb, leb, sym, refl, ap, ◌∙◌, zero-le, add_assoc, mul-le-mul_right, mul-le-mul, zero-add, arith, ltb-false, ltb-true, lt-ltb, eq-eqb, eqb-true, le-leb, leb-true}
 use native.Mathlib.Nat.{min-le_right}
 use borrow.Author.Tests.{eqb-false}
 use Rattle.ground.proofs.Truth.{both, neither, same_test}
 use Rattle.picture.specs.declared.Frame.{Frame}
 use Rattle.picture.specs.Limits.{most_rows}
-use Rattle.picture.specs.Place.{Layout, plain, tiled, share, lies_plain, lies_tiled, ways_of, layout_of, spot_of, place_of, is_whole, width_of, rows_in, rows_of, mine, in_memory}
+use Rattle.picture.specs.Place.{plain, tiled, share, lies_plain, lies_tiled, ways_of, layout_of, spot_of, place_of, is_whole, width_of, rows_in, rows_of, mine, in_memory}
 use Rattle.picture.specs.Loops.{band_end, along_tiles}
 use Rattle.picture.proofs.Layouts.{rows_end, rows_hold, band_low, spot_low, spot_apart}
 

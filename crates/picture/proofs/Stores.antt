@@ -8,7 +8,7 @@ use borrow.Author.Tests.{eqb-false}
 use Rattle.picture.specs.declared.Pen.{Pen}
 use Rattle.picture.specs.declared.Frame.{Frame}
 use Rattle.picture.specs.Picture.{Picture, picture, new_i}
-use Rattle.picture.specs.Cell.{Cell, cell, cell_at}
+use Rattle.picture.specs.Cell.{Cell, cell_at}
 use Rattle.picture.specs.Store.{Store, pixel_for, stored_i, stored_z, site, stored, filled, storable, read_of, after_store, stores_at}
 use Rattle.picture.specs.Place.{layout_of, width_of, place_of, rows_of, in_memory}
 

@@ -1,6 +1,6 @@
 -- What a unit of a board has of a row: its columns, each so many from the one before it, at places side by side, with numbers carried over all of them.
 -- Assumes nothing.
-use Rattle.std.proofs.Common.{◌≡◌, ℕ, zero, suc, ◌+◌, ◌-◌, ◌*◌, ◌/◌, ◌%◌, ◌^◌, ◌<◌, ◌≤◌, Bool, true, false, cond, ◌&&◌, ◌||◌, eqb, ltb, ◌⊎◌, List, [], sym, refl, ap, ◌∙◌, subst, ap₂, inl, inr, add-zero, add_assoc, mul-le-mul_right, mod-lt, mul_assoc, suc-mul, mul_comm, add-mul, add_comm, zero-mul, arith, ltb-false, ltb-true, eq-eqb, eqb-true}
+use Rattle.std.proofs.Common.{◌≡◌, ℕ, zero, suc, ◌+◌, ◌-◌, ◌*◌, ◌/◌, ◌%◌, ◌^◌, ◌<◌, ◌≤◌, Bool, true, false, cond, ◌&&◌, eqb, ltb, ◌⊎◌, [], sym, refl, ap, ◌∙◌, subst, ap₂, inl, inr, add_assoc, mul-le-mul_right, mod-lt, mul_assoc, suc-mul, mul_comm, add-mul, add_comm, zero-mul, arith, ltb-false, ltb-true, eq-eqb, eqb-true}
 use native.Mathlib.Nat.{add-mul-div_left, add-mul-mod_self_left, mod-add-mod, add-mod-mod}
 use borrow.Author.Tests.{eqb-false}
 use Rattle.picture.specs.declared.Frame.{Frame}
@@ -8,7 +8,7 @@ use Rattle.picture.specs.declared.Pen.{Pen}
 use Rattle.picture.specs.declared.Kind.{Kind}
 use Rattle.picture.specs.declared.Carried.{Carried}
 use Rattle.picture.specs.Place.{lies_plain, lies_tiled, ways_of, layout_of, spot_of, place_of, mine, in_memory}
-use Rattle.picture.specs.Offer.{Offer, offer}
+use Rattle.picture.specs.Offer.{offer}
 use Rattle.picture.specs.Picture.{Picture, drawn}
 use Rattle.picture.specs.Draw.{carried_one, shown, seen, carried_to, span_pixel, span_offers}
 use Rattle.picture.specs.Loops.{Shares, until_own, own_below, stridden, own_offers}

@@ -1,5 +1,5 @@
 -- What offers do to the two memories, and which of them pass (document 01, "Passed").
-use Rattle.std.specs.Prelude.{ℕ, ◌+◌, ◌-◌, Bool, true, false, cond, not, ◌&&◌, ◌||◌, List, set, ◌==◌, bit_and, bit_or, nat_lt, slice_index, slice_set}
+use Rattle.std.specs.Prelude.{ℕ, ◌+◌, ◌-◌, Bool, true, false, cond, not, ◌&&◌, ◌||◌, List, ◌==◌, bit_and, bit_or, nat_lt, slice_index, slice_set}
 use mathlib.Core.List.{foldl}
 use Rattle.picture.specs.declared.Pen.{Pen}
 use Rattle.picture.specs.declared.Kind.{Kind}

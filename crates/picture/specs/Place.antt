@@ -1,5 +1,5 @@
 -- Where pixels lie in the lent memories (document 01, "What the card models"; requests [8], [9] and [12]).
-use Rattle.std.specs.Prelude.{ℕ, ◌+◌, ◌-◌, ◌*◌, ◌/◌, ◌%◌, min, Bool, true, false, cond, not, ◌&&◌, ◌||◌, ◌==◌, nat_lt}
+use Rattle.std.specs.Prelude.{ℕ, ◌+◌, ◌-◌, ◌*◌, ◌/◌, ◌%◌, min, Bool, true, cond, not, ◌&&◌, ◌||◌, ◌==◌, nat_lt}
 use Rattle.picture.specs.declared.Frame.{Frame}
 use Rattle.picture.specs.Limits.{most_rows}
 

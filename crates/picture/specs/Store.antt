@@ -1,6 +1,6 @@
 -- Pixels of pictures (request [1]). They are stored as they come: the write enables and, for I, the planes decide, and nothing is counted;
 -- and they are read as they stand.
-use Rattle.std.specs.Prelude.{ℕ, Bool, cond, ◌&&◌, List, [], ◌∷◌, map, length, ◌==◌, slice_index, slice_set}
+use Rattle.std.specs.Prelude.{ℕ, Bool, cond, ◌&&◌, List, [], ◌∷◌, length, ◌==◌, slice_index, slice_set}
 use mathlib.Core.List.{foldl}
 use Rattle.picture.specs.declared.Frame.{Frame}
 use Rattle.picture.specs.declared.Pen.{Pen}

@@ -1,6 +1,6 @@
 -- Which pixels corners that turn anticlockwise cover, and what a covered pixel is good for.
 -- Assumes nothing.
-use Rattle.std.proofs.Common.{◌≡◌, ℕ, ◌+◌, ◌-◌, ◌≤◌, min, max, Bool, true, false, ◌&&◌, ◌||◌, eqb, ltb, sym, refl, true≢false, arith, ltb-false, ltb-true, lt-ltb, eq-eqb, eqb-true}
+use Rattle.std.proofs.Common.{◌≡◌, ℕ, ◌+◌, ◌≤◌, min, max, Bool, true, false, ◌&&◌, ◌||◌, eqb, ltb, sym, refl, true≢false, arith, ltb-false, ltb-true, lt-ltb, eq-eqb, eqb-true}
 use Rattle.ground.proofs.Truth.{both}
 use Rattle.triangle.specs.declared.Corners.{Corners}
 use Rattle.triangle.specs.declared.Edge.{Edge}

@@ -7,9 +7,9 @@ use Rattle.picture.specs.declared.Vertex.{Vertex}
 use Rattle.triangle.specs.declared.Corners.{Corners}
 use Rattle.triangle.specs.Edge.{plus_of, minus_of, edge_at, closed, inside, passes_edge, covers, amount, area_of}
 use Rattle.triangle.specs.Number.{mass_of, mixed, shade}
-use Rattle.triangle.specs.Integers.{expression, is_positive, is_zero, doubled_area, weighted, Rounded}
-use Rattle.triangle.specs.Loops.{edges_at, Turned}
-use Rattle.triangle.proofs.Covers.{Within, covered_within}
+use Rattle.triangle.specs.Integers.{expression, is_positive, is_zero, doubled_area, Rounded}
+use Rattle.triangle.specs.Loops.{Turned}
+use Rattle.triangle.proofs.Covers.{covered_within}
 
 -- z = p − m
 abbrev Gap : ℤ → ℕ → ℕ → Type 0

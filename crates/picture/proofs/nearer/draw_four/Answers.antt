@@ -1,6 +1,6 @@
 -- `nearer::draw_four` meets its contract. The invariant of its loop: j pixels are drawn, and the carried numbers are those of pixel j.
 -- The measure is the number of pixels left. Assumes nothing.
-use Rattle.std.proofs.Common.{◌-◌, refl, arith}
+use Rattle.std.proofs.Common.{refl, arith}
 use Rattle.picture.proofs.Loops.{running_start, running_more}
 use Rattle.picture.proofs.nearer.draw_four.Goals as goal
 

@@ -1,7 +1,6 @@
 -- `nearer::draw_tiled` meets its contract. The invariant of its loop: the pixels before column x are drawn, and the carried numbers are those
 -- of column x. The measure is the number of columns left. Assumes nothing.
 use Rattle.std.proofs.Common.{◌≡◌, ◌+◌, ◌-◌, ◌%◌, eqb, leb, arith, eqb-true, leb-true}
-use Rattle.picture.specs.Loops.{along_tiles}
 use Rattle.ground.proofs.Truth.{both}
 use Rattle.picture.proofs.Loops.{running_start, running_more, running_four}
 use Rattle.picture.proofs.nearer.draw_tiled.Goals as goal

@@ -1,5 +1,5 @@
 -- `nearer::own_run` meets its contract. Assumes nothing.
-use Rattle.std.proofs.Common.{ℕ, ◌-◌, sym, refl, subst, arith}
+use Rattle.std.proofs.Common.{ℕ, sym, refl, subst, arith}
 use Rattle.picture.specs.Loops.{Shares}
 use Rattle.picture.proofs.Strides.{shares_of}
 use Rattle.picture.proofs.Runs.{own_beside, none_beside}

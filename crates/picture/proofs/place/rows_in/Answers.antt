@@ -1,5 +1,5 @@
 -- `place::rows_in` meets its contract. Assumes nothing.
-use Rattle.std.proofs.Common.{true, sym, ◌∙◌, arith}
+use Rattle.std.proofs.Common.{sym, ◌∙◌, arith}
 use Rattle.picture.specs.Place.{layout_of}
 use Rattle.picture.proofs.Layouts.{width_some}
 use Rattle.picture.proofs.Places.{rows_tiled, rows_width}

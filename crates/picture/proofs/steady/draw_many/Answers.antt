@@ -1,7 +1,7 @@
 -- `steady::draw_many` meets its contract. The invariant of its loop: the pixels before pixel k are drawn, or all, and the eight counts sum up to how many
 -- passed. Those that the last eight have in common with the eight before them are drawn again, which changes nothing. The measure is the number of
 -- pixels left. Assumes nothing.
-use Rattle.std.proofs.Common.{◌≡◌, ◌+◌, ◌-◌, min, arith}
+use Rattle.std.proofs.Common.{◌≡◌, ◌+◌, min, arith}
 use Rattle.picture.proofs.Runs.{ran_start, ran_i, ran_z}
 use Rattle.picture.proofs.Eights.{ran_passed, ran_eight}
 use Rattle.picture.proofs.steady.draw_many.Goals as goal

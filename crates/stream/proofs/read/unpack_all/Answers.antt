@@ -1,7 +1,7 @@
 -- `read::unpack_all` meets its contract. The invariant of its loop: the first 2 j words stand at the front of `out`, and its length is kept.
 -- The measure is the number of pairs left. Assumes nothing.
 use mathlib.Core.Path.{◌∙◌}
-use Prim.Native.Nat.{◌-◌, ◌*◌}
+use Prim.Native.Nat.{◌*◌}
 use native.Mathlib.Omega.{arith}
 use Rattle.stream.specs.Format.{unpack_of}
 use Rattle.stream.proofs.Stream.{length_unpack}

@@ -1,7 +1,6 @@
 -- `write::all_fit` meets its contract. The invariant of its loop: all words fit just where the bits set so far are few enough and the words
 -- from i on fit. The measure is the number of words left. Assumes nothing.
 use mathlib.Core.Path.{sym, ◌∙◌}
-use Prim.Native.Nat.{◌-◌}
 use native.Mathlib.Omega.{arith}
 use Rattle.stream.proofs.Bits.{fit_past, fit_end}
 use Rattle.stream.proofs.write.all_fit.Goals as goal

@@ -1,7 +1,7 @@
 -- `write::pack_groups` meets its contract. The invariant of its loop: the first 10 j bytes stand at the front of `out`, and its length is kept.
 -- The measure is the number of groups left. Assumes nothing.
 use mathlib.Core.Path.{◌≡◌, ap, ◌∙◌}
-use Prim.Native.Nat.{ℕ, ◌-◌, ◌*◌, ◌/◌}
+use Prim.Native.Nat.{ℕ, ◌*◌, ◌/◌}
 use native.Mathlib.Omega.{arith}
 use lib.ListN.{length}
 use Rattle.stream.specs.Format.{pack_of}

@@ -1,6 +1,6 @@
 -- `draw::divided_row` meets its contract. The invariant of its loop: the pixels below x are drawn. The measure is the number of columns left.
 -- Assumes nothing.
-use Rattle.std.proofs.Common.{ℕ, ◌-◌, false, length, ◌∙◌, ap₂, le_refl, arith}
+use Rattle.std.proofs.Common.{ℕ, false, length, ◌∙◌, ap₂, le_refl, arith}
 use Rattle.picture.specs.Place.{rows_of}
 use Rattle.picture.specs.Picture.{picture, drawn}
 use Rattle.triangle.specs.Offers.{pixel_offers}

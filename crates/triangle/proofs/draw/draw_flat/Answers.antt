@@ -1,6 +1,6 @@
 -- `draw::draw_flat` meets its contract. Its loop keeps that the rows below y are drawn, and which edges bound row y. The measure is the number of rows left.
 -- Assumes nothing.
-use Rattle.std.proofs.Common.{◌-◌, ◌≤◌, true, length, arith}
+use Rattle.std.proofs.Common.{◌≤◌, true, length, arith}
 use Rattle.triangle.specs.Loops.{Ranges}
 use Rattle.triangle.proofs.Going.{going_start, going_more, going_count, going_end}
 use Rattle.triangle.proofs.draw.draw_flat.Goals as goal

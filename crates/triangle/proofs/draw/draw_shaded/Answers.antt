@@ -1,6 +1,6 @@
 -- `draw::draw_shaded` meets its contract. Its loop keeps that the rows below y are drawn, and that what is carried from row to row is that of row y. The measure
 -- is the number of rows left. Assumes nothing.
-use Rattle.std.proofs.Common.{◌-◌, ◌≤◌, length, arith}
+use Rattle.std.proofs.Common.{◌≤◌, length, arith}
 use Rattle.triangle.specs.Loops.{Ranges}
 use Rattle.triangle.proofs.Going.{going_start, going_more, going_count, going_end}
 use Rattle.triangle.proofs.draw.draw_shaded.Goals as goal
