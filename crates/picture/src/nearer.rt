@@ -140,6 +140,33 @@ fn draw_tiled(
     passed
 }
 
+// The same, and the loop is compiled once more for numbers to which nothing is added.
+fn draw_tiles(
+    base: usize,
+    lo: u16,
+    hi: u16,
+    i: Carried,
+    z: Carried,
+    im: &mut [u16],
+    zm: &mut [u16],
+) -> u64
+    requires { FitsTiles base lo hi (length im.old) (length zm.old) }
+    ensures { Runs (λ j. base + along_tiles (lo + j)) i z (hi - lo) im zm 0 result }
+{
+    if (i.add == 0) & (z.add == 0) {
+        let steady_i = Carried {
+            first: i.first,
+            add: 0,
+        };
+        let steady_z = Carried {
+            first: z.first,
+            add: 0,
+        };
+        return draw_tiled(base, lo, hi, steady_i, steady_z, im, zm);
+    }
+    draw_tiled(base, lo, hi, i, z, im, zm)
+}
+
 // What a unit of a board has of a row from column lo up to and without hi: each of two or four columns, which lie side by side.
 pub(crate) fn own_run(frame: Frame, lo: u16, hi: u16, y: u16, i: Carried, z: Carried) -> Run
     requires { (lo < hi) × (hi ≤ frame.line) × (lies_plain frame ≡ false) × (lies_tiled frame ≡ false) }
@@ -202,7 +229,7 @@ fn draw_row(
 {
     if lies_tiled(frame) {
         let base = place(frame, 0, y);
-        return draw_tiled(base, lo, hi, i, z, im, zm);
+        return draw_tiles(base, lo, hi, i, z, im, zm);
     }
     let run = run_of(frame, lo, hi, y, i, z);
     draw_beside(run, im, zm)

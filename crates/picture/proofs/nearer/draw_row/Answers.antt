@@ -5,8 +5,8 @@ use Rattle.picture.specs.Picture.{picture}
 use Rattle.picture.proofs.Runs.{tiled_run, tiled_fits}
 use Rattle.picture.proofs.nearer.draw_row.Goals as goal
 
-pub draw_tiled-requires : goal.draw_tiled-requires
-draw_tiled-requires c =
+pub draw_tiles-requires : goal.draw_tiles-requires
+draw_tiles-requires c =
     let a = c.args in
     let lies = sym c.lies_tiled.ensures ∙ c.if-lies_tiled.true in
     let base = c.place-base.ensures in
@@ -17,6 +17,6 @@ pub returns-then-lies_tiled : goal.returns-then-lies_tiled
 returns-then-lies_tiled c =
     let a = c.args in
     let lies = sym c.lies_tiled.ensures ∙ c.if-lies_tiled.true in
-    c.draw_tiled.ensures
+    c.draw_tiles.ensures
     ∙ tiled_run a.frame a.lo a.hi a.y a.i a.z c.requires.0 c.requires.1 lies c.place-base.ensures.0
     (rows_of a.frame (length a.im.now) (length a.zm.now)) c.requires.2 (picture a.im.now a.zm.now 0)
