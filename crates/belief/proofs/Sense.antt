@@ -1,4 +1,4 @@
--- What `least`, `earliest`, `lastLine` and `intensity` mean, in the order's own words: no depth offered is below the least; where a line offered
+-- What `least`, `earliest`, `last_line` and `intensity` mean, in the order's own words: no depth offered is below the least; where a line offered
 -- it, the last such line gives the intensity; where none did and it is below the starting depth, one of the offers has it, the earliest of
 -- which gives the intensity. Assumes nothing.
 use mathlib.Core.Path.{◌≡◌, refl, sym, ap, ◌∙◌, subst}

@@ -1,6 +1,6 @@
 -- Why the pattern runs on: the words of a line complete its segments, each in the style that the steps before it leave, and other words touch
 -- neither the line nor the picture. By induction on the words; after the one that closes the line, none completes a segment. Assumes nothing.
-use Rattle.std.proofs.Common.{◌≡◌, ℕ, zero, suc, ◌+◌, ◌≤◌, Bool, true, false, cond, not, eqb, leb, ◌≢◌, ◌⊎◌, List, [], ◌∷◌, ◌++◌, refl, ap, ◌∙◌, ap₂, inl, inr, ⊎_elim, arith, eq-eqb, ne_eqb, leb-true}
+use Rattle.std.proofs.Common.{◌≡◌, ℕ, zero, suc, ◌≤◌, Bool, true, false, cond, not, eqb, leb, ◌≢◌, ◌⊎◌, List, [], ◌∷◌, ◌++◌, refl, ap, ◌∙◌, ap₂, inl, inr, ⊎_elim, arith, eq-eqb, ne_eqb, leb-true}
 use mathlib.Core.Bool.{false≢true}
 use borrow.Author.Tests.{not-true}
 use Rattle.picture.specs.Place.{rows_of}

@@ -233,7 +233,7 @@ module _ (r : Registers) (h : in_bounds r ≡ true) where
   pub line_low : r.frame.line ≤ longest_line
   line_low = leb-true _ _ (both (leb shortest_line r.frame.line) (leb r.frame.line longest_line) line_parts.0).1
 
-  -- a record within its bounds has a line length that is a multiple of `lineUnit`
+  -- a record within its bounds has a line length that is a multiple of `line_unit`
   pub line_whole : r.frame.line % line_unit ≡ 0
   line_whole = eqb-true _ _ line_parts.1
 
@@ -246,7 +246,7 @@ whole_counts rows r (Triangle a b c) p near h k =
     omega (arith, triangle_counts (pen_of r) rows (is_constant r) a b c p, mul-le-mul {n₁ = rows} {m₁ = r.frame.line} {n₂ = most_rows} {m₂ = longest_line} h k)
 whole_counts rows r (Segment a b) p near h k = omega (arith, segment_counts (pen_of r) rows (style_of r) a b p, larger_low a b near.0 near.1)
 
--- within the limits of coordinates, rows and line length a completed figure adds at most `mostRows` times `longestLine` to the count
+-- within the limits of coordinates, rows and line length a completed figure adds at most `most_rows` times `longest_line` to the count
 pub figure_counts : (rows : ℕ) (r : Registers) (f : Completed) (p : Picture) → AllVertices Near f → rows ≤ most_rows → r.frame.line ≤ longest_line
     → (drawn (pen_of r) (figure_offers rows r f) p).passed ≤ p.passed + most_rows * longest_line
 unfolding figure_offers

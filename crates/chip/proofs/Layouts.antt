@@ -1,12 +1,11 @@
 -- A word in another layout (document 02, [8] and [9]): where as many rows are in use it offers, and stores, what it does over rows, of the columns that
 -- the layout has. Assumes nothing.
-use Rattle.std.proofs.Common.{◌≡◌, ℕ, ◌+◌, Bool, true, false, cond, not, ◌&&◌, ◌||◌, ltb, List, [], ◌∷◌, sym, refl, ap, ◌∙◌, ap₂, true≢false}
+use Rattle.std.proofs.Common.{◌≡◌, ℕ, ◌+◌, Bool, true, false, cond, ◌&&◌, ltb, List, [], ◌∷◌, sym, refl, ap, ◌∙◌, ap₂, true≢false}
 use Rattle.picture.specs.declared.Kind.{Kind}
 use Rattle.picture.specs.declared.Vertex.{Vertex}
 use Rattle.picture.specs.Place.{Layout, frame_of, layout_of, mine, in_memory}
 use Rattle.picture.specs.Offer.{Offer, offer, lets_through, in_window, shows, offered, keep}
 use Rattle.picture.specs.Picture.{passes, new_i, new_z}
-use Rattle.picture.specs.Draw.{spans}
 use Rattle.picture.specs.Cell.{offer_leaves as cell_after}
 use Rattle.picture.specs.Store.{Store, stored_i, stored_z, storable, after_store}
 use Rattle.picture.proofs.Places.{plain_mine}

@@ -1,5 +1,5 @@
 -- A pixel stored and one read, from the promises of the calls that do it. Assumes nothing.
-use Rattle.std.proofs.Common.{◌≡◌, ℕ, Bool, ◌≢◌, List, length, sym, refl, ◌∙◌, subst, eq-eqb, ne_eqb}
+use Rattle.std.proofs.Common.{◌≡◌, ℕ, Bool, ◌≢◌, List, length, subst, eq-eqb, ne_eqb}
 use Rattle.picture.specs.declared.Pen.{Pen}
 use Rattle.picture.specs.Place.{rows_of}
 use Rattle.picture.specs.Picture.{picture}

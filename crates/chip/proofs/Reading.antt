@@ -1,5 +1,5 @@
 -- The read call: what it tells and leaves, and the bounds that words and reads keep. Assumes nothing.
-use Rattle.std.proofs.Common.{◌≡◌, ℕ, ◌≤◌, true, ◌≢◌, List, [], ◌∷◌, length, sym, refl, ap, ◌∙◌, subst, eq-eqb, ne_eqb}
+use Rattle.std.proofs.Common.{◌≡◌, ℕ, ◌≤◌, true, ◌≢◌, List, [], ◌∷◌, length, sym, ap, ◌∙◌, subst, eq-eqb, ne_eqb}
 use mathlib.Core.List.{foldl}
 use Rattle.registers.specs.declared.Registers.{Registers}
 use Rattle.registers.specs.Record.{reset_as}

@@ -1,6 +1,6 @@
 -- What the chip promises to boards (document 02, [8]) is kept. Of one, two or four units each has its columns, and place p of the one chip is place p div N
 -- of unit p mod N, whatever the line length; so what a word offers the one chip is dealt out to the units. Assumes nothing.
-use Rattle.std.proofs.Common.{◌≡◌, ℕ, zero, suc, ◌+◌, ◌*◌, ◌/◌, ◌%◌, ◌<◌, ◌≤◌, Bool, true, false, cond, eqb, ◌≢◌, ◌⊎◌, List, [], ◌∷◌, length, sym, refl, ap, ◌∙◌, subst, ap₂, inl, inr, add_assoc, mod-lt, mul_assoc, add-mul, div-add-mod', arith, eq-eqb}
+use Rattle.std.proofs.Common.{◌≡◌, ℕ, zero, suc, ◌+◌, ◌*◌, ◌/◌, ◌%◌, ◌<◌, ◌≤◌, Bool, true, false, eqb, ◌≢◌, List, [], length, sym, refl, ap, ◌∙◌, subst, ap₂, inl, inr, add_assoc, mod-lt, mul_assoc, add-mul, div-add-mod', arith, eq-eqb}
 use mathlib.Core.List.Memᴰ
 use mathlib.Core.List.{Memᴰ}
 use lib.Arith.{digits_div, digits_mod}
@@ -11,7 +11,7 @@ use Rattle.picture.specs.Offer.{Offer}
 use Rattle.picture.specs.Picture.{Picture, picture, drawn}
 use Rattle.picture.specs.Cell.{cell_at}
 use Rattle.picture.specs.Store.{Store, filled}
-use Rattle.picture.proofs.Places.{inside_parts, inside_of, plain_mine, place_plain, place_below}
+use Rattle.picture.proofs.Places.{inside_parts, inside_of, place_plain, place_below}
 use Rattle.picture.proofs.Fold.{drawn_i, drawn_z}
 use Rattle.picture.proofs.Stores.{filled_i, filled_z, filled_passed}
 use Rattle.registers.specs.declared.Registers.{Registers}
@@ -25,7 +25,7 @@ use Rattle.refusals.proofs.Refusals.{accepted_when}
 use Rattle.registers.proofs.Layouts.{after_laid}
 use Rattle.refusals.proofs.Layouts.{number_laid, number_even}
 use Rattle.machine.specs.Run.{Outcome}
-use Rattle.machine.specs.Machine.{Memories, memories, Even, rows_in, drawing, accepted, refused, number_of, step_of}
+use Rattle.machine.specs.Machine.{Memories, memories, Even, rows_in, accepted, refused, number_of}
 use Rattle.machine.specs.Touched.{cell_in}
 use Rattle.machine.specs.Shares.{held_by, stores_held_by, sum_of, ReadTogether}
 use Rattle.machine.proofs.Runs.{zero_or_not}

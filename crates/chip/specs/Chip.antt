@@ -1,6 +1,6 @@
 -- The chip: a machine whose words, registers and refusals are those of `registers`, and which offers what triangles and segments offer
 -- and stores the pixels of pictures.
-use Rattle.std.specs.Prelude.{ℕ, ◌+◌, ◌*◌, Bool, false, cond, ◌&&◌, List, [], ◌∷◌, ◌==◌, nat_lt}
+use Rattle.std.specs.Prelude.{ℕ, ◌+◌, ◌*◌, Bool, false, cond, ◌&&◌, List, [], ◌==◌, nat_lt}
 use Rattle.picture.specs.Offer.{Offer}
 use Rattle.picture.specs.Store.{Store, pixel_for, storable}
 use Rattle.triangle.specs.Offers.{triangle_offers}

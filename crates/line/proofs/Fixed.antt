@@ -1,7 +1,7 @@
 -- Why what is carried along a segment tells its numbers. With V what is carried but for the half, V times n is 2 ^ 48 times the sum
 -- (n−k)·first + k·second, and less than n more for each step, since what a step adds is rounded up: far less than 2 ^ 48, so that the quotient
 -- is the same. Assumes nothing.
-use Rattle.std.proofs.Common.{◌≡◌, ℕ, ◌+◌, ◌-◌, ◌*◌, ◌/◌, ◌%◌, ◌^◌, ◌<◌, ◌≤◌, sym, ap, ◌∙◌, mul-le-mul_right, mod-lt, mod-eq_of_lt, mul_assoc, mul_comm, div-lt_iff_lt-mul, add-mul, mul-le-mul, mul-le-mul_left, div-add-mod', mul-add, sub-add_cancel, mul_left_comm, arith, ne_eqb}
+use Rattle.std.proofs.Common.{◌≡◌, ℕ, ◌+◌, ◌-◌, ◌*◌, ◌/◌, ◌%◌, ◌<◌, ◌≤◌, sym, ap, ◌∙◌, mul-le-mul_right, mod-lt, mod-eq_of_lt, mul_assoc, mul_comm, div-lt_iff_lt-mul, add-mul, mul-le-mul, mul-le-mul_left, div-add-mod', mul-add, sub-add_cancel, mul_left_comm, arith, ne_eqb}
 use lib.Arith.{digits_mod}
 use Rattle.picture.specs.declared.Carried.{Carried}
 use Rattle.picture.specs.Draw.{carried_one, carried_to}

@@ -15,7 +15,7 @@ use Rattle.line.specs.declared.field.Field.{Field}
 use Rattle.line.specs.declared.slope.Slope.{Slope}
 use Rattle.line.specs.Segment.{distance, towards, larger, side_at, x_at, y_at}
 use Rattle.line.specs.Step.{slope_of, OnStep}
-use Rattle.line.specs.Field.{is_open, lies_whole, field_of, in_field, ends_within, AllOffered, is_bare}
+use Rattle.line.specs.Field.{is_open, lies_whole, field_of, in_field, AllOffered}
 use Rattle.line.proofs.Steps.{Lands, lands_level, lands_steep}
 
 -- ---- the box between two points

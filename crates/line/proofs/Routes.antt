@@ -1,6 +1,6 @@
 -- How a walk goes on along its route: what a way asks of a spot is whether its pixel is offered, and where it is, the place of the spot is the pixel's; a walk
 -- of several steps at once stands where the single steps would, and what it leaves out is none of the unit's. Assumes nothing.
-use Rattle.std.proofs.Common.{◌≡◌, ℕ, ◌+◌, ◌-◌, ◌*◌, ◌/◌, ◌%◌, ◌^◌, ◌<◌, ◌≤◌, Bool, true, false, cond, ◌&&◌, ◌||◌, eqb, ltb, ◌⊎◌, [], sym, refl, ap, ◌∙◌, ap₂, inl, inr, true≢false, add_assoc, arith, eqb-true}
+use Rattle.std.proofs.Common.{◌≡◌, ℕ, ◌+◌, ◌-◌, ◌*◌, ◌%◌, ◌^◌, ◌<◌, ◌≤◌, Bool, true, false, cond, ◌&&◌, ◌||◌, eqb, ltb, ◌⊎◌, [], sym, refl, ap, ◌∙◌, ap₂, inl, inr, true≢false, add_assoc, arith, eqb-true}
 use native.Mathlib.Nat.{mod-add-mod, add-mod-mod}
 use Rattle.picture.specs.declared.Frame.{Frame}
 use Rattle.picture.specs.declared.Pen.{Pen}

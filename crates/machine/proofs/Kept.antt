@@ -9,8 +9,6 @@ use Rattle.picture.specs.Picture.{picture}
 use Rattle.picture.proofs.Fold.{drawn_i, drawn_z}
 use Rattle.picture.proofs.Stores.{filled_i, filled_z, filled_leaves_i, filled_leaves_z}
 use mathlib.Core.Bool.{Bool, true, false, ◌&&◌}
-use Rattle.picture.specs.Store.{Store}
-use mathlib.Core.List.{Memᴰ}
 use Rattle.picture.proofs.Passed.{drawn_leaves_i, drawn_leaves_z, drawn_shallow}
 use Rattle.machine.specs.Run.{Outcome, Ran, run_from}
 use Rattle.machine.specs.Machine.{Machine, Memories, memories, rows_in, drawing, number_of, step_of}

@@ -24,7 +24,7 @@ use Rattle.machine.specs.Run.{Ran, ran, run_from}
 use Rattle.machine.specs.Machine.{Machine, Memories, rows_in, number_of, step_of}
 use Rattle.machine.specs.Touched.{cell_in}
 use Rattle.machine.specs.Promises.{StaysInside}
-use Rattle.machine.specs.Offers.{state, all_of, next_in, offers_in, offers_there, stores_in, stores_there, cell_by, registers_in, offers_at, cell_after, taken_of, each_in}
+use Rattle.machine.specs.Offers.{state, all_of, next_in, offers_in, offers_there, stores_in, cell_by, registers_in, offers_at, cell_after, taken_of, each_in}
 use Rattle.machine.proofs.Runs.{zero_or_not, stays, advance_accepted, advance_refused}
 use Rattle.machine.proofs.Steps.{step_either, step_number}
 use Rattle.machine.proofs.Kept.{step_length_i, step_length_z}

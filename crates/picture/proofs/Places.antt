@@ -49,12 +49,12 @@ module _ (frame : Frame) (ni nz : ℕ) where
   unfolding rows_of
   rows_none e = rw e
 
-  -- where the line length suits the layout, the rows in use are those that the shorter memory holds, at most `mostRows`
+  -- where the line length suits the layout, the rows in use are those that the shorter memory holds, at most `most_rows`
   pub rows_some : is_whole (layout_of frame) frame.line ≡ true → rows_of frame ni nz ≡ min (rows_in (layout_of frame) frame.line (min ni nz)) most_rows
   unfolding rows_of
   rows_some e = rw e
 
-  -- no more than `mostRows` rows are in use
+  -- no more than `most_rows` rows are in use
   pub rows_low : rows_of frame ni nz ≤ most_rows
   unfolding rows_of
   rows_low = go (is_whole (layout_of frame) frame.line)
@@ -73,14 +73,14 @@ module _ (frame : Frame) (ni nz : ℕ) where
 
   -- a row is in use where it is one of the first so many and its band ends inside both memories
   module _ (y : ℕ) (whole : is_whole (layout_of frame) frame.line ≡ true) where
-    -- a row in use is one of the first `mostRows`, and its band ends inside both memories
+    -- a row in use is one of the first `most_rows`, and its band ends inside both memories
     pub row_ends : y < rows_of frame ni nz → (y < most_rows) × (band_end (layout_of frame) y * width_of (layout_of frame) frame.line ≤ ni) × (band_end (layout_of frame) y * width_of (layout_of frame) frame.line ≤ nz)
     row_ends h =
         let k : y < min (rows_in (layout_of frame) frame.line (min ni nz)) most_rows = rw (rows_some whole) at h in
         let m = rows_end (layout_of frame) frame.line (min ni nz) y whole (omega (arith, k)) in
         (omega (arith, k), omega (arith, m), omega (arith, m))
 
-    -- one of the first `mostRows` rows whose band ends inside both memories is in use
+    -- one of the first `most_rows` rows whose band ends inside both memories is in use
     pub row_in : y < most_rows → band_end (layout_of frame) y * width_of (layout_of frame) frame.line ≤ ni → band_end (layout_of frame) y * width_of (layout_of frame) frame.line ≤ nz → y < rows_of frame ni nz
     row_in h a b =
         let m = rows_hold (layout_of frame) frame.line (min ni nz) y whole (omega (arith, a, b)) in

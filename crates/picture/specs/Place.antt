@@ -62,7 +62,7 @@ rows_in plain line n = n / line
 rows_in tiled line n = n / (4 * line) * 4
 rows_in (share ways unit) line n = n / (line / ways)
 
--- the rows in use of memories of two lengths: those that fit both, at most `mostRows`, and none where the line length does not suit the layout
+-- the rows in use of memories of two lengths: those that fit both, at most `most_rows`, and none where the line length does not suit the layout
 unfoldable pub rows_of : Frame → ℕ → ℕ → ℕ
 rows_of frame ni nz = cond (is_whole (layout_of frame) frame.line) (min (rows_in (layout_of frame) frame.line (min ni nz)) most_rows) 0
 

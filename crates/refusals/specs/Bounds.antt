@@ -19,7 +19,7 @@ use Rattle.refusals.specs.Allowed.{is_coordinate, is_border, parameter_allowed}
 abbrev pub largest_layout : ℕ
 largest_layout = 7
 
--- the line length is a multiple of `lineUnit` from the shortest to the longest that are listed, and the layout rows, tiles, or what a unit of a board of two or of four has
+-- the line length is a multiple of `line_unit` from the shortest to the longest that are listed, and the layout rows, tiles, or what a unit of a board of two or of four has
 unfoldable pub frame_fits : Frame → Bool
 frame_fits f = leb shortest_line f.line && leb f.line longest_line && eqb (f.line % line_unit) 0 && leb f.layout largest_layout
 

@@ -1,5 +1,5 @@
 // Shows the picture of a recording: reads a packed stream from standard input, draws it, and writes one of the two memories as an image.
-// What the arguments ask for is `asked_of` (specs/Arguments.antt), and the image is `image` (report's specs/Image.antt) or, in levels, `levelImage`
+// What the arguments ask for is `asked_of` (specs/Arguments.antt), and the image is `image` (report's specs/Image.antt) or, in levels, `level_image`
 // (specs/Levels.antt there). What keeps it from being written, and what it misses, the program says on standard error.
 #![tactic(auto)]
 

@@ -1,5 +1,5 @@
 // Traces a recording: reads a packed stream from standard input and prints a line a word with what the machine made of it, to the first that is
-// refused (`traceOf`, of tracing's specs/Trace.antt). With two arguments, the words alone that have a pixel at (X, Y) (`watchOf`, specs/Watch.antt).
+// refused (`trace_of`, of tracing's specs/Trace.antt). With two arguments, the words alone that have a pixel at (X, Y) (`watch_of`, specs/Watch.antt).
 // What the arguments ask for is `asked_of` (specs/Arguments.antt).
 #![tactic(auto)]
 

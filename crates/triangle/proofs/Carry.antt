@@ -1,5 +1,5 @@
 -- Numbers carried along a row as 2 ^ 48 times themselves and a part: by a factor f near 2 ^ 48 / 2 D where the triangle is small, by a
--- quotient rounded up where it is not. One law, picture's `near-told`, says that both tell the number. Assumes nothing.
+-- quotient rounded up where it is not. One law, picture's `near_told`, says that both tell the number. Assumes nothing.
 use Rattle.picture.specs.Draw.{carried_one}
 use Rattle.std.proofs.Common.{◌≡◌, ℕ, zero, suc, ◌+◌, ◌-◌, ◌*◌, ◌/◌, ◌%◌, ◌^◌, ◌<◌, ◌≤◌, min, Bool, true, false, sym, refl, ap, ◌∙◌, le_of_suc-le-suc, add-zero, mul-le-mul_right, mod-lt, mod-eq_of_lt, mul_assoc, suc-mul, mul_comm, div-lt_iff_lt-mul, add-mul, mul-le-mul, lt_of_mul-lt-mul_right, mul-le-mul_left, div-add-mod', zero-mul, mul-add, le_of_mul-le-mul_right, mul_left_comm, add-one, arith}
 use native.Mathlib.Nat.{lt-div-mul-add, mul-div-le}

@@ -1,6 +1,6 @@
 -- `run::run_words` meets its contract. Its loop keeps that the whole run is the run of the words that are left, from where k words came to, and that
 -- the record breaks no bound. Assumes nothing.
-use Rattle.std.proofs.Common.{◌-◌, true, ◌∙◌, arith}
+use Rattle.std.proofs.Common.{◌∙◌, arith}
 use Rattle.chip.proofs.Streams.{reached_more, reached_kept, reached_halt}
 use Rattle.chip.proofs.run.run_words.Goals as goal
 

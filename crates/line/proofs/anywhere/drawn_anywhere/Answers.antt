@@ -1,7 +1,6 @@
 -- `anywhere::drawn_anywhere` meets its contract. The invariant of its loop: the steps below that where the walk stands are drawn. The measure
 -- is the steps that are left. Assumes nothing.
-use Rattle.std.proofs.Common.{◌-◌, refl, ap, ◌∙◌, arith}
-use Rattle.picture.specs.Picture.{is_deep}
+use Rattle.std.proofs.Common.{refl, ap, ◌∙◌, arith}
 use Rattle.line.specs.Segment.{first_of, segment_offers}
 use Rattle.line.specs.Ink.{joined_in}
 use Rattle.line.proofs.Loops.{first_low, walked_start, walked_reaches, walked_rows, walked_step, walked_end, before_first}

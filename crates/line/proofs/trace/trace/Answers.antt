@@ -1,6 +1,6 @@
 -- `trace::trace` meets its contract. The invariant of its loop: the steps below that where the walk stands are drawn. The measure
 -- is the steps that are left. Assumes nothing.
-use Rattle.std.proofs.Common.{ℕ, ◌-◌, length, refl, ap, ◌∙◌, arith}
+use Rattle.std.proofs.Common.{ℕ, length, refl, ap, ◌∙◌, arith}
 use Rattle.line.specs.declared.walk.Walk.{Walk}
 use Rattle.line.specs.Route.{onward_of}
 use Rattle.line.specs.Segment.{segment_offers}
