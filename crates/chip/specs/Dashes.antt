@@ -34,7 +34,7 @@ leg_of rows r to =
     record {
       pen = pen_of r;
       rows = rows;
-      ground = (r.modes.lmode == 0);
+      backing = (r.modes.lmode == 0);
       pattern = (style_of r).pattern;
       foreground = r.dash.foreground;
       background = r.dash.background;

@@ -28,9 +28,9 @@ from_has P first f k p q = go (ltb k first)
 
 module _ (pen : Pen) (rows : ℕ) (style : Style) (a b : Vertex) where
   module _ (n : ℕ) (first : Numbers n a) (second : Numbers n b) (fore : style.foreground ≤ n) (back : style.background ≤ n) where
-    dash_member : (kind : Kind) (ground : Bool) (k : ℕ) (o : Offer) → Memᴰ o (dash_offers pen rows kind ground style a b k) → Member pen rows kind n o
+    dash_member : (kind : Kind) (backing : Bool) (k : ℕ) (o : Offer) → Memᴰ o (dash_offers pen rows kind backing style a b k) → Member pen rows kind n o
     unfolding dash_offers
-    dash_member kind ground k o = go (is_set style k) ground
+    dash_member kind backing k o = go (is_set style k) backing
       where
         inked : (colour : ℕ) → colour ≤ n → Memᴰ o (keep pen rows (offer kind (x_at a b k) (y_at a b k) colour 0)) → Member pen rows kind n o
         inked colour h = every_kept (Member pen rows kind n) pen rows _ (λ e. record { of_kind = refl; is_offered = e; i = h; z = zero-le }) o
@@ -70,9 +70,9 @@ module _ (pen : Pen) (rows : ℕ) (style : Style) (a b : Vertex) where
 
   -- ---- how many pass
 
-  dash_length : (kind : Kind) (ground : Bool) (k : ℕ) → length (dash_offers pen rows kind ground style a b k) ≤ 1
+  dash_length : (kind : Kind) (backing : Bool) (k : ℕ) → length (dash_offers pen rows kind backing style a b k) ≤ 1
   unfolding dash_offers
-  dash_length kind ground k = go (is_set style k) ground
+  dash_length kind backing k = go (is_set style k) backing
     where
       go : (t g : Bool)
           → length

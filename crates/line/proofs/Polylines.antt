@@ -29,10 +29,10 @@ rest_steps f n =
 module _ (leg : Leg) (before : ℕ) (joined : Bool) (a : Vertex) where
   -- its steps, where the line has made so many before
   abbrev dashes : ℕ → List Offer
-  dashes = dash_offers leg.pen leg.rows (leg_kind leg) leg.ground (styled leg before joined) a leg.to
+  dashes = dash_offers leg.pen leg.rows (leg_kind leg) leg.backing (styled leg before joined) a leg.to
 
   -- whether it has a ground or not, it offers them, but for its first where it is joined
-  leg_dashes : (g : Bool) → leg.ground ≡ g
+  leg_dashes : (g : Bool) → leg.backing ≡ g
       → segment_offers leg.pen leg.rows (styled leg before joined) a leg.to ≡ spans (from (first_of joined) dashes) (larger a leg.to + 1)
   unfolding segment_offers
   leg_dashes true e = rw e
@@ -87,7 +87,7 @@ line_on : (before : ℕ) (a : Vertex) (legs : List Leg) → segments_offers befo
 unfolding segments_offers steps_of first_of
 line_on before a [] = sym (spans_none _ (0 + 1) (λ k h. from_before 1 _ k h))
 line_on before a (leg ∷ legs) =
-    ap₂ (λ (p q : List Offer). p ++ q) (leg_dashes leg before true a leg.ground refl) (line_on ((before + larger a leg.to) % 32) leg.to legs)
+    ap₂ (λ (p q : List Offer). p ++ q) (leg_dashes leg before true a leg.backing refl) (line_on ((before + larger a leg.to) % 32) leg.to legs)
     ∙ line_more leg legs before true a
 
 -- a line from LX on uses bit 31 − (j mod 32) at its j-th step: before it there is no step, and its first leg is joined to none
@@ -95,7 +95,7 @@ pub line_whole : (a : Vertex) (legs : List Leg) → segments_offers 0 false a le
 unfolding segments_offers line_offers steps_of first_of bend_offers
 line_whole a [] = sym (spans_none _ (0 + 1) (λ k h. refl))
 line_whole a (leg ∷ legs) =
-    ap₂ (λ (p q : List Offer). p ++ q) (leg_dashes leg 0 false a leg.ground refl) (line_on ((0 + larger a leg.to) % 32) leg.to legs)
+    ap₂ (λ (p q : List Offer). p ++ q) (leg_dashes leg 0 false a leg.backing refl) (line_on ((0 + larger a leg.to) % 32) leg.to legs)
     ∙ line_more leg legs 0 false a
     ∙ spans_same _ _ (steps_of a (leg ∷ legs) + 1)
     (λ k h. from_on 0 (bends 0 a (leg ∷ legs)) k (omega arith) ∙ ap (λ (n : ℕ). bend_offers (pattern_at n) a (leg ∷ legs) k) (zero-add k))

@@ -155,7 +155,7 @@ pub record Low (a b : Vertex) : Type 0 where
   pub bx : b.x ≤ 65535
   pub by : b.y ≤ 65535
 
-module _ (pen : Pen) (ni nz : ℕ) (style : Style) (deep ground : Bool) (way : ℕ) (r : Route) (a b : Vertex) (h : Traces pen (rows_of pen.frame ni nz) style deep ground way r a b) where
+module _ (pen : Pen) (ni nz : ℕ) (style : Style) (deep backing : Bool) (way : ℕ) (r : Route) (a b : Vertex) (h : Traces pen (rows_of pen.frame ni nz) style deep backing way r a b) where
   abbrev rows_in_use : ℕ
   rows_in_use = rows_of pen.frame ni nz
 

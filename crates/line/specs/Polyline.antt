@@ -16,7 +16,7 @@ use Rattle.line.specs.Segment.{larger, x_at, y_at, pattern_at, segment_offers}
 pub record Leg : Type 0 where
   pub pen : Pen
   pub rows : ℕ
-  pub ground : Bool
+  pub backing : Bool
   pub pattern : ℕ
   pub foreground : ℕ
   pub background : ℕ
@@ -24,11 +24,11 @@ pub record Leg : Type 0 where
 
 -- its line mode, and the kind of its pixels
 abbrev pub leg_mode : Leg → Mode
-leg_mode leg = cond leg.ground Zero One
+leg_mode leg = cond leg.backing Zero One
 
 -- the kind of its pixels is that of lines of mode 0 where there is a ground, and of mode 1 where there is none
 abbrev pub leg_kind : Leg → Kind
-leg_kind leg = cond leg.ground Line0 Line1
+leg_kind leg = cond leg.backing Line0 Line1
 
 -- ---- a line as it is drawn, segment by segment
 
@@ -55,7 +55,7 @@ steps_of a (leg ∷ legs) = larger a leg.to + steps_of leg.to legs
 unfoldable pub dot_offers : Leg → ℕ → ℕ → ℕ → List Offer
 dot_offers leg bit x y =
     cond (has_bit leg.pattern bit) (keep leg.pen leg.rows (offer (leg_kind leg) x y leg.foreground 0))
-    (cond leg.ground (keep leg.pen leg.rows (offer (leg_kind leg) x y leg.background 0)) [])
+    (cond leg.backing (keep leg.pen leg.rows (offer (leg_kind leg) x y leg.background 0)) [])
 
 -- step j of the whole line, by a bit: a bend is the last step of one leg, and not counted again as the first of the next
 unfoldable pub bend_offers : ℕ → Vertex → List Leg → ℕ → List Offer

@@ -86,8 +86,8 @@ pub record Sets (pen : Pen) (rows : ℕ) (style : Style) (way : ℕ) (r : Route)
   pub begins : Begins style r p
 
 -- what the loop knows besides of its mode
-pub record Traces (pen : Pen) (rows : ℕ) (style : Style) (deep ground : Bool) (way : ℕ) (r : Route) (a b : Vertex) : Type 0 where
+pub record Traces (pen : Pen) (rows : ℕ) (style : Style) (deep backing : Bool) (way : ℕ) (r : Route) (a b : Vertex) : Type 0 where
   pub depths : deep ≡ is_deep (kind_of style.mode)
-  pub grounds : ground ≡ has_ground style.mode
+  pub grounds : backing ≡ has_ground style.mode
   pub goes : Goes pen rows style way a b
   pub route : OnRoute pen.frame rows way deep a b r

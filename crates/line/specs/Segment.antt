@@ -79,9 +79,9 @@ from first f k = cond (nat_lt k first) [] (f k)
 
 -- step k of a line with a pattern: foreground where the bit is set; elsewhere background if there is a ground, and nothing if not
 unfoldable pub dash_offers : Pen → ℕ → Kind → Bool → Style → Vertex → Vertex → ℕ → List Offer
-dash_offers pen rows kind ground style a b k =
+dash_offers pen rows kind backing style a b k =
     cond (is_set style k) (keep pen rows (offer kind (x_at a b k) (y_at a b k) style.foreground 0))
-    (cond ground (keep pen rows (offer kind (x_at a b k) (y_at a b k) style.background 0)) [])
+    (cond backing (keep pen rows (offer kind (x_at a b k) (y_at a b k) style.background 0)) [])
 
 -- step k of a line with numbers
 unfoldable pub shade_offers : Pen → ℕ → Vertex → Vertex → ℕ → List Offer

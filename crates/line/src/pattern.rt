@@ -36,13 +36,13 @@ pub(crate) fn colour_of(style: Style, set: bool) -> u16
 }
 
 // What a step is drawn with, where lines of the mode have depths or not, and a ground or not.
-pub(crate) fn ink_at(style: Style, deep: bool, ground: bool, p: Step) -> Ink
-    requires { (deep ≡ is_deep (kind_of style.mode)) × (ground ≡ has_ground style.mode) }
+pub(crate) fn ink_at(style: Style, deep: bool, backing: bool, p: Step) -> Ink
+    requires { (deep ≡ is_deep (kind_of style.mode)) × (backing ≡ has_ground style.mode) }
     ensures { result ≡ ink_of style style.mode (is_set style p.k) (p.i / carried_one) (p.z / carried_one) }
 {
     let set = is_set(style, p.k);
     let colour = colour_of(style, set);
-    let drawn = set | ground;
+    let drawn = set | backing;
     if deep {
         return Ink {
             drawn: true,

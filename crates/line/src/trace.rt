@@ -65,7 +65,7 @@ fn put_spot(
     pen: Pen,
     style: Style,
     deep: bool,
-    ground: bool,
+    backing: bool,
     way: u16,
     r: Route,
     a: Vertex,
@@ -74,12 +74,12 @@ fn put_spot(
     im: &mut [u16],
     zm: &mut [u16],
 ) -> u64
-    requires { Traces pen (rows_over pen.frame im zm) style deep ground way r a b × Reaches style deep r.slope a b p }
+    requires { Traces pen (rows_over pen.frame im zm) style deep backing way r a b × Reaches style deep r.slope a b p }
     ensures { (Draws pen (λ rows. step_offers pen rows style style.mode a b p.k) im zm 0 result) × (result ≤ 1) }
 {
     let at = spot_of(r, a, b, p);
     if is_here(pen, way, r, at) {
-        let ink = ink_at(style, deep, ground, p);
+        let ink = ink_at(style, deep, backing, p);
         if ink.drawn {
             let frame = pen.frame;
             let place = place_at(frame, way, r, at);
@@ -95,7 +95,7 @@ fn trace(
     pen: Pen,
     style: Style,
     deep: bool,
-    ground: bool,
+    backing: bool,
     way: u16,
     r: Route,
     a: Vertex,
@@ -104,7 +104,7 @@ fn trace(
     im: &mut [u16],
     zm: &mut [u16],
 ) -> u64
-    requires { Traces pen (rows_over pen.frame im zm) style deep ground way r a b × Begins style r first }
+    requires { Traces pen (rows_over pen.frame im zm) style deep backing way r a b × Begins style r first }
     ensures { Draws pen (λ rows. segment_offers pen rows style a b) im zm 0 result }
 {
     let n = r.slope.n as u64;
@@ -112,7 +112,7 @@ fn trace(
     let mut passed: u64 = 0;
     while p.k <= n {
         let at = spot_of(r, a, b, p);
-        passed += put_spot(pen, style, deep, ground, way, r, a, b, p, im, zm);
+        passed += put_spot(pen, style, deep, backing, way, r, a, b, p, im, zm);
         p = onward(way, r, at, p);
     }
     passed

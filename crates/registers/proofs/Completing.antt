@@ -9,7 +9,7 @@ use Rattle.registers.specs.declared.word.Coordinate.TheVariants.{I, Z, Y, X, T1x
 use Rattle.registers.specs.declared.shape.Shape.{Shape}
 use Rattle.registers.specs.declared.shape.Shape.TheVariants.{Closed, Strip, Fan, Line}
 use Rattle.registers.specs.declared.shape.Completed.{Completed}
-use Rattle.registers.specs.declared.shape.Completed.TheVariants.{Nothing as None, Triangle, Segment}
+use Rattle.registers.specs.declared.shape.Completed.TheVariants.{Nothing as NoFigure, Triangle, Segment}
 use Rattle.registers.specs.declared.Registers.{Registers}
 use Rattle.registers.specs.Figure.{shape_of, vertex_of, is_pair, completes, vertex_completes}
 use Rattle.registers.specs.Next.{coordinate_completes, completed_by}
@@ -18,7 +18,7 @@ use Rattle.ground.proofs.Truth.{either}
 -- ---- only X and PX complete
 
 -- P is so of every word with nothing completed, and of X and PX with what their vertex completes
-module _ (P : Word → (Registers → Completed) → Type 0) (none : (w : Word) → P w (λ r. None)) (x : (n : ℕ) → P (At X n) (λ r. vertex_completes r n)) (px : (n : ℕ) → P (At Px n) (λ r. vertex_completes r n)) where
+module _ (P : Word → (Registers → Completed) → Type 0) (none : (w : Word) → P w (λ r. NoFigure)) (x : (n : ℕ) → P (At X n) (λ r. vertex_completes r n)) (px : (n : ℕ) → P (At Px n) (λ r. vertex_completes r n)) where
   coordinate_completes_lem : (c : Coordinate) (n : ℕ) → P (At c n) (λ r. coordinate_completes r c n)
   unfolding coordinate_completes
   coordinate_completes_lem I n = none (At I n)
@@ -47,12 +47,12 @@ module _ (P : Word → (Registers → Completed) → Type 0) (none : (w : Word) 
 
 -- all vertices of a completed figure are such
 abbrev pub AllVertices : (Vertex → Type 0) → Completed → Type 0
-AllVertices P None = Unit {0}
+AllVertices P NoFigure = Unit {0}
 AllVertices P (Triangle a b c) = P a × P b × P c
 AllVertices P (Segment a b) = P a × P b
 
 module _ (P : Vertex → Type 0) (r : Registers) (first : P r.figure.first) (second : P r.figure.second) where
-  triangle_has : (v : Vertex) → P v → AllVertices P (cond (is_pair r.figure) (Triangle r.figure.first r.figure.second v) None)
+  triangle_has : (v : Vertex) → P v → AllVertices P (cond (is_pair r.figure) (Triangle r.figure.first r.figure.second v) NoFigure)
   triangle_has v h = either (AllVertices P) (is_pair r.figure) (λ t. (first, second, h)) (λ t. tt)
 
   completes_has : (shape : Shape) (inv : Bool) (v : Vertex) → P v → AllVertices P (completes shape inv r.figure v)

@@ -11,7 +11,7 @@ use Rattle.registers.specs.declared.subcommand.Subcommand.TheVariants.{Nothing, 
 use Rattle.registers.specs.declared.Parked.{Parked}
 use Rattle.registers.specs.declared.Registers.{Registers}
 use Rattle.registers.specs.declared.shape.Completed.{Completed}
-use Rattle.registers.specs.declared.shape.Completed.TheVariants.{Nothing as None}
+use Rattle.registers.specs.declared.shape.Completed.TheVariants.{Nothing as NoFigure}
 use Rattle.registers.specs.Record.{is_on, depth_bit, i_bit, z_bit, picture_bit, load_number, awaiting, nothing_awaited, opened, region_of, init_of}
 use Rattle.registers.specs.Record.{with_pmode, with_lmode, with_zcontrol, with_hcontrol, with_lstatus, with_transparency, with_planes, with_section}
 use Rattle.registers.specs.Record.{latch, window, dash, with_modes, with_window, with_dash, with_latch, with_figure, with_parked, with_region}
@@ -84,13 +84,13 @@ coordinate_of r Px n = with_figure r (figure_after r n)
 
 -- the figure that a coordinate completes
 unfoldable pub coordinate_completes : Registers → Coordinate → ℕ → Completed
-coordinate_completes r I n = None
-coordinate_completes r Z n = None
-coordinate_completes r Y n = None
+coordinate_completes r I n = NoFigure
+coordinate_completes r Z n = NoFigure
+coordinate_completes r Y n = NoFigure
 coordinate_completes r X n = vertex_completes r n
-coordinate_completes r T1x n = None
-coordinate_completes r T2x n = None
-coordinate_completes r Lx n = None
+coordinate_completes r T1x n = NoFigure
+coordinate_completes r T2x n = NoFigure
+coordinate_completes r Lx n = NoFigure
 coordinate_completes r Px n = vertex_completes r n
 
 -- ---- pictures
@@ -123,15 +123,15 @@ record_after r Unknown = r
 
 -- the figure that an accepted word completes
 unfoldable pub completed_by : Registers → Word → Completed
-completed_by r (Init d) = None
-completed_by r (Aux n) = None
-completed_by r (Parm v) = None
+completed_by r (Init d) = NoFigure
+completed_by r (Aux n) = NoFigure
+completed_by r (Parm v) = NoFigure
 completed_by r (At c n) = coordinate_completes r c n
-completed_by r (Img d) = None
-completed_by r (Ptrn v) = None
-completed_by r Reserved = None
-completed_by r Unmodelled = None
-completed_by r Unknown = None
+completed_by r (Img d) = NoFigure
+completed_by r (Ptrn v) = NoFigure
+completed_by r Reserved = NoFigure
+completed_by r Unmodelled = NoFigure
+completed_by r Unknown = NoFigure
 
 -- how figures are drawn, by the registers as they are when the completing word comes
 abbrev pub pen_of : Registers → Pen

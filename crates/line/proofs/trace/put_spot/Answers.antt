@@ -20,8 +20,8 @@ put_bare-requires c =
     let y = y_at a.a a.b a.p.k in
     let on = c.requires.1.walk.on in
     let low : Low a.a a.b = record { ax = omega (arith, c.well_formed); ay = omega (arith, c.well_formed); bx = omega (arith, c.well_formed); by = omega (arith, c.well_formed) } in
-    let offered = here_offered a.pen ni nz a.style a.deep a.ground a.way a.r a.a a.b c.requires.0 a.p.k on low c.spot_of-at.ensures c.is_here.ensures ∙ c.if-is_here.true in
-    let placed = here_placed a.pen ni nz a.style a.deep a.ground a.way a.r a.a a.b c.requires.0 a.p.k on low c.spot_of-at.ensures c.place_at-place.ensures in
+    let offered = here_offered a.pen ni nz a.style a.deep a.backing a.way a.r a.a a.b c.requires.0 a.p.k on low c.spot_of-at.ensures c.is_here.ensures ∙ c.if-is_here.true in
+    let placed = here_placed a.pen ni nz a.style a.deep a.backing a.way a.r a.a a.b c.requires.0 a.p.k on low c.spot_of-at.ensures c.place_at-place.ensures in
     let below = place_below a.pen.frame ni nz x y (offered_inside a.pen (rows_of a.pen.frame ni nz) (kind_of a.style.mode) x y offered) in
     (c.requires.0.depths, c.requires.0.goes.bare, omega (arith, placed, below.0), omega (arith, placed, below.1))
 
@@ -35,8 +35,8 @@ returns-then-ink c =
     let ink = c.ink_at-ink.result in
     let on = c.requires.1.walk.on in
     let low : Low a.a a.b = record { ax = omega (arith, c.well_formed); ay = omega (arith, c.well_formed); bx = omega (arith, c.well_formed); by = omega (arith, c.well_formed) } in
-    let offered = here_offered a.pen ni nz a.style a.deep a.ground a.way a.r a.a a.b c.requires.0 a.p.k on low c.spot_of-at.ensures c.is_here.ensures ∙ c.if-is_here.true in
-    let placed = here_placed a.pen ni nz a.style a.deep a.ground a.way a.r a.a a.b c.requires.0 a.p.k on low c.spot_of-at.ensures c.place_at-place.ensures in
+    let offered = here_offered a.pen ni nz a.style a.deep a.backing a.way a.r a.a a.b c.requires.0 a.p.k on low c.spot_of-at.ensures c.is_here.ensures ∙ c.if-is_here.true in
+    let placed = here_placed a.pen ni nz a.style a.deep a.backing a.way a.r a.a a.b c.requires.0 a.p.k on low c.spot_of-at.ensures c.place_at-place.ensures in
     put_step a.pen rows _ a.im.now a.zm.now
     (inked_step a.pen _ a.style a.a a.b a.r.slope a.p (step_pixel a.a a.b a.p.k) kind ink (rw c.requires.0.depths at c.requires.1) refl refl c.ink_at-ink.ensures c.if-ink.true)
     (keep_drawn a.pen rows kind (x_at a.a a.b a.p.k) (y_at a.a a.b a.p.k) ink.i ink.z _ _ offered
@@ -54,5 +54,5 @@ returns-else-is_here c =
     let ni = length a.im.now in
     let nz = length a.zm.now in
     let low : Low a.a a.b = record { ax = omega (arith, c.well_formed); ay = omega (arith, c.well_formed); bx = omega (arith, c.well_formed); by = omega (arith, c.well_formed) } in
-    let offered = here_offered a.pen ni nz a.style a.deep a.ground a.way a.r a.a a.b c.requires.0 a.p.k c.requires.1.walk.on low c.spot_of-at.ensures c.is_here.ensures ∙ c.if-is_here.false in
-    no_step a.pen a.im.now a.zm.now (not_here a.pen ni nz a.style a.deep a.ground a.way a.r a.a a.b c.requires.0 a.p.k offered)
+    let offered = here_offered a.pen ni nz a.style a.deep a.backing a.way a.r a.a a.b c.requires.0 a.p.k c.requires.1.walk.on low c.spot_of-at.ensures c.is_here.ensures ∙ c.if-is_here.false in
+    no_step a.pen a.im.now a.zm.now (not_here a.pen ni nz a.style a.deep a.backing a.way a.r a.a a.b c.requires.0 a.p.k offered)

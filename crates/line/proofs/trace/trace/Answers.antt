@@ -33,7 +33,7 @@ pub loop-p-smaller : goal.loop-p-smaller
 loop-p-smaller c =
     let a = c.args in
     let h = c.loop-p.invariant in
-    let g = goes_on a.pen (length a.im.now) (length a.zm.now) a.style a.deep a.ground a.way a.r a.a a.b c.requires.0 h.stands (walked_on h (omega (arith, c.loop-p-test.true))).on
+    let g = goes_on a.pen (length a.im.now) (length a.zm.now) a.style a.deep a.backing a.way a.r a.a a.b c.requires.0 h.stands (walked_on h (omega (arith, c.loop-p-test.true))).on
     (c.onward-p.ensures ∙ ap (λ (at : ℕ). onward_of a.way a.r at c.loop-p.p) c.spot_of-at.ensures) in
     omega (arith, g.further, c.loop-p-test.true)
 
@@ -42,7 +42,7 @@ loop-p-preserved c =
     let a = c.args in
     let h = c.loop-p.invariant in
     let d = c.put_spot-passed.ensures in
-    let g = goes_on a.pen (length a.im.now) (length a.zm.now) a.style a.deep a.ground a.way a.r a.a a.b c.requires.0 h.stands (walked_on h (omega (arith, c.loop-p-test.true))).on
+    let g = goes_on a.pen (length a.im.now) (length a.zm.now) a.style a.deep a.backing a.way a.r a.a a.b c.requires.0 h.stands (walked_on h (omega (arith, c.loop-p-test.true))).on
     (c.onward-p.ensures ∙ ap (λ (at : ℕ). onward_of a.way a.r at c.loop-p.p) c.spot_of-at.ensures) in
     walked_next h (omega (arith, c.loop-p-test.true)) d.0 d.1 g.stands g.further (λ k x y l. g.between k x y l)
 
