@@ -1,0 +1,19 @@
+-- `reach::reach_of` meets its contract: each kind of figure has its arm. Assumes nothing.
+use mathlib.Core.Path.{ap}
+use Prim.Native.Nat.{ℕ, ◌+◌}
+use Rattle.show.specs.Reach.{reach_of}
+use Rattle.show.proofs.reach.reach_of.Goals as goal
+
+pub returns-in-Nothing : goal.returns-in-Nothing
+unfolding reach_of
+returns-in-Nothing c = rw c.in-Nothing.is
+
+pub returns-in-Triangle : goal.returns-in-Triangle
+unfolding reach_of
+returns-in-Triangle c =
+    rw c.in-Triangle.is (rw c.most.ensures at c.most-in-Triangle.ensures)
+
+pub returns-in-Segment : goal.returns-in-Segment
+unfolding reach_of
+returns-in-Segment c =
+    rw c.in-Segment.is (ap (λ (n : ℕ). n + 1) c.most-in-Segment.ensures)
