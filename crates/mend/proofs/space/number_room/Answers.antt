@@ -3,12 +3,8 @@ use mathlib.Core.Path.{refl, sym}
 use Prim.Native.Nat.{ℕ}
 use lib.ListN.{length-replicate}
 use Rattle.console.specs.Room.{filled}
-use Rattle.mend.proofs.space.number_room.Statement.{statement}
-use Rattle.mend.proofs.space.number_room.Tie as tie
+use Rattle.mend.proofs.space.number_room.Goals as goal
 
-returns : tie.Need-returns
+pub returns : goal.returns
 unfolding filled
 returns c = record { same = refl; long = sym (length-replicate {A = ℕ} 419430 0) }
-
-pub number-room-spec : {M : Type 1} → statement M
-number-room-spec = tie.close (tie.spec returns)
