@@ -1,5 +1,6 @@
 // The files where the program stands, by their numbers. One that cannot be read is told on standard error.
-ghost use Rattle.std.specs.Prelude.{◌≡◌, length};
+ghost use Rattle.std.specs.Prelude.{◌≡◌, length, take};
+ghost use Rattle.std.specs.Str.{IsAscii};
 ghost use Rattle.overdraw.specs.Read.{found_of, Within};
 
 use crate::text::name_of;
@@ -50,11 +51,12 @@ fn opened(stderr: &impl Print, name: [u8; 6], taken: Taken) -> Found
     }
 }
 
-// The path of a file: the three digits of its name.
+// A file's path: the first three bytes of its name in six columns.
 fn path_of(name: &[u8; 6]) -> &str
-    requires { IsName name.now }
+    requires { IsAscii (take 3 name.now) }
 {
-    str::from_utf8(&name[..3]).unwrap()
+    let path = str::from_utf8(&name[..3]);
+    path.unwrap()
 }
 
 // Looks for the file with number k, and reads it until it ends or the buffer is full.
