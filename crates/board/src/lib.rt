@@ -1,5 +1,5 @@
 // A board of one, two or four units, over the promises of the chip: reset, one word, a read, and a packed stream. specs/ says what each call tells and
-// leaves. The calls are entries for C as they stand (include/dextolumen.h). Unit u of N has the columns whose remainder by N is u; it works on the board's
+// leaves. The calls are for C too (include/dextolumen.h), exported by `board_c`. Unit u of N has the columns whose remainder by N is u; it works on the board's
 // registers in a layout of its own, by which it knows its number.
 #![tactic(auto)]
 

@@ -1,5 +1,5 @@
 // Recordings in instalments: the bytes of a packed stream are taken as they come, and each word is run once its twenty bits are there.
-// specs/Instalments.antt says what each call tells and leaves. The calls are entries for C as they stand (include/dextolumen.h).
+// specs/Instalments.antt says what each call tells and leaves. The calls are for C too (include/dextolumen.h), exported by `instalments_c`.
 #![tactic(auto)]
 ghost use Rattle.std.specs.Prelude.{◌≡◌, ◌^◌, ◌<◌, true, false};
 ghost use Rattle.machine.specs.Machine.{memories};
