@@ -1,6 +1,7 @@
 // Recordings in instalments: the bytes of a packed stream are taken as they come, and each word is run once its twenty bits are there.
 // specs/Instalments.antt says what each call tells and leaves. The calls are for C too (include/dextolumen.h), exported by `instalments_c`.
 #![tactic(auto)]
+
 ghost use Rattle.std.specs.Prelude.{◌≡◌, ◌^◌, ◌<◌, true, false};
 ghost use Rattle.machine.specs.Machine.{memories};
 ghost use Rattle.instalments.specs.Instalments.{so_far, taking, fresh, answering, is_closed, is_word_number, is_end_number, number_fits, bits_fit, is_sound, word_in, bytes_in, feeding, end_number, ending};

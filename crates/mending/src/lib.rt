@@ -1,6 +1,7 @@
 // Mending damaged recordings: the whole words that are not refused make a good stream, and the others are listed. specs/Mend.antt says
 // what is kept, what is dropped, and what the call tells and leaves. The call is for C too (include/dextolumen.h), exported by `mending_c`.
 #![tactic(auto)]
+
 mod sort;
 
 ghost use Rattle.std.specs.Prelude.{◌≡◌};

@@ -1,5 +1,6 @@
 // The text of a run over a picture of the drawing program's size, for the programs that print it. specs/Printing.antt is the text.
 #![tactic(auto)]
+
 ghost use Rattle.std.specs.Prelude.{◌≤◌, length};
 ghost use Rattle.machine.specs.Machine.{memories};
 ghost use Rattle.machine.specs.Run.{ran};

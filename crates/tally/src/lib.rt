@@ -1,6 +1,7 @@
 // What recordings draw for nothing (document 02, [11]): their figures and pixels, counted by kind. specs/Hidden.antt says which pixels are hidden,
 // specs/Tally.antt what is counted, and specs/Overdraw.antt as what a word and a recording are counted.
 #![tactic(auto)]
+
 mod figure;
 mod recording;
 mod sums;

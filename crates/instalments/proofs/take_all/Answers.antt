@@ -30,7 +30,7 @@ loop-k-preserved-then-n-lt20 c =
     }
 
 pub run_word-next-requires : goal.run_word-next-requires
-run_word-next-requires c = 
+run_word-next-requires c =
     let h = c.loop-k.invariant.so_far_lem in
     record { refusal_value = h.goes; w_bound = front_fits _ _ c.if-n-lt20.false (byte_fits _ _ _ (c.shared_slice_known-1.given c.loop-k.k).fits h.fits) }
 

@@ -13,11 +13,14 @@ tried-a-requires c =
     omega (arith, c.word-w.ensures, word_fits c.args.bytes.now (c.loop-j.j + c.loop-j.d))
 
 pub put_waiting-requires : goal.put_waiting-requires
-put_waiting-requires c = 
+put_waiting-requires c =
     let i = c.loop-j.invariant in
     let read = c.word-w in
-    let short : read.result < 2 ^ 20 = omega (arith, read.ensures, word_fits c.args.bytes.now (c.loop-j.j + c.loop-j.d)) in record { words_value = fits_test (more i.so_far_lem.small (more short none)); words_in_bounds = pair_room _ _ _ _ c.requires i.so_far_lem (rw i.all at c.loop-j-test.true) read.ensures c.tried-a.ensures
-          c.if-a-eq0.true i.stream_long }
+    let short : read.result < 2 ^ 20 = omega (arith, read.ensures, word_fits c.args.bytes.now (c.loop-j.j + c.loop-j.d)) in record {
+      words_value = fits_test (more i.so_far_lem.small (more short none));
+      words_in_bounds = pair_room _ _ _ _ c.requires i.so_far_lem (rw i.all at c.loop-j-test.true) read.ensures c.tried-a.ensures
+          c.if-a-eq0.true i.stream_long;
+    }
 
 pub loop-j-preserved-then-a-eq0 : goal.loop-j-preserved-then-a-eq0
 loop-j-preserved-then-a-eq0 c =
@@ -35,7 +38,7 @@ loop-j-preserved-then-a-eq0 c =
     }
 
 pub put_dropped-requires : goal.put_dropped-requires
-put_dropped-requires c = 
+put_dropped-requires c =
     let i = c.loop-j.invariant in
     let room = c.requires in
     let h =
@@ -59,7 +62,7 @@ loop-j-preserved c =
     }
 
 pub put_waiting-requires-2 : goal.put_waiting-requires-2
-put_waiting-requires-2 c = 
+put_waiting-requires-2 c =
     let i = c.loop-j.invariant in
     let room = c.requires in record { words_value = fits_test (more i.so_far_lem.small none); words_in_bounds = last_room _ _ _ _ room i.so_far_lem (rw i.all at c.loop-j-test.false) i.stream_long }
 
