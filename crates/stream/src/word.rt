@@ -50,7 +50,7 @@ pub(crate) fn group_front(a: u32, b: u32, c: u32, d: u32) -> u64
 
 // The four bytes of a number, the other way round.
 pub(crate) fn turned(x: u32) -> u32
-    ensures { result ≡ turn x }
+    ensures { result ≡ x % 256 * 16777216 + x / 256 % 256 * 65536 + x / 65536 % 256 * 256 + x / 16777216 }
 {
     x % 256 * 16777216 + x / 256 % 256 * 65536 + x / 65536 % 256 * 256 + x / 16777216
 }

@@ -24,7 +24,7 @@ fn all_fit(words: &[u32]) -> bool
 // The four bytes of a number, the lowest first, stored at place k. It stands by itself so that the compiler makes one store of it.
 fn put_four(x: u32, out: &mut [u8], k: usize)
     requires { k + 4 ≤ length out.old }
-    ensures { out.new ≡ sets out.old k (four_bytes x) }
+    ensures { out.new ≡ sets out.old k (x % 256 ∷ x / 256 % 256 ∷ x / 65536 % 256 ∷ x / 16777216 % 256 ∷ []) }
 {
     out[k] = (x % 256) as u8;
     out[k + 1] = (x / 256 % 256) as u8;

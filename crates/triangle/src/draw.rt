@@ -316,7 +316,7 @@ fn draw_shaded(
 }
 
 // A triangle whose corners turn anticlockwise, the lowest first, with doubled area d.
-fn draw_turned(
+fn draw_lowest(
     pen: Pen,
     constant: bool,
     t: Corners,
@@ -337,6 +337,21 @@ fn draw_turned(
         return draw_flat(pen, t, flanks, first, top, im, zm);
     }
     draw_shaded(pen, constant, plain, t, d, flanks, first, top, im, zm)
+}
+
+// A triangle whose corners turn anticlockwise, with doubled area d.
+fn draw_turned(
+    pen: Pen,
+    constant: bool,
+    t: Corners,
+    d: usize,
+    im: &mut [u16],
+    zm: &mut [u16],
+) -> u64
+    requires { Sized t d }
+    ensures { Draws pen (λ rows. turned_offers pen rows constant t) im zm 0 result }
+{
+    draw_lowest(pen, constant, lowest_first(t), d, im, zm)
 }
 
 // The corners named so that they turn anticlockwise, by the expression of the first edge at the third corner.
@@ -398,7 +413,7 @@ pub fn triangle(
     let d = gap(e.plus, e.minus);
     let t = named(a, b, c, e);
     if 0 < d {
-        return draw_turned(pen, constant, lowest_first(t), d, im, zm);
+        return draw_turned(pen, constant, t, d, im, zm);
     }
     0
 }

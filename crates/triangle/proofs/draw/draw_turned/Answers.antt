@@ -1,0 +1,19 @@
+-- `draw::draw_turned` meets its contract: the corners from the lowest on are the same triangle. Assumes nothing.
+use Rattle.std.proofs.Common.{length, sym, ◌∙◌}
+use Rattle.picture.specs.Place.{rows_of}
+use Rattle.triangle.proofs.Turning.{lowest_lowest, lowest_turned, lowest_area, lowest_offers}
+use Rattle.triangle.proofs.draw.draw_turned.Goals as goal
+
+pub draw_lowest-requires : goal.draw_lowest-requires
+draw_lowest-requires c =
+    let t = c.args.t in
+    rw c.lowest_first.ensures (
+      record { turned = lowest_turned t c.requires.turned; area = c.requires.area ∙ lowest_area t; small = c.requires.small },
+      lowest_lowest t,
+    )
+
+pub returns : goal.returns
+returns c =
+    let a = c.args in
+    let rows = rows_of a.pen.frame (length a.im.now) (length a.zm.now) in
+    rw (sym (lowest_offers a.t a.pen rows a.constant)) (rw c.lowest_first.ensures at c.draw_lowest.ensures)
