@@ -3,7 +3,6 @@
 #![tactic(auto)]
 
 ghost use Rattle.std.specs.Prelude.{◌≡◌, ◌^◌, ◌<◌, true, false};
-ghost use Rattle.machine.specs.Machine.{memories};
 ghost use Rattle.instalments.specs.Instalments.{so_far, taking, fresh, answering, is_closed, is_word_number, is_end_number, number_fits, bits_fit, is_sound, word_in, bytes_in, feeding, end_number, ending};
 ghost use Rattle.machine.specs.Machine.{memories};
 ghost use Rattle.machine.specs.Lent.{found, left};
