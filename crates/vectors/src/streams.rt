@@ -1,6 +1,6 @@
 // The streams of the file: how many there are, in two bytes; then for each the length of its name, in one byte, the length of the stream, in
 // two, the name and the stream. The more significant of two bytes comes first.
-ghost use Rattle.io.specs.Counts.{IsPrefixLen};
+ghost use Rattle.std.specs.Prelude.{◌≡◌, ◌≤◌, length, take};
 
 use crate::text::print_stream;
 use console::say::fail;
@@ -19,14 +19,16 @@ fn number(high: u8, low: u8) -> usize {
 
 // A number of a slice's bytes: all of them for any more.
 fn within(n: usize, text: &[u8]) -> usize
-    ensures { IsPrefixLen result text.now }
+    ensures in_bounds { result ≤ length text.now }
+    ensures front { result ≡ length (take result text.now) }
 {
     if n < text.len() { n } else { text.len() }
 }
 
 // Reads until a buffer is full, the input ends or a read fails, and tells how many bytes came.
 fn read_full(file: &mut impl Read, buf: &mut [u8]) -> usize
-    ensures { IsPrefixLen result buf.new }
+    ensures in_bounds { result ≤ length buf.new }
+    ensures front { result ≡ length (take result buf.new) }
 {
     let mut at = 0;
     while at < buf.len() {
@@ -42,7 +44,8 @@ fn read_full(file: &mut impl Read, buf: &mut [u8]) -> usize
 
 // Reads n bytes, or as many as there are and have room.
 fn read_part(file: &mut impl Read, n: usize, buf: &mut [u8]) -> usize
-    ensures { IsPrefixLen result buf.new }
+    ensures in_bounds { result ≤ length buf.new }
+    ensures front { result ≡ length (take result buf.new) }
 {
     let most = within(n, buf);
     read_full(file, &mut buf[..most])

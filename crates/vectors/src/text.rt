@@ -1,6 +1,6 @@
 // A stream's line: the first line of what the drawing program prints for it, a checksum of all of that, and one of what it would print over
 // tiles.
-ghost use Rattle.io.specs.Counts.{IsPrefixLen};
+ghost use Rattle.std.specs.Prelude.{◌≡◌, ◌≤◌, length, take};
 
 use crate::print::print_hex;
 use chip::run::{run, run_tiled};
@@ -9,7 +9,8 @@ use std::io;
 
 // How many bytes stand before the first line's end.
 fn first_line(text: &[u8]) -> usize
-    ensures { IsPrefixLen result text.now }
+    ensures in_bounds { result ≤ length text.now }
+    ensures front { result ≡ length (take result text.now) }
 {
     let mut n = 0;
     while n < text.len() {
