@@ -1,10 +1,15 @@
 -- Of a square outside the picture, and of one of side 8 without a difference, nothing remains; one of side 8 with a difference is stored itself; of a
 -- larger one each quarter has room behind those before it, and together they are what remains of the square. Assumes nothing.
-use Rattle.std.proofs.Common.{◌≡◌, ℕ, ◌+◌, ◌<◌, Bool, length, sym, ◌∙◌, arith}
+use Rattle.std.proofs.Common.{ℕ, ◌<◌, Bool, List, sym, ◌∙◌, arith}
 use Rattle.squares.specs.Change.{differs}
+use Rattle.squares.specs.Room.{Side, Room}
 use Rattle.squares.proofs.Clip.{right_of, above}
 use Rattle.squares.proofs.Split.{half_side, Splitting, put_dropped, put_unlisted, put_itself, room_itself, room_lower_left, room_lower_right, room_upper_left, room_upper_right, put_quarters}
 use Rattle.squares.proofs.quarter.+quarter.Goals as goal
+
+-- a square of a side above 8 is split
+splitting : {marked : ℕ → ℕ → Bool} {side x y k : ℕ} {out : List ℕ} → 8 < side → Side side → Room marked side x y out k → Splitting marked side x y out k
+splitting large splits room = record { large = large; splits = splits; room = room }
 
 pub returns-then-width-x : goal.returns-then-width-x
 returns-then-width-x t c =
@@ -38,35 +43,25 @@ returns-then-side-le8 t c =
 
 pub quarter-a-requires : goal.quarter-a-requires
 quarter-a-requires t c =
-    let a = c.args in
-    let split : Splitting (differs a.old.now a.new.now a.width a.rows) a.side a.x a.y a.out.now a.k =
-    record { large = c.if-side-le8.false; splits = c.requires.side; room = c.requires.room } in
+    let split = splitting c.if-side-le8.false c.requires.side c.requires.room in
     (omega (arith, c.decreases), (c.requires.len, (omega (arith, c.requires.side_bound), (half_side _ c.if-side-le8.false c.requires.side, room_lower_left split))))
 
 pub quarter-b-requires : goal.quarter-b-requires
 quarter-b-requires t c =
-    let a = c.args in
-    let split : Splitting (differs a.old.now a.new.now a.width a.rows) a.side a.x a.y a.out.now a.k =
-    record { large = c.if-side-le8.false; splits = c.requires.side; room = c.requires.room } in
+    let split = splitting c.if-side-le8.false c.requires.side c.requires.room in
     (omega (arith, c.decreases), (c.requires.len, (omega (arith, c.requires.side_bound), (half_side _ c.if-side-le8.false c.requires.side, room_lower_right split c.quarter-a.ensures))))
 
 pub quarter-c-requires : goal.quarter-c-requires
 quarter-c-requires t c =
-    let a = c.args in
-    let split : Splitting (differs a.old.now a.new.now a.width a.rows) a.side a.x a.y a.out.now a.k =
-    record { large = c.if-side-le8.false; splits = c.requires.side; room = c.requires.room } in
+    let split = splitting c.if-side-le8.false c.requires.side c.requires.room in
     (omega (arith, c.decreases), (c.requires.len, (omega (arith, c.requires.side_bound), (half_side _ c.if-side-le8.false c.requires.side, room_upper_left split c.quarter-a.ensures c.quarter-b.ensures))))
 
 pub quarter-requires : goal.quarter-requires
 quarter-requires t c =
-    let a = c.args in
-    let split : Splitting (differs a.old.now a.new.now a.width a.rows) a.side a.x a.y a.out.now a.k =
-    record { large = c.if-side-le8.false; splits = c.requires.side; room = c.requires.room } in
+    let split = splitting c.if-side-le8.false c.requires.side c.requires.room in
     (omega (arith, c.decreases), (c.requires.len, (omega (arith, c.requires.side_bound), (half_side _ c.if-side-le8.false c.requires.side, room_upper_right split c.quarter-a.ensures c.quarter-b.ensures c.quarter-c.ensures))))
 
 pub returns : goal.returns
 returns t c =
-    let a = c.args in
-    let split : Splitting (differs a.old.now a.new.now a.width a.rows) a.side a.x a.y a.out.now a.k =
-    record { large = c.if-side-le8.false; splits = c.requires.side; room = c.requires.room } in
+    let split = splitting c.if-side-le8.false c.requires.side c.requires.room in
     put_quarters split c.quarter-a.ensures c.quarter-b.ensures c.quarter-c.ensures c.quarter.ensures

@@ -1,7 +1,6 @@
 -- `draw::draw_flat` meets its contract. Its loop keeps that the rows below y are drawn, and which edges bound row y. The measure is the number of rows left.
 -- Assumes nothing.
-use Rattle.std.proofs.Common.{◌≤◌, true, length, arith}
-use Rattle.triangle.specs.Loops.{Ranges}
+use Rattle.std.proofs.Common.{true, arith}
 use Rattle.triangle.proofs.Going.{going_start, going_more, going_count, going_end}
 use Rattle.triangle.proofs.draw.draw_flat.Goals as goal
 
@@ -12,28 +11,22 @@ loop-y-init c =
 
 pub overflow_add-n : goal.overflow_add-n
 overflow_add-n c =
-    let ranges : let a = c.args in Ranges a.pen a.t a.flanks a.first a.top (length a.im.now) (length a.zm.now) = c.requires.1 in
-    let line : c.args.pen.frame.line ≤ 65535 = omega (arith, c.well_formed.0) in
     let a = c.args in
     omega (
       arith,
-      going_count a.pen true a.t a.flanks a.im.now a.zm.now a.first a.top ranges line _ _ _ _ c.loop-y.invariant.0 c.loop-y-test.true _ _ _
+      going_count a.pen true a.t a.flanks a.im.now a.zm.now a.first a.top c.requires.1 (omega (arith, c.well_formed.0)) _ _ _ _ c.loop-y.invariant.0 c.loop-y-test.true _ _ _
           c.flat_row-n.ensures,
     )
 
 pub loop-y-preserved : goal.loop-y-preserved
 loop-y-preserved c =
-    let ranges : let a = c.args in Ranges a.pen a.t a.flanks a.first a.top (length a.im.now) (length a.zm.now) = c.requires.1 in
-    let line : c.args.pen.frame.line ≤ 65535 = omega (arith, c.well_formed.0) in
     let a = c.args in (
-      going_more a.pen true a.t a.flanks a.im.now a.zm.now a.first a.top ranges line _ _ _ _ c.loop-y.invariant.0 c.loop-y-test.true _ _ _
+      going_more a.pen true a.t a.flanks a.im.now a.zm.now a.first a.top c.requires.1 (omega (arith, c.well_formed.0)) _ _ _ _ c.loop-y.invariant.0 c.loop-y-test.true _ _ _
           c.flat_row-n.ensures,
       c.climbed-f.ensures,
     )
 
 pub returns : goal.returns
 returns c =
-    let ranges : let a = c.args in Ranges a.pen a.t a.flanks a.first a.top (length a.im.now) (length a.zm.now) = c.requires.1 in
-    let line : c.args.pen.frame.line ≤ 65535 = omega (arith, c.well_formed.0) in
     let a = c.args in
-    going_end a.pen true a.t a.flanks a.im.now a.zm.now a.first a.top ranges line _ _ _ _ c.loop-y.invariant.0 (omega (arith, c.loop-y-test.false))
+    going_end a.pen true a.t a.flanks a.im.now a.zm.now a.first a.top c.requires.1 (omega (arith, c.well_formed.0)) _ _ _ _ c.loop-y.invariant.0 (omega (arith, c.loop-y-test.false))
