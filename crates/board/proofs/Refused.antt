@@ -1,6 +1,6 @@
 -- What a board refuses beside what one chip refuses: INIT through the door, commands that several units do not take, memories of unlike length.
 -- Assumes nothing.
-use Rattle.std.proofs.Common.{◌≡◌, ℕ, ◌+◌, ◌*◌, ◌/◌, ◌%◌, ◌<◌, ◌≤◌, Bool, true, false, cond, not, ◌&&◌, ◌||◌, eqb, leb, ◌≢◌, length, sym, refl, ap, ◌∙◌, ap₂, arith, eq-eqb, ne_eqb, eqb-true}
+use Rattle.std.proofs.Common.{◌≡◌, ℕ, ◌+◌, ◌*◌, ◌/◌, ◌%◌, ◌<◌, ◌≤◌, Bool, true, false, cond, ◌&&◌, ◌||◌, eqb, leb, ◌≢◌, length, sym, refl, ap, ◌∙◌, ap₂, arith, eq-eqb, ne_eqb, eqb-true}
 use mathlib.Core.Bool.{false≢true}
 use borrow.Author.Tests.{lt-leb}
 use Rattle.registers.specs.declared.Registers.{Registers}
@@ -21,7 +21,7 @@ use Rattle.chip.proofs.Units.{units as promises}
 use Rattle.board.specs.declared.Board.{Board}
 use Rattle.board.specs.Bank.{Bank, unit_even, even_lengths, is_even}
 use Rattle.board.specs.Door.{is_board, is_several, own_code, solo_code, solo_data, is_transfer, unit_word}
-use Rattle.board.specs.Board.{board, together, refused, part_in, units_step, is_whole_by, is_whole, board_step}
+use Rattle.board.specs.Board.{together, refused, part_in, units_step, is_whole_by, is_whole, board_step}
 use Rattle.board.specs.Calls.{resetting, read_number_by, board_reading}
 use Rattle.board.specs.Refusals.{Fit, BoardRefusals}
 use Rattle.board.proofs.Sent.{board_ways, ways_some, first_layout}

@@ -1,5 +1,5 @@
 -- Rows in use of a board and of one chip that has as many places as its units together: always as many. Assumes nothing.
-use Rattle.std.proofs.Common.{◌≡◌, ℕ, ◌*◌, ◌/◌, ◌%◌, ◌<◌, min, Bool, true, false, cond, not, ◌&&◌, eqb, ◌⊎◌, length, sym, refl, ap, ◌∙◌, subst, inl, inr, mul_comm, arith, eq-eqb}
+use Rattle.std.proofs.Common.{◌≡◌, ℕ, ◌*◌, ◌/◌, ◌%◌, ◌<◌, min, Bool, true, false, cond, not, ◌&&◌, eqb, length, sym, refl, ap, ◌∙◌, subst, inl, inr, mul_comm, arith, eq-eqb}
 use native.Mathlib.Nat.{div-div-eq-div-mul, div-eq_of_eq-mul_left}
 use Rattle.picture.specs.Limits.{most_rows}
 use Rattle.picture.specs.Place.{frame_of, plain_frame, layout_of, is_whole, rows_in, rows_of}

@@ -1,5 +1,5 @@
 -- What the door sends on is what the definitions say of the decoded word; and what a board may be. Assumes nothing.
-use Rattle.std.proofs.Common.{◌≡◌, ℕ, ◌/◌, ◌<◌, ◌≤◌, Bool, true, false, cond, ◌&&◌, ◌||◌, T, eqb, ltb, ◌⊎◌, sym, refl, subst, inl, inr, true≢false, arith, ltb→lt, ne_eqb, eqb-true}
+use Rattle.std.proofs.Common.{◌≡◌, ℕ, ◌/◌, ◌<◌, ◌≤◌, Bool, true, false, cond, ◌&&◌, ◌||◌, T, eqb, ltb, sym, refl, subst, inl, inr, true≢false, arith, ltb→lt, ne_eqb, eqb-true}
 use lib.ListN.{get_or-eq_default}
 use Rattle.registers.specs.declared.word.Word.{Word}
 use Rattle.registers.specs.declared.word.Word.TheVariants.{Unmodelled, Unknown}

@@ -6,14 +6,13 @@ use Rattle.registers.specs.Word.{decode, word_of}
 use Rattle.refusals.proofs.Commands.{decode_unknown}
 use Rattle.ground.proofs.Truth.{both}
 use Rattle.machine.specs.Run.{Outcome, outcome}
-use Rattle.machine.specs.Machine.{memories}
 use Rattle.chip.specs.declared.transfer.Reading.{Reading}
 use Rattle.chip.specs.Read.{reading}
 use Rattle.board.specs.declared.Board.{Board}
 use Rattle.board.specs.declared.step.Reply.{Reply}
 use Rattle.board.specs.Bank.{Bank, is_even}
 use Rattle.board.specs.Door.{unit_word, command_of, data_of}
-use Rattle.board.specs.Board.{board, refused, part_in, units_step, is_whole_by, is_whole, board_step}
+use Rattle.board.specs.Board.{refused, part_in, units_step, is_whole_by, is_whole, board_step}
 use Rattle.board.specs.Calls.{seen, read_number_by, read_number, read_by, board_reading}
 use Rattle.board.proofs.Sent.{sent_word, board_ways, ways_low}
 

@@ -34,7 +34,7 @@ use Rattle.refusals.specs.Allowed.{init_allowed}
 use Rattle.refusals.specs.Bounds.{in_bounds}
 use Rattle.refusals.specs.Refusal.{refusal_of, next}
 use Rattle.refusals.proofs.Kept.{reset_kept}
-use Rattle.examples.specs.Examples.{Pixel, at, corner, through, walk, among, covered, holds, gives, transparency, triangle, line, numbers, code_gives, code_is, line_there, triangle_there, pixels_of, numbered, init_data, Says, table, done, ◌also◌, Claim}
+use Rattle.examples.specs.Examples.{Pixel, corner, through, walk, among, covered, holds, gives, transparency, triangle, line, numbers, code_gives, code_is, line_there, triangle_there, pixels_of, numbered, init_data, Says, table, done, ◌also◌, Claim}
 
 -- ---- packed lengths
 

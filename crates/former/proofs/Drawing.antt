@@ -1,7 +1,7 @@
 -- What was offered and stored is so still: no pixel of a figure within the former limits lies beyond them, and there neither the window from INIT
 -- on nor the rows in use make a difference. Assumes nothing.
 use mathlib.Core.Path.{◌≡◌, refl, sym, ap, ap₂, ◌∙◌}
-use mathlib.Core.Bool.{Bool, true, false, cond, not, ◌&&◌, ◌||◌}
+use mathlib.Core.Bool.{Bool, true, false, cond, ◌&&◌}
 use mathlib.Core.List.{List, [], ◌∷◌}
 use Prim.Native.Nat.{ℕ, ◌+◌, ◌≤◌, ◌<◌, zero-le}
 use native.Mathlib.Nat.{min-le_left}
@@ -13,7 +13,7 @@ use Rattle.picture.specs.declared.Kind.{Kind}
 use Rattle.picture.specs.declared.Kind.TheVariants.{Line0, Line1, Line2}
 use Rattle.picture.specs.Place.{layout_of, mine, in_memory}
 use Rattle.picture.specs.Offer.{Offer, offer, lets_through, in_window, shows, offered, keep}
-use Rattle.picture.specs.Picture.{Picture, picture, passes, new_i, new_z, step_at, draw_one, drawn}
+use Rattle.picture.specs.Picture.{Picture, passes, new_i, new_z, step_at, draw_one, drawn}
 use Rattle.picture.specs.Store.{Store, pixel_for, stored_i, stored_z, stored, filled, storable}
 use Rattle.ground.proofs.Truth.{same_test}
 use Rattle.picture.proofs.Offers.{window_in}

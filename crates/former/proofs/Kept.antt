@@ -28,7 +28,7 @@ use Rattle.registers.specs.declared.shape.Shape.{Shape}
 use Rattle.registers.specs.declared.shape.Shape.TheVariants.{Closed, Strip, Fan, Line}
 use Rattle.registers.specs.Record.{no_vertex, nothing_awaited, region_of, settings, reset_of, window, with_modes, with_window, with_dash, with_latch, with_figure, with_parked, with_region}
 use Rattle.registers.specs.Region.{toward, moved, next_pixel}
-use Rattle.registers.specs.Subcommand.{subcommand_of, wants}
+use Rattle.registers.specs.Subcommand.{wants}
 use Rattle.registers.specs.Figure.{shape_of, vertex_of, is_pair, grown_of}
 use Rattle.registers.specs.Next.{value, awaited, effect_of, parm_of, coordinate_of, transferred_of, record_after}
 use Rattle.ground.proofs.Truth.{and_both, either}

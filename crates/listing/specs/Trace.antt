@@ -2,7 +2,7 @@
 -- subcommand's parameters it is and of how many, the number that refuses it or 0, and how many pixels passed.
 --   D2000 # 0000003 PARM 2000 WINDOW     2/5 00 0000000
 -- With a pixel, its I and Z before and after the word come behind that. Each number has as many digits as its columns, zeros in front.
-use Rattle.std.specs.Prelude.{ℕ, ◌+◌, ◌*◌, ◌/◌, ◌%◌, cond, List, [], ◌∷◌, ◌++◌, take, drop, ◌==◌}
+use Rattle.std.specs.Prelude.{ℕ, ◌*◌, ◌/◌, ◌%◌, cond, List, [], ◌∷◌, ◌++◌, take, drop, ◌==◌}
 use Rattle.listing.specs.declared.trace.Meaning.{Meaning}
 use Rattle.listing.specs.declared.trace.Traced.{Traced}
 use Rattle.listing.specs.declared.trace.Numbers.{Numbers}

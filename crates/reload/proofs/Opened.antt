@@ -1,8 +1,8 @@
 -- The words that open a region, taken one after the other. Assumes nothing.
 use mathlib.Core.Path.{◌≡◌, refl, sym, ap, ◌∙◌}
-use mathlib.Core.Bool.{Bool, true, false, not, ◌&&◌}
+use mathlib.Core.Bool.{true, false, not}
 use mathlib.Core.List.{List, [], ◌∷◌}
-use Prim.Native.Nat.{ℕ, zero, suc, ◌+◌, ◌<◌, ◌≤◌}
+use Prim.Native.Nat.{ℕ, zero, suc, ◌+◌, ◌<◌}
 use native.Mathlib.Omega.{arith}
 use lib.ListN.{length}
 use borrow.Author.Tests.{le-leb}
@@ -17,11 +17,11 @@ use Rattle.registers.specs.Next.{awaited, effect_of, parm_of, record_after, comp
 use Rattle.refusals.specs.Allowed.{only_bits, img_bits, parameter_allowed}
 use Rattle.refusals.specs.Bounds.{in_bounds}
 use Rattle.refusals.specs.Refusal.{is_cold, awaits, refusal_of}
-use Rattle.refusals.proofs.Refusals.{Accepted, accepted_when}
+use Rattle.refusals.proofs.Refusals.{accepted_when}
 use Rattle.refusals.proofs.Kept.{after_kept}
 use Rattle.machine.specs.Run.{Outcome, outcome}
 use Rattle.machine.specs.Machine.{Memories, step_of}
-use Rattle.machine.specs.Offers.{State, state}
+use Rattle.machine.specs.Offers.{state}
 use Rattle.chip.specs.Chip.{word_stores, chip}
 use Rattle.chip.proofs.Words.{word_quiet}
 use Rattle.reload.specs.Reload.{Corners, opening, taking, Allowed, Ready}

@@ -2,14 +2,14 @@
 -- memories as they were, and one that is stored is read back, since no later pixel of the walk is at its place. Assumes nothing.
 use mathlib.Core.Path.{◌≡◌, refl, sym, ap, ap₂, ◌∙◌, subst}
 use mathlib.Core.Bool.{Bool, true, false, cond, true≢false}
-use mathlib.Core.List.{List, [], ◌∷◌, ◌++◌, map, foldl, foldl-append}
+use mathlib.Core.List.{List, [], ◌∷◌, map, foldl, foldl-append}
 use Prim.Native.Nat.{ℕ, zero, suc, ◌+◌, ◌*◌, ◌≤◌, ◌<◌}
 use native.Mathlib.Omega.{arith}
 use lib.ListN.{length, get_or}
 use borrow.Author.Tests.{eq-eqb}
 use Rattle.picture.specs.Place.{rows_of, in_memory}
 use Rattle.picture.specs.Picture.{Picture, picture}
-use Rattle.picture.specs.Store.{filled, pixel_for, storable, read_of}
+use Rattle.picture.specs.Store.{pixel_for, storable, read_of}
 use Rattle.picture.proofs.Stores.{filled_i, filled_z, filled_passed, read_outside}
 use Rattle.picture.proofs.Pictures.{Low, left, read_elsewhere, read_back_lem, read_stored}
 use Rattle.registers.specs.declared.Region.{Region}

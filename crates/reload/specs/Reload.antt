@@ -1,6 +1,6 @@
 -- Pictures saved and reloaded (request [1]): a region that is read and at once written back leaves the memory as it was, and what is written
 -- into a region is what is read from it later.
-use Rattle.std.specs.Prelude.{◌≡◌, Bool, true, false, cond, List, [], ◌∷◌, ◌++◌, map, ℕ, zero, suc, ◌+◌, ◌-◌, ◌*◌, ◌≤◌, ◌<◌, length, get_or, ltb}
+use Rattle.std.specs.Prelude.{◌≡◌, true, false, cond, List, [], ◌∷◌, ◌++◌, map, ℕ, zero, suc, ◌+◌, ◌-◌, ◌*◌, ◌≤◌, ◌<◌, length, get_or, ltb}
 use Rattle.picture.specs.declared.Frame.{Frame}
 use Rattle.picture.specs.Limits.{largest_coordinate}
 use Rattle.picture.specs.Place.{rows_of, in_memory}

@@ -1,7 +1,6 @@
 -- `write` meets its contract. The invariant of its loop: the first i squares are put, and the length is kept. The measure is the number of
 -- squares left. Assumes nothing.
 use mathlib.Core.Path.{◌≡◌, ◌∙◌}
-use Prim.Native.Nat.{◌-◌}
 use native.Mathlib.Numerals.{add-one}
 use native.Mathlib.Omega.{arith}
 use lib.ListN.{get_or, length-set}

@@ -1,5 +1,5 @@
 -- `run::run_words` meets its contract. Its loop keeps that the whole run is the run of the words that are left, from where k words came to. Assumes nothing.
-use Rattle.std.proofs.Common.{◌-◌, arith}
+use Rattle.std.proofs.Common.{arith}
 use Rattle.board.proofs.Lengths.{as_long_more}
 use Rattle.board.proofs.Turns.{reached_more, reached_halt}
 use Rattle.board.proofs.run.run_words.Goals as goal

@@ -1,6 +1,6 @@
 -- `read::read` meets its contract. The invariant of its loop: reading on over the bytes that are left comes to what reading the whole text
 -- comes to. The measure is the number of bytes left. Assumes nothing.
-use Rattle.std.proofs.Common.{◌+◌, ◌-◌, drop, sym, ap, ◌∙◌, arith}
+use Rattle.std.proofs.Common.{◌+◌, drop, sym, ap, ◌∙◌, arith}
 use Rattle.listing.specs.Reading.{Reading, reading, read_on}
 use Rattle.listing.proofs.Turns.{turn, over}
 use Rattle.listing.proofs.read.read.Goals as goal

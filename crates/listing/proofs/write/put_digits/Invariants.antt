@@ -1,6 +1,6 @@
 -- `write::put_digits` meets its contract. The invariant of its loop: the first k digits of the rest, put over what stands, give what all digits
 -- give, put over what stood. The measure is k. Assumes nothing.
-use Rattle.std.proofs.Common.{◌≡◌, ◌-◌, ◌≤◌, length}
+use Rattle.std.proofs.Common.{◌≡◌, ◌≤◌, length}
 use lib.Seq.{sets}
 use Rattle.listing.specs.Text.{digits}
 use Rattle.listing.proofs.write.put_digits.Given as goal

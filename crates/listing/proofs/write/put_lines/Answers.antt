@@ -1,6 +1,6 @@
 -- `write::put_lines` meets its contract. The invariant of its loop: the lines of the words passed are put, and the length is kept. The measure
 -- is the number of words left. Assumes nothing.
-use Rattle.std.proofs.Common.{◌-◌, refl, ◌∙◌, arith, rules}
+use Rattle.std.proofs.Common.{refl, ◌∙◌, arith, rules}
 use Rattle.report.proofs.Putting.{put_none, put_append}
 use Rattle.listing.proofs.Lines.{lines_none, lines_more, length_lines}
 use Rattle.listing.proofs.write.put_lines.Goals as goal

@@ -1,7 +1,6 @@
 -- `sort::kept` meets its contract. Its loop keeps that the words that are kept past j of them are those that are kept of the words past k.
 -- Assumes nothing.
 use mathlib.Core.Path.{refl}
-use Prim.Native.Nat.{◌-◌}
 use native.Mathlib.Omega.{arith}
 use Rattle.stream.proofs.Round.{word_fits}
 use Rattle.mending.proofs.Sorting.{kept_more, kept_past, kept_end}

@@ -1,7 +1,7 @@
 -- `sort::sort` meets its contract. Its loop keeps that of j + d words j are kept and d are dropped, and what stands of them (`SortedTo`).
 -- Assumes nothing.
 use mathlib.Core.Path.{◌∙◌}
-use Prim.Native.Nat.{◌+◌, ◌-◌, ◌^◌, ◌<◌}
+use Prim.Native.Nat.{◌+◌, ◌^◌, ◌<◌}
 use native.Mathlib.Omega.{arith}
 use Rattle.stream.proofs.Bits.{none, more, fits_test}
 use Rattle.stream.proofs.Round.{word_fits}

@@ -1,7 +1,6 @@
 -- `scale::drawn_places` meets its contract. The invariant of its loop: the places left have what all of them have. The measure is their number. Assumes
 -- nothing.
 use mathlib.Core.Path.{◌≡◌}
-use Prim.Native.Nat.{◌-◌}
 use Rattle.report.specs.Levels.{drawn_places}
 use Rattle.report.proofs.scale.drawn_places.Given as goal
 

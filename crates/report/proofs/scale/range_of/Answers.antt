@@ -1,6 +1,5 @@
 -- `scale::range_of` meets its contract. The invariant of its loop: the range so far is that of the places passed. The measure is the number of places
 -- left. Assumes nothing.
-use Prim.Native.Nat.{◌-◌}
 use native.Mathlib.Omega.{arith}
 use borrow.Author.Rules.{rules}
 use Rattle.report.proofs.Levels.{range_none, range_turn}

@@ -1,7 +1,6 @@
 -- `scale::to_levels` meets its contract. The invariant of its loop: the places passed have their levels, and those left their numbers. The measure is the
 -- number of places left. Assumes nothing.
 use mathlib.Core.Path.{◌≡◌, refl, ◌∙◌}
-use Prim.Native.Nat.{◌-◌}
 use native.Mathlib.Omega.{arith}
 use borrow.Author.Rules.{rules}
 use lib.ListN.{length, length-set}

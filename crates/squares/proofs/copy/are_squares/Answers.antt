@@ -1,7 +1,6 @@
 -- `copy::are_squares` meets its contract. The invariant of its loop: the squares left are all good exactly where all are. The measure is the number of
 -- squares left. Assumes nothing.
 use mathlib.Core.Path.{sym, ◌∙◌}
-use Prim.Native.Nat.{◌-◌}
 use native.Mathlib.Omega.{arith}
 use lib.ListN.{drop_of_length-le}
 use Rattle.squares.proofs.Lists.{squares_next, squares_none}

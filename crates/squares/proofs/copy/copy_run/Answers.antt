@@ -1,7 +1,7 @@
 -- `copy::copy_run` meets its contract. The invariant of its loop: the first i places have the new numbers, and the length is kept. The measure is the
 -- number of places left. Assumes nothing.
 use mathlib.Core.Path.{refl, ◌∙◌}
-use Prim.Native.Nat.{◌+◌, ◌-◌}
+use Prim.Native.Nat.{◌+◌}
 use native.Mathlib.Omega.{arith}
 use borrow.Author.Rules.{rules}
 use lib.ListN.{get_or, length-set}

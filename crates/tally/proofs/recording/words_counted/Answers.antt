@@ -1,6 +1,6 @@
 -- `recording::words_counted` meets its contract. Its loop keeps that the whole count is the count of the words that are left, from where k words
 -- came to. Assumes nothing.
-use Rattle.std.proofs.Common.{◌-◌, refl, ◌∙◌, arith}
+use Rattle.std.proofs.Common.{refl, ◌∙◌, arith}
 use Rattle.stream.proofs.Stream.{length_unpack}
 use Rattle.tally.proofs.Words.{reached_start, reached_more, ended_halt, ended_whole}
 use Rattle.tally.proofs.recording.words_counted.Goals as goal
