@@ -6,8 +6,7 @@ use Rattle.registers.specs.Word.{decode, word_of}
 use Rattle.refusals.proofs.Commands.{decode_unknown}
 use Rattle.ground.proofs.Truth.{both}
 use Rattle.machine.specs.Run.{Outcome, outcome}
-use Rattle.chip.specs.declared.transfer.Reading.{Reading}
-use Rattle.chip.specs.Read.{reading}
+use Rattle.chip.specs.Read.{ReadOutcome, reading}
 use Rattle.board.specs.declared.Board.{Board}
 use Rattle.board.specs.declared.step.Reply.{Reply}
 use Rattle.board.specs.Bank.{Bank, is_even}
@@ -66,7 +65,7 @@ module _ (b : Board) (m : Bank) {even : Bool} (like : even ≡ is_even b.units m
   read_refused some = rw (sym number_is, ne_eqb number 0 some)
 
   -- the chip reads
-  pub read_taken : number ≡ 0 → {a : Reading} → a ≡ reading b.registers m.first → read_by b.units a ≡ board_reading b m
+  pub read_taken : number ≡ 0 → {a : ReadOutcome} → a ≡ reading b.registers m.first → read_by b.units a ≡ board_reading b m
   unfolding board_reading
   read_taken none {a} told = ap (read_by b.units) told ∙ rw (sym number_is ∙ none)
 

@@ -6,8 +6,8 @@ ghost use Rattle.line.specs.Field.{in_field, ends_within, is_open, lies_whole, f
 
 use crate::Mode;
 use picture::pixel::is_in_window;
-use picture::place::{TILED, lies_plain, rows_of};
-use picture::{Frame, Kind, Pen, Vertex};
+use picture::place::{lies_plain, lies_tiled, rows_of};
+use picture::{Frame, Pen, Vertex};
 
 // The rows in use, and whether nothing but the window and the memory is asked: in rows and in tiles, where the transparency pattern hides nothing.
 #[derive(Clone, Copy)]
@@ -16,43 +16,26 @@ pub(crate) struct Field {
     pub(crate) rows: usize,
 }
 
-// The kind of a line's pixels.
-pub(crate) fn kind_of(mode: Mode) -> Kind
-    ensures { result ≡ kind_of mode }
-{
-    match mode {
-        Mode::Zero => Kind::Line0,
-        Mode::One => Kind::Line1,
-        Mode::Two => Kind::Line2,
-    }
-}
-
 // Whether the transparency pattern hides nothing of a line.
 pub(crate) fn is_open(pen: Pen, mode: Mode) -> bool
     ensures { result ≡ is_open pen (kind_of mode) }
 {
-    match mode {
-        Mode::Zero => pen.transparency == 65535,
-        Mode::One => pen.transparency == 65535,
-        Mode::Two => true,
-    }
+    matches!(mode, Mode::Two) | (pen.transparency == 65535)
 }
 
 // Whether pixels lie in rows or in tiles, so that the memory has every column.
 fn lies_whole(frame: Frame) -> bool
     ensures { result ≡ lies_whole frame }
 {
-    lies_plain(frame) | (frame.layout == TILED)
+    lies_plain(frame) | lies_tiled(frame)
 }
 
 // The field of a segment, over memories of these lengths.
 pub(crate) fn field_of(pen: Pen, mode: Mode, ni: usize, nz: usize) -> Field
     ensures { result ≡ field_of pen (kind_of mode) (rows_of pen.frame ni nz) }
 {
-    let frame = pen.frame;
-    let open = is_open(pen, mode);
-    let rows = rows_of(frame, ni, nz);
-    let direct = lies_whole(frame) & open;
+    let direct = lies_whole(pen.frame) & is_open(pen, mode);
+    let rows = rows_of(pen.frame, ni, nz);
     Field { direct, rows }
 }
 
@@ -60,10 +43,8 @@ pub(crate) fn field_of(pen: Pen, mode: Mode, ni: usize, nz: usize) -> Field
 pub(crate) fn is_within(pen: Pen, rows: usize, x: u16, y: u16) -> bool
     ensures { result ≡ in_field pen rows x y }
 {
-    let frame = pen.frame;
-    let window = is_in_window(pen, x, y);
-    let memory = (x < frame.line) & ((y as usize) < rows);
-    window & memory
+    let memory = (x < pen.frame.line) & ((y as usize) < rows);
+    is_in_window(pen, x, y) & memory
 }
 
 // Whether both ends of a segment are.
@@ -77,10 +58,6 @@ pub(crate) fn has_ends(pen: Pen, rows: usize, a: Vertex, b: Vertex) -> bool
 pub(crate) fn is_bare(pen: Pen, mode: Mode) -> bool
     ensures { result ≡ is_bare pen (kind_of mode) }
 {
-    let whole = pen.ienable & (pen.planes == 65535);
-    match mode {
-        Mode::Zero => whole,
-        Mode::One => whole,
-        Mode::Two => (pen.depth & pen.zenable) & whole,
-    }
+    let tested = !mode.is_deep() | (pen.depth & pen.zenable);
+    tested & pen.ienable & (pen.planes == 65535)
 }

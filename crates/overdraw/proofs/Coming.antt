@@ -11,9 +11,8 @@ use Rattle.report.specs.Calls.{Put}
 use Rattle.report.proofs.Putting.{put_append, put_over}
 use Rattle.report.proofs.Calls.{stands}
 use Rattle.tally.specs.declared.Tally.{Tally}
-use Rattle.tally.specs.declared.Entry.{Entry}
 use Rattle.tally.specs.Tally.{no_tally, total_of, added, kept, EachWithin}
-use Rattle.tally.specs.Overdraw.{entry_of, tally_of, tallies_of}
+use Rattle.tally.specs.Overdraw.{Entered, entry_of, tally_of, tallies_of}
 use Rattle.tally.proofs.Adding.{each_more, added_each, kept_same, total_more}
 use Rattle.tally.proofs.Overdraw.{stream_each, streams_small}
 use Rattle.overdraw.specs.declared.page.Reached.{Reached}
@@ -75,18 +74,18 @@ come_none {old} {new} {r} long p none sums =
     record { streams = []; files = none; few = omega (arith, none); long = long; text = subst (λ (t : List ℕ). Put t old 0 new r.end) (sym (append-nil heading)) p; total = sums }
 
 -- one more, from its parts
-pub one_more : (r : Reached) (bytes : List ℕ) {room : ℕ} {old new name : List ℕ} {e : Entry} {n : ℕ} {sum : Tally} → Ready room r → name ≡ name_of r.files
+pub one_more : (r : Reached) (bytes : List ℕ) {room : ℕ} {old new name : List ℕ} {e : Entered} {n : ℕ} {sum : Tally} → Ready room r → name ≡ name_of r.files
     → e ≡ entry_of bytes → Put (entry_lines name e) old r.end new n → sum ≡ kept (added r.total e.tally)
     → More r bytes old new (record { files = r.files + 1; end = n; total = sum })
 one_more r bytes {room} {old} {new} {name} {e} {n} {sum} ready named is put sums =
     record {
       files = refl;
       text =
-          subst (λ (x : Entry). Put (entry_lines (name_of r.files) x) old r.end new n) is
+          subst (λ (x : Entered). Put (entry_lines (name_of r.files) x) old r.end new n) is
           (subst (λ (x : List ℕ). Put (entry_lines x e) old r.end new n) named put);
       total =
           sums
-          ∙ ap (λ (x : Entry). kept (added r.total x.tally)) is
+          ∙ ap (λ (x : Entered). kept (added r.total x.tally)) is
           ∙ kept_same (3276000 + 3276) (added r.total (tally_of bytes)) (omega arith) (added_each 3276000 3276 r.total (tally_of bytes) ready.small (stream_each bytes));
     }
 

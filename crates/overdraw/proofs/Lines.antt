@@ -11,7 +11,7 @@ use lib.Seq.{sets}
 use Rattle.report.proofs.Putting.{store_first}
 use Rattle.tally.specs.declared.Count.{Count}
 use Rattle.tally.specs.declared.Tally.{Tally}
-use Rattle.tally.specs.declared.Entry.{Entry}
+use Rattle.tally.specs.Overdraw.{Entered}
 use Rattle.overdraw.specs.Text.{
   glyph,
   front,
@@ -151,7 +151,7 @@ module _ (name : List ℕ) where
       omega (arith, whole, length-append name too_long_name, length-append (name ++ too_long_name) (10 ∷ []))
 
   -- the lines of a recording have at most 382 bytes and six times those of the name
-  pub length_entry : (e : Entry) → length (entry_lines name e) ≤ length name * 6 + 382
+  pub length_entry : (e : Entered) → length (entry_lines name e) ≤ length name * 6 + 382
   unfolding entry_lines
   length_entry e = go e.long
     where

@@ -1,9 +1,10 @@
 -- The whole report of some recordings, and how far it has come.
-use Rattle.std.specs.Prelude.{ℕ, suc, ◌+◌, ◌≤◌, ◌<◌, ◌≡◌, Bool, cond, List, [], ◌∷◌, ◌++◌, length}
+use Rattle.std.specs.Prelude.{ℕ, suc, ◌+◌, ◌≤◌, ◌<◌, ◌≡◌, Bool, cond, Result, Ok, Err, List, [], ◌∷◌, ◌++◌, length}
 use Rattle.report.specs.Calls.{Put, Stands}
 use Rattle.tally.specs.Tally.{added, EachWithin}
 use Rattle.tally.specs.Overdraw.{entry_of, tally_of, tallies_of}
 use Rattle.overdraw.specs.declared.page.Reached.{Reached}
+use Rattle.overdraw.specs.declared.Cut.{Cut}
 use Rattle.overdraw.specs.Text.{name_of, total_name, heading, tally_lines, entry_lines}
 
 -- the lines of some recordings, the first of which is the file with number k
@@ -49,3 +50,8 @@ pub record Printed (old new : List ℕ) (n : ℕ) : Type 0 where
   pub streams : List (List ℕ)
   pub whole : Bool
   pub text : Stands (cond whole (report_of streams) (part_of streams)) old new n
+
+-- what was gathered: a report that has come through some recordings or, where a file cannot be read, one that ends before its lines
+abbrev pub Gathered : List ℕ → List ℕ → Result Reached Cut → Type 0
+Gathered old new (Ok reached) = Come old new reached
+Gathered old new (Err cut) = Printed old new cut.end

@@ -16,43 +16,39 @@ pub(crate) struct Reached {
     pub(crate) total: Tally,
 }
 
-// Begins with the heading.
-pub(crate) fn begin(out: &mut [u8; 418474]) -> Reached
-    ensures { Come out.old out.new result }
-{
-    let end = put_heading(out, 0);
-    let total = Tally::none();
-    Reached {
-        files: 0,
-        end: end,
-        total: total,
+impl Reached {
+    // Begins with the heading.
+    pub(crate) fn begin(out: &mut [u8; 418474]) -> Reached
+        ensures { Come out.old out.new result }
+    {
+        let end = put_heading(out, 0);
+        Reached {
+            files: 0,
+            end,
+            total: Tally::none(),
+        }
     }
-}
 
-// Reports the next recording, and adds it to the total.
-pub(crate) fn add(r: Reached, bytes: &[u8], out: &mut [u8; 418474]) -> Reached
-    requires { Ready (length out.old) r }
-    ensures { More r bytes.now out.old out.new result }
-{
-    let name = name_of(r.files);
-    let e = enter(bytes);
-    let end = put_entry(name, e, out, r.end);
-    let before = r.total;
-    let more = e.tally;
-    let sum = before.with(more);
-    Reached {
-        files: r.files + 1,
-        end: end,
-        total: sum,
+    // Reports the next recording, and adds it to the total.
+    pub(crate) fn add(self, bytes: &[u8], out: &mut [u8; 418474]) -> Reached
+        requires { Ready (length out.old) self }
+        ensures { More self bytes.now out.old out.new result }
+    {
+        let entry = enter(bytes);
+        let end = put_entry(name_of(self.files), entry, out, self.end);
+        Reached {
+            files: self.files + 1,
+            end,
+            total: self.total.with(entry.tally),
+        }
     }
-}
 
-// Ends with the total.
-pub(crate) fn finish(r: Reached, out: &mut [u8; 418474]) -> usize
-    requires each_within { EachWithin 3276000 r.total }
-    requires end_in_bounds { r.end + 395 ≤ length out.old }
-    ensures { Put (tally_lines total_name r.total) out.old r.end out.new result }
-{
-    let t = r.total;
-    put_tally(*b"total ", t, out, r.end)
+    // Ends with the total.
+    pub(crate) fn finish(self, out: &mut [u8; 418474]) -> usize
+        requires each_within { EachWithin 3276000 self.total }
+        requires end_in_bounds { self.end + 395 ≤ length out.old }
+        ensures { Put (tally_lines total_name self.total) out.old self.end out.new result }
+    {
+        put_tally(*b"total ", self.total, out, self.end)
+    }
 }

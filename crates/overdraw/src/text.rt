@@ -1,19 +1,14 @@
 // The lines of the report, put at a place of a buffer. Each tells the place after it.
 ghost use Rattle.std.specs.Prelude.{◌≡◌, ◌+◌, ◌≤◌, length};
 ghost use Rattle.report.specs.Calls.{Put};
+ghost use Rattle.ground.specs.Refusal.{number};
 ghost use Rattle.tally.specs.Tally.{EachWithin};
+ghost use Rattle.tally.specs.Overdraw.{entered};
 ghost use Rattle.overdraw.specs.Text.{glyph, front, columns, percent_of, name_of, heading, numbers, count_line, tally_lines, refusal_line, too_long_line, entry_lines};
 
-use report::lay;
-use tally::{Count, Entry, Tally};
-
-// Puts a text, for which there is room.
-fn put_text(text: &[u8], out: &mut [u8], at: usize) -> usize
-    requires { at + length text.now ≤ length out.old }
-    ensures { Put text.now out.old at out.new result }
-{
-    lay(text, out, at)
-}
+use ground::Refusal;
+use report::put_bytes;
+use tally::{Count, Entry, Stop, Tally};
 
 // The last digit of a number, or a blank where nothing is left of it.
 fn glyph_of(n: u64) -> u8
@@ -22,19 +17,17 @@ fn glyph_of(n: u64) -> u8
     if n == 0 {
         return b' ';
     }
-    48 + (n % 10) as u8
+    b'0' + (n % 10) as u8
 }
 
 // Puts a number into `width` columns, as it stands in front of another digit. The digits come from the last to the first, so that one division finds
-// each.
+// each. (report's `put_digits` puts zeros where this puts blanks: to call it, the digits would have to be counted first.)
 fn put_front(n: u64, width: usize, out: &mut [u8], at: usize) -> usize
     requires { at + width ≤ length out.old }
     ensures { Put (front width n) out.old at out.new result }
 {
     let mut rest = n;
-    let mut k = width;
-    while 0 < k {
-        k -= 1;
+    for k in (0..width).rev() {
         out[at + k] = glyph_of(rest);
         rest /= 10;
     }
@@ -48,7 +41,7 @@ fn put_columns(n: u64, width: usize, out: &mut [u8], at: usize) -> usize
     ensures { Put (columns width n) out.old at out.new result }
 {
     let next = put_front(n / 10, width - 1, out, at);
-    out[next] = 48 + (n % 10) as u8;
+    out[next] = b'0' + (n % 10) as u8;
     next + 1
 }
 
@@ -68,9 +61,9 @@ pub(crate) fn name_of(k: u64) -> [u8; 6]
     ensures { result ≡ name_of k }
 {
     [
-        48 + (k / 100 % 10) as u8,
-        48 + (k / 10 % 10) as u8,
-        48 + (k % 10) as u8,
+        b'0' + (k / 100 % 10) as u8,
+        b'0' + (k / 10 % 10) as u8,
+        b'0' + (k % 10) as u8,
         b' ',
         b' ',
         b' ',
@@ -82,7 +75,7 @@ pub(crate) fn put_heading(out: &mut [u8], at: usize) -> usize
     requires { at + 79 ≤ length out.old }
     ensures { Put heading out.old at out.new result }
 {
-    put_text(
+    put_bytes(
         b"file  kind     figures         offered          passed          hidden percent\n",
         out,
         at,
@@ -108,10 +101,10 @@ fn put_count(name: [u8; 6], kind: [u8; 8], c: Count, out: &mut [u8], at: usize) 
     requires at_in_bounds { at + 79 ≤ length out.old }
     ensures { Put (count_line name kind c) out.old at out.new result }
 {
-    let first = put_text(&name, out, at);
-    let second = put_text(&kind, out, first);
+    let first = put_bytes(&name, out, at);
+    let second = put_bytes(&kind, out, first);
     let third = put_numbers(c, out, second);
-    put_text(b"\n", out, third)
+    put_bytes(b"\n", out, third)
 }
 
 // Puts a line a kind.
@@ -127,18 +120,15 @@ pub(crate) fn put_tally(name: [u8; 6], t: Tally, out: &mut [u8], at: usize) -> u
     put_count(name, *b"line2   ", t.line2, out, fourth)
 }
 
-// Puts the line of a refusal, if there is one.
-fn put_refusal(name: [u8; 6], refusal: u64, out: &mut [u8], at: usize) -> usize
+// Puts the line of a refusal.
+fn put_refusal(name: [u8; 6], refusal: Refusal, out: &mut [u8], at: usize) -> usize
     requires { at + 23 ≤ length out.old }
-    ensures { Put (refusal_line name refusal) out.old at out.new result }
+    ensures { Put (refusal_line name (number refusal)) out.old at out.new result }
 {
-    if refusal == 0 {
-        return at;
-    }
-    let first = put_text(&name, out, at);
-    let second = put_text(b"refusal ", out, first);
-    let third = put_columns(refusal, 8, out, second);
-    put_text(b"\n", out, third)
+    let first = put_bytes(&name, out, at);
+    let second = put_bytes(b"refusal ", out, first);
+    let third = put_columns(refusal.into(), 8, out, second);
+    put_bytes(b"\n", out, third)
 }
 
 // Puts the line of a recording that is too long.
@@ -146,21 +136,34 @@ fn put_too_long(name: [u8; 6], out: &mut [u8], at: usize) -> usize
     requires { at + 15 ≤ length out.old }
     ensures { Put (too_long_line name) out.old at out.new result }
 {
-    let first = put_text(&name, out, at);
-    let second = put_text(b"too long", out, first);
-    put_text(b"\n", out, second)
+    let first = put_bytes(&name, out, at);
+    let second = put_bytes(b"too long", out, first);
+    put_bytes(b"\n", out, second)
+}
+
+// Puts the lines of a recording that was not run to its end.
+fn put_stopped(name: [u8; 6], tally: Tally, why: Stop, out: &mut [u8], at: usize) -> usize
+    requires each_within { EachWithin 3276 tally }
+    requires at_in_bounds { at + 418 ≤ length out.old }
+    ensures { Put (entry_lines name (entered (record { outcome = Err why; tally = tally }))) out.old at out.new result }
+{
+    match why {
+        Stop::TooLong => put_too_long(name, out, at),
+        Stop::Refused(refusal) => {
+            let next = put_tally(name, tally, out, at);
+            put_refusal(name, refusal, out, next)
+        }
+    }
 }
 
 // Puts the lines of a recording.
 pub(crate) fn put_entry(name: [u8; 6], e: Entry, out: &mut [u8], at: usize) -> usize
     requires each_within { EachWithin 3276 e.tally }
     requires at_in_bounds { at + 418 ≤ length out.old }
-    ensures { Put (entry_lines name e) out.old at out.new result }
+    ensures { Put (entry_lines name (entered e)) out.old at out.new result }
 {
-    if e.long {
-        return put_too_long(name, out, at);
+    match e.outcome {
+        Ok(()) => put_tally(name, e.tally, out, at),
+        Err(why) => put_stopped(name, e.tally, why, out, at),
     }
-    let t = e.tally;
-    let next = put_tally(name, t, out, at);
-    put_refusal(name, e.refusal, out, next)
 }

@@ -30,6 +30,7 @@ pub enum Word {
 }
 
 // What a command and its data mean.
+#[tactic(auto, unfolding(crate::specs::Word::decode))]
 pub fn decoded(command: u8, data: u16) -> Word
     ensures { result ≡ decode command «data» }
 {
@@ -41,12 +42,11 @@ pub fn decoded(command: u8, data: u16) -> Word
         4 => Word::At(Coordinate::X, data),
         5 => Word::At(Coordinate::T1x, data),
         6 => Word::At(Coordinate::T2x, data),
-        7 => Word::Reserved,
         8 => Word::At(Coordinate::Lx, data),
         9 => Word::Img(data),
         10 => Word::Unmodelled,
         11 => Word::At(Coordinate::Px, data),
-        12 => Word::Reserved,
+        7 | 12 => Word::Reserved,
         13 => Word::Parm(data),
         14 => Word::Aux(data),
         15 => Word::Init(data),

@@ -1,15 +1,17 @@
 -- Texts put one behind the other. Assumes nothing.
 use mathlib.Core.Path.{◌≡◌, refl, sym, ap, ap₂, ◌∙◌}
-use mathlib.Core.List.{List, [], ◌∷◌, ◌++◌}
-use Prim.Native.Nat.{ℕ, suc, ◌+◌, ◌/◌, ◌%◌, ◌≤◌, ◌<◌}
+use mathlib.Core.List.{List, [], ◌∷◌, ◌++◌, append_assoc}
+use Prim.Native.Nat.{ℕ, suc, ◌+◌, ◌/◌, ◌%◌, ◌≤◌}
 use native.Mathlib.Nat.{add-zero, zero-add, add-suc, suc-add}
+use native.Mathlib.Numerals.{add-one}
 use native.Mathlib.Omega.{arith}
-use lib.ListN.{length, set, length-append}
-use lib.Seq.{sets, sets-eq, set_comm}
+use lib.ListN.{length, set, take, drop, length-append}
+use lib.Seq.{sets, sets-eq, set_comm, drop-drop}
+use borrow.Rule.Slice.PartMut.{put_mid}
 use Rattle.stream.specs.Calls.{over}
-use Rattle.report.specs.Text.{decimal}
+use Rattle.report.specs.Text.{glyph, last_digits}
 use Rattle.report.specs.Calls.{Put}
-use Rattle.report.proofs.Decimal.{decimal_small, decimal_more, length_small, length_more}
+use Rattle.report.proofs.Decimal.{length_digits}
 
 sets_append : (a b l : List ℕ) (at : ℕ) → sets (sets l at a) (at + length a) b ≡ sets l at (a ++ b)
 sets_append [] b l at = rw (add-zero at)
@@ -46,17 +48,25 @@ pub put_over : {text l m : List ℕ} {n : ℕ} → length text ≤ length l → 
 unfolding over
 put_over {text} {l} {m} {n} h p = (p.ends ∙ zero-add (length text), p.stands ∙ sets-eq text l 0 (omega arith) ∙ rw (zero-add (length text)))
 
--- ---- a number, its digits stored from the last to the first
+-- ---- digits, stored from the last to the first
 
-module _ (out : List ℕ) (rest at last : ℕ) (e : at + length (decimal rest) ≡ last + 1) {digit : ℕ} (d : digit ≡ 48 + rest % 10) where
-  -- its last digit stored, the number without it is left to put
-  pub put_last : 10 ≤ rest → sets (set out last digit) at (decimal (rest / 10)) ≡ sets out at (decimal rest)
-  put_last h =
-      let here : last ≡ at + length (decimal (rest / 10)) = omega (arith, length_more rest h) in
-      rw (here, d) (store_first (decimal (rest / 10)) out at (48 + rest % 10) ∙ rw (decimal_more rest h))
+-- the last of k + 1 digits stored, the others of the number without it are left to put
+pub put_last : (base k n at : ℕ) (out : List ℕ) {g : ℕ} → g ≡ glyph (n % base)
+    → sets (set out (at + k) g) at (last_digits base k (n / base)) ≡ sets out at (last_digits base (k + 1) n)
+unfolding last_digits
+put_last base k n at out {g} e =
+    let here : at + k ≡ at + length (last_digits base k (n / base)) = omega (arith, length_digits base k (n / base)) in
+    rw (here, e, add-one k) (store_first (last_digits base k (n / base)) out at (glyph (n % base)))
 
-  -- and where it has no other digit, nothing is
-  pub put_only : rest < 10 → set out last digit ≡ sets out at (decimal rest)
-  put_only h =
-      let here : last ≡ at = omega (arith, length_small rest h) in
-      rw (here, d, decimal_small rest h)
+-- none is left
+pub put_all : (base n at : ℕ) (out : List ℕ) → sets out at (last_digits base 0 n) ≡ out
+unfolding last_digits
+put_all base n at out = refl
+
+-- ---- a text in place of as many bytes
+
+-- what a buffer holds once the bytes of a text are copied into their place
+pub put_copied : {text old ys : List ℕ} {at k next : ℕ} → at + length text ≤ length old → ys ≡ text → k ≡ length text → next ≡ at + length text
+    → Put text old at (put_mid at k old ys) next
+put_copied {text} {old} {ys} {at} {k} {next} h e f g =
+    record { stands = rw (e, f, drop-drop (length text) at old) (sym (sets-eq text old at h ∙ append_assoc (take at old) text (drop (at + length text) old))); ends = g }

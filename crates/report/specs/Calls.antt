@@ -1,10 +1,9 @@
 -- What writing a text tells and leaves, for every input (document 01, "Numbers that come back": 13).
-use Rattle.std.specs.Prelude.{ℕ, ◌+◌, ◌≤◌, ◌≡◌, Bool, cond, List, length, take, leb}
+use Rattle.std.specs.Prelude.{Result, Ok, Err, ℕ, ◌+◌, ◌≤◌, ◌≡◌, Bool, cond, List, length, take, leb}
 use Rattle.std.proofs.lemmas.List.Edits.{sets}
 use Rattle.stream.specs.Calls.{Outcome, concluded, no_room, over}
 use Rattle.report.specs.Text.{report}
-use Rattle.report.specs.declared.Written.{Written}
-use Rattle.report.specs.declared.Written.TheVariants.{Done, NoRoom}
+use Rattle.report.specs.declared.NoRoom.{NoRoom}
 
 -- writing checks 13
 unfoldable pub writing_text : List ℕ → List ℕ → Outcome
@@ -15,17 +14,17 @@ abbrev pub writing : ℕ → ℕ → ℕ → ℕ → List ℕ → List ℕ → L
 writing words refusal passed line im zm out = writing_text (report words refusal passed line im zm) out
 
 -- the number, and the length, that each answer of the code stands for
-abbrev pub written_number : Written → ℕ
-written_number (Done n) = 0
-written_number NoRoom = 13
+abbrev pub written_number : Result ℕ NoRoom → ℕ
+written_number (Ok n) = 0
+written_number (Err _) = 13
 
 -- an answer that is done tells the length of what was written, and one without room tells 0
-abbrev pub written_size : Written → ℕ
-written_size (Done n) = n
-written_size NoRoom = 0
+abbrev pub written_size : Result ℕ NoRoom → ℕ
+written_size (Ok n) = n
+written_size (Err _) = 0
 
 -- an answer, with what the call left
-abbrev pub wrote : Written → List ℕ → Outcome
+abbrev pub wrote : Result ℕ NoRoom → List ℕ → Outcome
 wrote answer left = record { refusal = written_number answer; size = written_size answer; left = left }
 
 -- ---- the parts of a text

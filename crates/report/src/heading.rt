@@ -6,6 +6,14 @@ ghost use Rattle.report.specs.Calls.{Put, Sized};
 use crate::number::{digits, put_field};
 use crate::put::put_bytes;
 
+// The three numbers of a run: its words, the number that refused one or 0, and the pixels that passed.
+#[derive(Clone, Copy)]
+pub(crate) struct Heading {
+    pub(crate) words: u64,
+    pub(crate) refusal: u64,
+    pub(crate) passed: u64,
+}
+
 // Puts a name, its number, and the byte after it.
 fn put_named(name: &[u8], n: u64, after: u8, out: &mut [u8], at: usize) -> usize
     requires { at + length (named name.now n after) ≤ length out.old }
@@ -15,19 +23,21 @@ fn put_named(name: &[u8], n: u64, after: u8, out: &mut [u8], at: usize) -> usize
     put_field(n, after, out, next)
 }
 
-// How many bytes the first line takes: its three names have 21.
-pub(crate) fn heading_size(words: u64, refusal: u64, passed: u64) -> usize
-    ensures { Sized (heading words refusal passed) 84 result }
-{
-    digits(words) + digits(refusal) + digits(passed) + 24
-}
+impl Heading {
+    // How many bytes the first line takes: its three names have 21.
+    pub(crate) fn size(self) -> usize
+        ensures { Sized (heading self.words self.refusal self.passed) 84 result }
+    {
+        digits(self.words) + digits(self.refusal) + digits(self.passed) + 24
+    }
 
-// Puts the first line.
-pub(crate) fn put_heading(words: u64, refusal: u64, passed: u64, out: &mut [u8], at: usize) -> usize
-    requires { at + length (heading words refusal passed) ≤ length out.old }
-    ensures { Put (heading words refusal passed) out.old at out.new result }
-{
-    let first = put_named(b"words ", words, b' ', out, at);
-    let second = put_named(b"refusal ", refusal, b' ', out, first);
-    put_named(b"passed ", passed, b'\n', out, second)
+    // Puts the first line.
+    pub(crate) fn put(self, out: &mut [u8], at: usize) -> usize
+        requires { at + length (heading self.words self.refusal self.passed) ≤ length out.old }
+        ensures { Put (heading self.words self.refusal self.passed) out.old at out.new result }
+    {
+        let first = put_named(b"words ", self.words, b' ', out, at);
+        let second = put_named(b"refusal ", self.refusal, b' ', out, first);
+        put_named(b"passed ", self.passed, b'\n', out, second)
+    }
 }

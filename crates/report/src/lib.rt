@@ -12,20 +12,11 @@ mod scale;
 mod text;
 
 pub use image::{image_heading, image_rows};
-pub use put::{has_room, lay};
+pub use number::put_digits;
+pub use put::{has_room, lay, put_bytes};
 pub use scale::{drawn_places, to_levels};
 pub use text::write;
 
-// What writing answers: the length that it wrote, or that the text does not fit. specs/Calls.antt has document 01's number of each.
-#[derive(Clone, Copy)]
-pub enum Written {
-    Done(usize),
-    NoRoom,
-}
-
-// The least and the greatest number that is shown.
-#[derive(Clone, Copy)]
-struct Range {
-    low: u16,
-    high: u16,
-}
+// A text that does not fit: writing answers the length that it wrote, or this. specs/Calls.antt has document 01's number of each.
+#[derive(Clone, Copy, Debug, PartialEq, Eq)]
+pub struct NoRoom;

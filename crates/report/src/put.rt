@@ -3,26 +3,20 @@ ghost use Rattle.std.specs.Prelude.{◌≡◌, ◌+◌, ◌≤◌, length, leb};
 ghost use Rattle.report.specs.Calls.{Put, Laid};
 
 // Puts bytes at a place, and tells the place after them.
-pub(crate) fn put_bytes(name: &[u8], out: &mut [u8], at: usize) -> usize
-    requires { at + length name.now ≤ length out.old }
-    ensures { Put name.now out.old at out.new result }
+pub fn put_bytes(text: &[u8], out: &mut [u8], at: usize) -> usize
+    requires { at + length text.now ≤ length out.old }
+    ensures { Put text.now out.old at out.new result }
 {
-    let mut k = 0;
-    while k < name.len() {
-        out[at + k] = name[k];
-        k += 1;
-    }
-    at + k
+    let next = at + text.len();
+    out[at..next].copy_from_slice(text);
+    next
 }
 
 // Whether so many bytes have room from a place on.
 pub fn has_room(room: usize, size: usize, at: usize) -> bool
     ensures { result ≡ leb (at + size) room }
 {
-    if room < size {
-        return false;
-    }
-    at <= room - size
+    size <= room && at <= room - size
 }
 
 // Lays a text at a place of `out`, and tells the place after it; where it has no room there, it is left out.

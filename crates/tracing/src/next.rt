@@ -1,5 +1,7 @@
 // One word of a recording, taken and traced.
 ghost use Rattle.std.specs.Prelude.{◌≡◌, ◌<◌, false};
+ghost use Rattle.ground.specs.Refusal.{told};
+ghost use Rattle.chip.specs.Promises.{passed_in};
 ghost use Rattle.tracing.specs.Trace.{standing, is_over, moved, TakesTraced, line_at};
 ghost use Rattle.tracing.specs.Lent.{Turned};
 
@@ -7,6 +9,7 @@ use crate::Turn;
 use crate::meaning::meaning;
 use chip::run::Ran;
 use chip::step::{Answer, step};
+use ground::{Refusal, number_of};
 use listing::trace::{Traced, trace_line};
 use registers::word::decoded;
 use stream::read::{held, word};
@@ -19,56 +22,62 @@ pub(crate) struct Taken {
 }
 
 // Whether nothing is left.
+#[tactic(auto, unfolding(crate::specs::Trace::is_over))]
 pub(crate) fn is_over(a: Ran, bytes: &[u8]) -> bool
-    ensures { result ≡ is_over bytes.now a.refusal a.index }
+    ensures { result ≡ is_over bytes.now (told a.outcome) a.index }
 {
-    let count = held(bytes) as u64;
-    !(a.refusal == 0) | (count <= a.index)
+    number_of(a.outcome) != 0 || held(bytes) as u64 <= a.index
+}
+
+// How many pixels passed by an answer.
+fn passed_by(answer: Result<Answer, Refusal>) -> u64
+    ensures { result ≡ passed_in answer }
+{
+    match answer {
+        Ok(a) => a.passed,
+        Err(_) => 0,
+    }
 }
 
 // The run after an answer.
-fn move_on(a: Ran, o: Answer) -> Ran
+#[tactic(auto, unfolding(crate::specs::Trace::moved))]
+fn move_on(a: Ran, answer: Result<Answer, Refusal>) -> Ran
     requires { a.index < 18446744073709551615 }
-    ensures { result ≡ moved a o }
+    ensures { result ≡ moved a answer }
 {
-    let next = o.registers;
-    if o.refusal != 0 {
-        return Ran {
-            refusal: o.refusal,
-            index: a.index,
-            sum: a.sum,
-            registers: next,
-        };
-    }
-    let sum = std::num::wrapping_add_u64(a.sum, o.passed);
-    Ran {
-        refusal: 0,
-        index: a.index + 1,
-        sum: sum,
-        registers: next,
+    match answer {
+        Ok(o) => Ran {
+            outcome: Ok(()),
+            index: a.index + 1,
+            sum: a.sum.wrapping_add(o.passed),
+            registers: o.registers,
+        },
+        Err(refusal) => Ran {
+            outcome: Err(refusal),
+            ..a
+        },
     }
 }
 
 // Takes the next word.
 pub(crate) fn take(a: Ran, bytes: &[u8], im: &mut [u16], zm: &mut [u16]) -> Taken
-    requires { is_over bytes.now a.refusal a.index ≡ false }
+    requires { is_over bytes.now (told a.outcome) a.index ≡ false }
     ensures { TakesTraced bytes.now (standing a im.old zm.old) result im.new zm.new }
 {
     let w = word(bytes, a.index as usize);
-    let r = a.registers;
-    let means = meaning(r, decoded((w / 65536) as u8, (w % 65536) as u16));
-    let o = step(r, (w / 65536) as u8, (w % 65536) as u16, im, zm);
-    let run = move_on(a, o);
-    let traced = Traced {
-        index: a.index,
-        word: w,
-        meaning: means,
-        refusal: o.refusal,
-        passed: o.passed,
-    };
+    let command = (w / 65536) as u8;
+    let operand = (w % 65536) as u16;
+    let meaning = meaning(a.registers, decoded(command, operand));
+    let answer = step(a.registers, command, operand, im, zm);
     Taken {
-        traced: traced,
-        run: run,
+        traced: Traced {
+            index: a.index,
+            word: w,
+            meaning,
+            refusal: number_of(answer),
+            passed: passed_by(answer),
+        },
+        run: move_on(a, answer),
     }
 }
 
@@ -87,11 +96,6 @@ pub fn trace(
         return Turn { run: a, next: at };
     }
     let t = take(a, bytes, im, zm);
-    let traced = t.traced;
-    let run = t.run;
-    let next = trace_line(traced, out, at);
-    Turn {
-        run: run,
-        next: next,
-    }
+    let next = trace_line(t.traced, out, at);
+    Turn { run: t.run, next }
 }

@@ -1,6 +1,5 @@
-// One word of a recording, taken, and traced where it has a pixel at (x, y).
+// One word of a recording, taken, and traced where it has a pixel at a place that is asked for.
 ghost use Rattle.std.specs.Prelude.{◌≡◌, not, ◌&&◌, [], if◌then◌else◌, ◌==◌, nat_eq};
-ghost use Rattle.registers.specs.Record.{window};
 ghost use Rattle.report.specs.Calls.{Laid};
 ghost use Rattle.listing.specs.Trace.{watch_line};
 ghost use Rattle.tracing.specs.Lent.{Counts, Turned};
@@ -10,7 +9,6 @@ use crate::Turn;
 use crate::next::{is_over, take};
 use chip::draw::draw;
 use chip::run::Ran;
-use ground::{larger, smaller};
 use listing::trace::{Numbers, Traced, watch_line};
 use picture::Frame;
 use picture::place::rows_of;
@@ -20,82 +18,82 @@ use registers::word::{Word, decoded};
 use registers::{Registers, Window};
 use stream::read::word;
 
-// What of a window is at pixel (x, y).
-fn narrow(w: Window, x: u16, y: u16) -> Window
-    ensures { result ≡ narrowed x y w }
-{
-    let left = larger(w.left, x);
-    let top = smaller(w.top, y);
-    let right = smaller(w.right, x);
-    let bottom = larger(w.bottom, y);
-    Window {
-        left: left,
-        top: top,
-        right: right,
-        bottom: bottom,
+// The pixel that is asked for.
+#[derive(Clone, Copy)]
+struct Pixel {
+    x: u16,
+    y: u16,
+}
+
+impl Pixel {
+    // What of a window is at the pixel.
+    fn narrow(self, w: Window) -> Window
+        ensures { result ≡ narrowed self.x self.y w }
+    {
+        Window {
+            left: w.left.max(self.x),
+            top: w.top.min(self.y),
+            right: w.right.min(self.x),
+            bottom: w.bottom.max(self.y),
+        }
     }
-}
 
-// The registers with that window and both write enables off.
-fn aim(mut r: Registers, x: u16, y: u16) -> Registers
-    ensures { result ≡ aimed x y r }
-{
-    let w = narrow(r.window, x, y);
-    r.modes.hcontrol = 0;
-    r.window = w;
-    r
-}
-
-// How many pixels of a figure pass at (x, y). With those registers none is stored.
-fn passes_at(r: Registers, figure: Completed, x: u16, y: u16, im: &mut [u16], zm: &mut [u16]) -> u64
-    ensures { Counts (passes_at x y r figure) im zm result }
-{
-    let q = aim(r, x, y);
-    draw(q, figure, im, zm)
-}
-
-// Whether PTRN's pixel is at (x, y), as a number.
-fn loads_at(r: Registers, x: u16, y: u16, ni: usize, nz: usize) -> u64
-    ensures { result ≡ loads_at x y r ni nz }
-{
-    let rows = rows_of(r.frame, ni, nz);
-    if (r.region.x == x) & (r.region.y == y) & (x < r.frame.line) & ((y as usize) < rows) {
-        return 1;
+    // The registers with that window and both write enables off.
+    fn aim(self, mut r: Registers) -> Registers
+        ensures { result ≡ aimed self.x self.y r }
+    {
+        r.modes.hcontrol = 0;
+        r.window = self.narrow(r.window);
+        r
     }
-    0
-}
 
-// How many pixels a word has at (x, y), if it is accepted.
-fn hits(r: Registers, word: Word, x: u16, y: u16, im: &mut [u16], zm: &mut [u16]) -> u64
-    ensures { Counts (hits_of x y r word) im zm result }
-{
-    match word {
-        Word::Init(_) => 0,
-        Word::Aux(_) => 0,
-        Word::Parm(_) => 0,
-        Word::At(c, n) => passes_at(r, r.completed_by(c, n), x, y, im, zm),
-        Word::Img(_) => 0,
-        Word::Ptrn(_) => loads_at(r, x, y, im.len(), zm.len()),
-        Word::Reserved => 0,
-        Word::Unmodelled => 0,
-        Word::Unknown => 0,
+    // How many pixels of a figure pass there. With those registers none is stored.
+    fn passes(self, r: Registers, figure: Completed, im: &mut [u16], zm: &mut [u16]) -> u64
+        ensures { Counts (passes_at self.x self.y r figure) im zm result }
+    {
+        draw(self.aim(r), figure, im, zm)
     }
-}
 
-// The two numbers at (x, y).
-fn numbers_at(frame: Frame, x: u16, y: u16, im: &[u16], zm: &[u16]) -> Numbers
-    ensures { result ≡ numbers_at frame x y im.now zm.now }
-{
-    let i = fetch(frame, false, x, y, im, zm);
-    let z = fetch(frame, true, x, y, im, zm);
-    Numbers { i: i, z: z }
+    // How many pixels PTRN has there: its own, or none.
+    #[tactic(auto, unfolding(crate::specs::Watch::loads_at))]
+    fn loads(self, r: Registers, ni: usize, nz: usize) -> u64
+        ensures { result ≡ loads_at self.x self.y r ni nz }
+    {
+        let rows = rows_of(r.frame, ni, nz);
+        let here = r.region.x == self.x && r.region.y == self.y;
+        let inside = self.x < r.frame.line && (self.y as usize) < rows;
+        if here && inside { 1 } else { 0 }
+    }
+
+    // How many pixels a word has there, if it is accepted.
+    #[tactic(auto, unfolding(crate::specs::Watch::hits_of))]
+    fn hits(self, r: Registers, word: Word, im: &mut [u16], zm: &mut [u16]) -> u64
+        ensures { Counts (hits_of self.x self.y r word) im zm result }
+    {
+        match word {
+            Word::At(c, n) => self.passes(r, r.completed_by(c, n), im, zm),
+            Word::Ptrn(_) => self.loads(r, im.len(), zm.len()),
+            Word::Init(_) | Word::Aux(_) | Word::Parm(_) | Word::Img(_) => 0,
+            Word::Reserved | Word::Unmodelled | Word::Unknown => 0,
+        }
+    }
+
+    // The two numbers there.
+    fn numbers(self, frame: Frame, im: &[u16], zm: &[u16]) -> Numbers
+        ensures { result ≡ numbers_at frame self.x self.y im.now zm.now }
+    {
+        Numbers {
+            i: fetch(frame, false, self.x, self.y, im, zm),
+            z: fetch(frame, true, self.x, self.y, im, zm),
+        }
+    }
 }
 
 // Lays a word's line, if it was accepted and has pixels.
 fn lay(t: Traced, count: u64, before: Numbers, after: Numbers, out: &mut [u8], at: usize) -> usize
     ensures { Laid (if nat_eq t.refusal 0 && not (count == 0) then watch_line t before after else []) out.old at out.new result }
 {
-    if (t.refusal == 0) & !(count == 0) {
+    if t.refusal == 0 && count != 0 {
         return watch_line(t, before, after, out, at);
     }
     at
@@ -118,25 +116,14 @@ pub fn watch(
     if is_over(a, bytes) {
         return Turn { run: a, next: at };
     }
+    let pixel = Pixel { x, y };
+    let frame = a.registers.frame;
     let w = word(bytes, a.index as usize);
-    let r = a.registers;
-    let frame = r.frame;
-    let before = numbers_at(frame, x, y, im, zm);
-    let count = hits(
-        r,
-        decoded((w / 65536) as u8, (w % 65536) as u16),
-        x,
-        y,
-        im,
-        zm,
-    );
+    let next_word = decoded((w / 65536) as u8, (w % 65536) as u16);
+    let before = pixel.numbers(frame, im, zm);
+    let count = pixel.hits(a.registers, next_word, im, zm);
     let t = take(a, bytes, im, zm);
-    let after = numbers_at(frame, x, y, im, zm);
-    let traced = t.traced;
-    let run = t.run;
-    let next = lay(traced, count, before, after, out, at);
-    Turn {
-        run: run,
-        next: next,
-    }
+    let after = pixel.numbers(frame, im, zm);
+    let next = lay(t.traced, count, before, after, out, at);
+    Turn { run: t.run, next }
 }

@@ -1,11 +1,11 @@
 -- The offers of a row are those of one run of pixels, and rows outside the corners and the window have none. Assumes nothing.
-use Rattle.std.proofs.Common.{◌≡◌, ℕ, ◌+◌, ◌-◌, ◌*◌, ◌%◌, ◌<◌, ◌≤◌, min, max, Bool, true, false, cond, List, [], length, sym, refl, ap, ◌∙◌, ap₂, mul-zero, arith}
+use Rattle.std.proofs.Common.{◌≡◌, ℕ, ◌+◌, ◌-◌, ◌<◌, ◌≤◌, min, max, Bool, true, false, cond, List, [], length, sym, refl, ap, ◌∙◌, ap₂, arith}
 use Rattle.picture.specs.declared.Pen.{Pen}
 use Rattle.picture.specs.declared.Carried.{Carried}
 use Rattle.picture.specs.declared.Kind.TheVariants.{Gouraud}
 use Rattle.picture.specs.Offer.{Offer, offer, in_window, keep}
 use Rattle.picture.specs.Picture.{Picture, drawn}
-use Rattle.picture.specs.Draw.{carried_one, seen, carried_to, span_offers}
+use Rattle.picture.specs.Draw.{seen, carried_to, span_offers}
 use Rattle.picture.proofs.Fold.{drawn_nil}
 use Rattle.picture.proofs.Spans.{spans_none, spans_same, spans_part, spans_length}
 use Rattle.picture.proofs.Offers.{keep_seen, keep_out, keep_length, window_in, window_of}
@@ -84,11 +84,6 @@ module _ (pen : Pen) (rows : ℕ) (constant : Bool) (t : Corners) (y : ℕ) wher
         ∙ ap₂ (λ (a b : ℕ). seen pen rows (offer (kind_of constant) (s.lo + j) y a b)) (sym n.0) (sym n.1)))
 
 -- ---- the numbers of a run
-
--- a constant number
-pub flat_told : (v j : ℕ) → v ≤ 65535 → carried_to (record { first = v * carried_one % 18446744073709551616; add = 0 }) j ≡ v
-unfolding carried_to
-flat_told v j h = rw (mul-zero j) (omega arith)
 
 -- a number that is carried along a row tells, j pixels on, the Gouraud number of that pixel
 pub carried_told : (t : Corners) (p q r lo hi y k g j : ℕ) → Runs t p q r lo hi y k g → lo + j < hi → carried_to (record { first = k; add = g }) j ≡ shade t p q r (lo + j) y

@@ -98,14 +98,14 @@ over_none n d q l h = h ∙ div-eq_of_lt l
 module _ (a b : Vertex) (y : ℕ) (s : Side) (k : Stands a b y s) (tall : s.height.tall ≤ 65535)
     (low : plus_of a.x a.y b.x b.y 0 y ≤ 12884508675) (few : minus_of a.x a.y b.x b.y 0 y ≤ 12884508675) where
   -- a number that is not large is what it says
-  fall_is : b.y < a.y → s.at ≤ 68719476736 → s.at + p a b y + 1 ≡ m a b y + s.height.tall
+  fall_is : b.y < a.y → s.at < 9223372036854775808 → s.at + p a b y + 1 ≡ m a b y + s.height.tall
   fall_is h l = omega (arith, (k.falls h).0, low)
 
-  rise_is : a.y ≤ b.y → s.at ≤ 68719476736 → s.at + m a b y ≡ p a b y + s.height.tall
+  rise_is : a.y ≤ b.y → s.at < 9223372036854775808 → s.at + m a b y ≡ p a b y + s.height.tall
   rise_is h l = omega (arith, (k.rises h).0, few, short_low (closed a b))
 
   -- a large one stands for one below 0, which bounds nothing, or leaves nothing
-  pub bound_low : 68719476736 < s.at → Bounds a b y 0
+  pub bound_low : 9223372036854775808 ≤ s.at → Bounds a b y 0
   bound_low l =
       either b.y a.y
       (λ h. fall_all a b y h (omega (arith, (k.falls h).0, k.fits, few, short_low (closed a b))))
@@ -136,7 +136,7 @@ module _ (a b : Vertex) (y : ℕ) (s : Side) (k : Stands a b y s) (tall : s.heig
     bound_at = either b.y a.y at_fall at_rise
 
   -- far above 0 no column is bounded, or none is left
-  pub bound_far : s.at ≤ 68719476736 → 65536 * s.height.tall ≤ s.at → Bounds a b y 65536
+  pub bound_far : s.at < 9223372036854775808 → 65536 * s.height.tall ≤ s.at → Bounds a b y 65536
   bound_far l far =
       either b.y a.y
       (λ h. let is = fall_is h l in fall_none a b y h (omega (arith, is, far, k.height.is)) (omega (arith, is, far, k.height.is)))

@@ -4,9 +4,9 @@ use Rattle.stream.proofs.Round.{word_fits}
 use Rattle.board.proofs.Taken.{step_word}
 use Rattle.board.proofs.run.step_at.Goals as goal
 
-pub overflow_cast-w : goal.overflow_cast-w
-overflow_cast-w c =
+pub overflow_cast-command : goal.overflow_cast-command
+overflow_cast-command c =
     omega (arith, c.word-w.ensures, word_fits c.args.bytes.now c.args.k)
 
 pub returns : goal.returns
-returns c = step_word _ _ c.word-w.ensures c.dextolumen_board_step.ensures
+returns c = step_word _ _ c.word-w.ensures c.step.ensures

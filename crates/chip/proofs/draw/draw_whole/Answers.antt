@@ -8,8 +8,8 @@ returns-in-Nothing c =
 
 pub returns-in-Triangle : goal.returns-in-Triangle
 returns-in-Triangle c =
-    triangle_drawn c.args.r c.args.im.now c.args.zm.now c.pen-pen.ensures c.in-Triangle.is c.triangle.ensures
+    triangle_drawn c.args.r c.args.im.now c.args.zm.now c.pen.ensures c.in-Triangle.is c.triangle.ensures
 
 pub returns-in-Segment : goal.returns-in-Segment
 returns-in-Segment c =
-    segment_drawn c.args.r c.args.im.now c.args.zm.now c.pen-pen.ensures c.style_of-style.ensures c.in-Segment.is c.segment.ensures
+    segment_drawn c.args.r c.args.im.now c.args.zm.now c.pen-in-Segment.ensures c.style_of.ensures c.in-Segment.is c.segment.ensures

@@ -9,7 +9,7 @@ use Rattle.line.proofs.anywhere.drawn_anywhere.Given as goal
 
 abbrev pub invariant-loop-p : goal.invariant-loop-p
 invariant-loop-p l =
-    Walked l.pen (λ rows. step_offers l.pen rows l.style l.style.mode l.a l.b) (first_of (joined_in l.style l.style.mode)) (is_deep (kind_of l.style.mode)) l.a l.b l.s l.w l.n l.initial.im l.initial.zm l.im l.zm l.p l.passed
+    Walked l.pen (λ rows. step_offers l.pen rows l.style l.style.mode l.s.a l.s.b) (first_of (joined_in l.style l.style.mode)) (is_deep (kind_of l.style.mode)) l.s.a l.s.b l.s l.w l.n l.initial.im l.initial.zm l.im l.zm l.p l.passed
 
 abbrev pub decreases-loop-p : goal.decreases-loop-p
 decreases-loop-p l = l.n + 1 - l.p.k

@@ -7,7 +7,7 @@ pub returns-then-n-eq0 : goal.returns-then-n-eq0
 returns-then-n-eq0 c = let a = c.args in let e : a.n ≡ 0 = omega arith in rw e (still_tells a.first a.second (omega arith))
 
 pub returns-then-first-second : goal.returns-then-first-second
-returns-then-first-second c = rise_tells _ _ _ (omega arith) (omega arith) (omega arith) (omega arith) (omega arith)
+returns-then-first-second c = rw c.div_ceil.ensures (rise_tells _ _ _ (omega arith) (omega arith) (omega arith) (omega arith) (omega arith))
 
 pub returns : goal.returns
-returns c = fall_tells _ _ _ (omega arith) (omega arith) (omega arith) (omega arith) (omega arith) _ c.wrapping_sub_u64-add.ensures.value
+returns c = fall_tells _ _ _ (omega arith) (omega arith) (omega arith) (omega arith) (omega arith) _ c.wrapping_neg.ensures

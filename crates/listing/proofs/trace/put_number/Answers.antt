@@ -6,4 +6,4 @@ use Rattle.listing.proofs.trace.put_number.Goals as goal
 pub returns : goal.returns
 unfolding number_text
 returns c =
-    put_append c.put_part-next.ensures c.put_digits.ensures
+    put_append c.put_bytes-next.ensures c.put_digits.ensures

@@ -9,10 +9,10 @@ use Rattle.listing.proofs.trace.trace_line.Goals as goal
 pub returns-then-not-has_room : goal.returns-then-not-has_room
 returns-then-not-has_room c = laid_none _ _ _ (length_trace c.args.t) c.has_room.ensures (ap not c.if-not-has_room.true)
 
-pub put_part-requires-clause-count_in_bounds_2 : goal.put_part-requires-clause-count_in_bounds_2
-put_part-requires-clause-count_in_bounds_2 c = omega (arith, roomy (length c.args.out.now) 52 c.args.at c.has_room.ensures (ap not c.if-not-has_room.false), length_traced c.args.t)
+pub put_bytes-requires : goal.put_bytes-requires
+put_bytes-requires c = omega (arith, roomy (length c.args.out.now) 52 c.args.at c.has_room.ensures (ap not c.if-not-has_room.false), length_traced c.args.t)
 
 pub returns : goal.returns
 unfolding trace_line
 returns c =
-    laid_put _ _ _ (length_trace c.args.t) c.has_room.ensures (ap not c.if-not-has_room.false) (put_append c.put_traced-end.ensures c.put_part.ensures)
+    laid_put _ _ _ (length_trace c.args.t) c.has_room.ensures (ap not c.if-not-has_room.false) (put_append c.put-end.ensures c.put_bytes.ensures)

@@ -14,4 +14,4 @@ pub returns : goal.returns
 unfolding listing
 returns c =
     let a = c.args in
-    done (listing a.from a.words.now) a.out.now (omega (arith, c.if-out-words.false, length_listing a.from a.words.now)) c.put_lines-n.ensures
+    done (listing a.from a.words.now) a.out.now (omega (arith, c.if-out-words.false, length_listing a.from a.words.now)) c.put_lines.ensures

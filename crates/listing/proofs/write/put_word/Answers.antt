@@ -2,11 +2,11 @@
 use Rattle.std.proofs.Common.{arith}
 use Rattle.report.proofs.Putting.{put_append}
 use Rattle.listing.specs.Text.{placed}
-use Rattle.listing.proofs.Lines.{length_digits}
+use Rattle.report.proofs.Decimal.{length_digits}
 use Rattle.listing.proofs.write.put_word.Goals as goal
 
-pub put_part-place-requires-clause-count_in_bounds_2 : goal.put_part-place-requires-clause-count_in_bounds_2
-put_part-place-requires-clause-count_in_bounds_2 c = omega (arith, length_digits 16 5 c.args.word)
+pub put_bytes-place-requires : goal.put_bytes-place-requires
+put_bytes-place-requires c = omega (arith, length_digits 16 5 c.args.word)
 
 pub put_digits-requires-clause-count_in_bounds : goal.put_digits-requires-clause-count_in_bounds
 put_digits-requires-clause-count_in_bounds c = omega (arith, length_digits 16 5 c.args.word)
@@ -14,4 +14,4 @@ put_digits-requires-clause-count_in_bounds c = omega (arith, length_digits 16 5 
 pub returns : goal.returns
 unfolding placed
 returns c =
-    put_append (put_append c.put_digits-remark.ensures c.put_part-place.ensures) c.put_digits.ensures
+    put_append (put_append c.put_digits-remark.ensures c.put_bytes-place.ensures) c.put_digits.ensures

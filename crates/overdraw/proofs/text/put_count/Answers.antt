@@ -5,13 +5,13 @@ use Rattle.overdraw.specs.Text.{count_line}
 use Rattle.overdraw.proofs.Lines.{length_numbers}
 use Rattle.overdraw.proofs.text.put_count.Goals as goal
 
-pub put_text-requires : goal.put_text-requires
-put_text-requires c =
+pub put_bytes-requires : goal.put_bytes-requires
+put_bytes-requires c =
     omega (arith, length_numbers c.args.c)
 
 pub returns : goal.returns
 unfolding count_line
 returns c =
     put_append
-    (put_append (put_append c.put_text-first.ensures c.put_text-second.ensures) c.put_numbers-third.ensures)
-    c.put_text.ensures
+    (put_append (put_append c.put_bytes-first.ensures c.put_bytes-second.ensures) c.put_numbers-third.ensures)
+    c.put_bytes.ensures

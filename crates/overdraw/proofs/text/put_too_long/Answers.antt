@@ -6,4 +6,4 @@ use Rattle.overdraw.proofs.text.put_too_long.Goals as goal
 pub returns : goal.returns
 unfolding too_long_line
 returns c =
-    put_append (put_append c.put_text-first.ensures c.put_text-second.ensures) c.put_text.ensures
+    put_append (put_append c.put_bytes-first.ensures c.put_bytes-second.ensures) c.put_bytes.ensures

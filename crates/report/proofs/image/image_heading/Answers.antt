@@ -15,4 +15,4 @@ pub returns : goal.returns
 returns c =
     let a = c.args in
     let enough : length (image_heading a.most a.line a.rows) ≤ length a.out.now = omega (arith, c.size_of_heading.ensures.size, c.if-out-size_of_heading.false) in
-    done (image_heading a.most a.line a.rows) a.out.now enough c.put_image_heading-n.ensures
+    done (image_heading a.most a.line a.rows) a.out.now enough c.put_image_heading.ensures

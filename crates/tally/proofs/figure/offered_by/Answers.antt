@@ -5,7 +5,7 @@ use Rattle.tally.proofs.figure.offered_by.Goals as goal
 pub returns : goal.returns
 returns c =
     let a = c.args in
-    let is = c.muted-quiet.ensures in
+    let is = c.muted.ensures in
     let drew = c.draw.ensures in (
       muted_count a.r a.figure a.im.now a.zm.now is drew,
       muted_i a.r a.figure a.im.now a.zm.now is drew,

@@ -1,7 +1,7 @@
--- `print::print_words` meets its contract. The invariant of its loop: the next line begins on the page, and all lengths stay. The measure is the number of words left. Assumes nothing.
+-- `print::print_words` meets its contract. The invariant of its loop: the next line begins on the page, and all lengths stay. Assumes nothing.
 use mathlib.Core.Path.{◌≡◌}
 use mathlib.Core.List.{List}
-use Prim.Native.Nat.{ℕ, ◌-◌, ◌≤◌}
+use Prim.Native.Nat.{ℕ, ◌≤◌}
 use lib.ListN.{length}
 use Rattle.trace.proofs.print.print_words.Given as goal
 
@@ -12,8 +12,5 @@ pub record Printing (im₀ zm₀ im zm page : List ℕ) (at : ℕ) : Type 0 wher
   pub i_long : length im ≡ length im₀
   pub z_long : length zm ≡ length zm₀
 
-abbrev pub invariant-loop-k : goal.invariant-loop-k
-invariant-loop-k g l = Printing l.initial.im l.initial.zm l.im l.zm l.page l.at
-
-abbrev pub decreases-loop-k : goal.decreases-loop-k
-decreases-loop-k g l = l.count - l.k
+abbrev pub invariant-loop : goal.invariant-loop
+invariant-loop g l = Printing l.initial.im l.initial.zm l.im l.zm l.page l.at

@@ -19,11 +19,11 @@ returns c =
     let a = c.args in
     let e = sym c.is_over.ensures ∙ c.if-is_over.false in
     let h = c.hits-count.ensures in
-    let k = takes_from h.i_stays h.z_stays c.take-t.ensures in
+    let k = takes_from a.a h.i_stays h.z_stays c.take-t.ensures in
     let count =
     hits_word a.bytes.now a.a.index a.x a.y a.a.registers a.im.now a.zm.now c.word-w.ensures
-    c.decoded.ensures h.told in
+    c.decoded-next_word.ensures h.told in
     let line =
-    watch_next a.bytes.now a.a a.im.now a.zm.now e k a.x a.y count c.numbers_at-before.ensures
-    c.numbers_at-after.ensures in
+    watch_next a.bytes.now a.a a.im.now a.zm.now e k a.x a.y count c.numbers-before.ensures
+    c.numbers-after.ensures in
     turns_next a.bytes.now a.a a.im.now a.zm.now e k line c.lay-next.ensures

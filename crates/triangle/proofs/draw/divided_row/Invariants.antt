@@ -1,6 +1,5 @@
--- `draw::divided_row` meets its contract. The invariant of its loop: the pixels below x are drawn. The measure is the number of columns left.
--- Assumes nothing.
-use Rattle.std.proofs.Common.{ℕ, ◌-◌, ◌≤◌, false, List, length}
+-- `draw::divided_row` meets its contract. The invariant of its loop: the pixels below x are drawn. Assumes nothing.
+use Rattle.std.proofs.Common.{ℕ, ◌≤◌, false, List, length}
 use Rattle.picture.specs.declared.Pen.{Pen}
 use Rattle.picture.specs.Place.{rows_of}
 use Rattle.triangle.specs.declared.Corners.{Corners}
@@ -16,7 +15,4 @@ pub record Dividing (pen : Pen) (t : Corners) (y : ℕ) (im₀ zm₀ : List ℕ)
   pub so_far_lem : Reached pen (λ k. pixel_offers pen (rows_of pen.frame (length im₀) (length zm₀)) false t k y) im₀ zm₀ im zm n x
 
 abbrev pub invariant-loop-x : goal.invariant-loop-x
-invariant-loop-x l = Dividing l.pen l.t l.y l.initial.im l.initial.zm l.hi l.initial.x l.im l.zm l.x l.n
-
-abbrev pub decreases-loop-x : goal.decreases-loop-x
-decreases-loop-x l = l.hi - l.x
+invariant-loop-x l = Dividing l.pen l.facet.corners l.y l.initial.im l.initial.zm l.x-end l.initial.x l.im l.zm l.x l.passed

@@ -8,5 +8,5 @@ use Rattle.triangle.proofs.draw.draw_row.Goals as goal
 pub returns : goal.returns
 returns c =
     let a = c.args in
-    row_empty a.pen (rows_of a.pen.frame (length a.im.now) (length a.zm.now)) a.constant a.t a.y _
-    c.spanned-s.ensures (omega (arith, c.if-s.false)) (picture a.im.now a.zm.now 0)
+    row_empty a.brush.pen (rows_of a.brush.pen.frame (length a.im.now) (length a.zm.now)) a.brush.constant a.facet.corners a.y _
+    c.spanned-span.ensures (omega (arith, c.if-span.false)) (picture a.im.now a.zm.now 0)

@@ -11,23 +11,23 @@ use Rattle.triangle.specs.Offers.{pixel_at}
 use Rattle.triangle.proofs.Rows.{row_span, row_empty}
 use Rattle.triangle.proofs.draw.flat_row.Goals as goal
 
-pub returns-then-s : goal.returns-then-s
+pub returns-then-span : goal.returns-then-span
 unfolding pixel_at
-returns-then-s c =
+returns-then-span c =
     let a = c.args in
     let rows = rows_of a.pen.frame (length a.im.now) (length a.zm.now) in
     let p = picture a.im.now a.zm.now 0 in
-    let k = c.spanned-s in
-    let i = steady_of a.t.last.i in
-    let z = steady_of a.t.last.z in
+    let k = c.spanned-span in
+    let i = steady_of a.corners.last.i in
+    let z = steady_of a.corners.last.z in
     rw c.requires.0.rows at c.span_steady.ensures
     ∙ sym (plain_span a.pen Constant c.requires.0.plain rows k.result.lo k.result.hi a.y i z p)
     ∙ ap (λ (os : List Offer). drawn a.pen os p)
-    (row_span a.pen rows true a.t a.y k.result k.ensures c.requires.3 c.if-s.true i z
-    (λ j l. (steady_at a.t.last.i j (omega (arith, c.well_formed.1.0)), steady_at a.t.last.z j (omega (arith, c.well_formed.1.0)))))
+    (row_span a.pen rows true a.corners a.y k.result k.ensures c.requires.3 c.if-span.true i z
+    (λ j l. (steady_at a.corners.last.i j (omega arith), steady_at a.corners.last.z j (omega arith))))
 
 pub returns : goal.returns
 returns c =
     let a = c.args in
-    row_empty a.pen (rows_of a.pen.frame (length a.im.now) (length a.zm.now)) true a.t a.y _
-    c.spanned-s.ensures (omega (arith, c.if-s.false)) (picture a.im.now a.zm.now 0)
+    row_empty a.pen (rows_of a.pen.frame (length a.im.now) (length a.zm.now)) true a.corners a.y _
+    c.spanned-span.ensures (omega (arith, c.if-span.false)) (picture a.im.now a.zm.now 0)
