@@ -89,11 +89,6 @@ module _ (pen : Pen) (l : List ℕ) (at : ℕ) where
   unfolding new_i
   keep_i i h = rw h (sym (set-get_or l at 0))
 
-  -- with the Z enable on, a passed pixel of a kind with depth leaves its depth in Z
-  pub store_z : (kind : Kind) (z : ℕ) → pen.zenable && is_deep kind ≡ true → set l at z ≡ set l at (new_z pen kind z (get_or l at 0))
-  unfolding new_z
-  store_z kind z h = rw h
-
   -- with the Z enable off, or by a kind without depth, a passed pixel leaves Z as it was
   pub keep_z : (kind : Kind) (z : ℕ) → pen.zenable && is_deep kind ≡ false → l ≡ set l at (new_z pen kind z (get_or l at 0))
   unfolding new_z

@@ -90,7 +90,7 @@ fn draw_many(run: Run, im: &mut [u16], zm: &mut [u16]) -> u64
     let last = all - 8;
     let mut n = [0; 8];
     for k in 0..all.div_ceil(8) {
-        // the check does not follow an array that a call's answer is laid in
+        // The answer has a name of its own first: the check does not follow an array that a call's answer is laid in.
         let counted = draw_eight(run.base + (8 * k).min(last), i, z, im, zm, n);
         n = counted;
     }

@@ -7,7 +7,8 @@ use crate::pixel::{store_i, store_z};
 use crate::place::place_inside;
 use crate::{Frame, Pen};
 
-// A number, stored in Z or in I where its pixel is inside the memory.
+// A number, stored in Z or in I where its pixel is inside the memory. `deep` is a truth value, as it is in the definitions that this promises
+// (`pixel_for`, `read_of`) and in the register's bit of which it comes: an enum would be made of that bit and be one again in each of them.
 pub fn store(pen: Pen, deep: bool, x: u16, y: u16, value: u16, im: &mut [u16], zm: &mut [u16])
     ensures { Fills pen (λ rows. storable pen rows (pixel_for deep x y value)) im zm }
 {
@@ -20,7 +21,7 @@ pub fn store(pen: Pen, deep: bool, x: u16, y: u16, value: u16, im: &mut [u16], z
     }
 }
 
-// The number in Z or in I at a pixel; 0 outside the memory.
+// The number in Z or in I at a pixel; 0 outside the memory, as the definition `read_of` says, which the promise of `chip`'s `read` rests on.
 pub fn fetch(frame: Frame, deep: bool, x: u16, y: u16, im: &[u16], zm: &[u16]) -> u16
     ensures { result ≡ read_of frame deep x y im.now zm.now }
 {
