@@ -4,66 +4,49 @@ ghost use Rattle.picture.specs.Draw.{placed, shown, span_offers};
 ghost use Rattle.picture.specs.Loops.{InWhole, InShares, OwnColumns, own_offers};
 ghost use Rattle.picture.specs.Place.{place_of};
 ghost use Rattle.picture.specs.Offer.{keep, offer};
-ghost use Rattle.picture.specs.Picture.{picture};
-ghost use Rattle.picture.specs.Lent.{Draws, rows_over};
+ghost use Rattle.picture.specs.Lent.{Draws, Kept, held, rows_over};
 
 use crate::carry::whole;
 use crate::pixel::{is_offered, is_shown, put_at};
 use crate::place::{along, lies_plain, lies_tiled, place, ways_of};
-use crate::{Kind, Pen, Share, Stretch, Vertex};
+use crate::{Kind, Memories, Pen, Share, Stretch, Vertex};
 
 // A pixel of a figure, drawn where it is offered. Answers how many pixels passed.
-pub fn put(pen: Pen, kind: Kind, v: Vertex, im: &mut [u16], zm: &mut [u16]) -> u64
-    ensures { Draws pen (λ rows. keep pen rows (offer kind v.x v.y v.i v.z)) im zm 0 result }
+pub fn put(pen: Pen, kind: Kind, v: Vertex, m: &mut Memories) -> u64
+    ensures { Draws pen (λ rows. keep pen rows (offer kind v.x v.y v.i v.z)) m 0 result }
 {
-    if is_offered(pen, kind, v.x, v.y, im.len(), zm.len()) {
+    if is_offered(pen, kind, v.x, v.y, m.i.len(), m.z.len()) {
         let at = place(pen.frame, v.x, v.y);
-        return put_at(pen, kind, at, v.i, v.z, im, zm, 0);
+        return put_at(pen, kind, at, v.i, v.z, m, 0);
     }
     0
 }
 
 // A pixel of a figure at its place, for a caller that knows that it is offered. Answers how many pixels passed.
-pub fn put_placed(
-    pen: Pen,
-    kind: Kind,
-    at: usize,
-    i: u16,
-    z: u16,
-    im: &mut [u16],
-    zm: &mut [u16],
-) -> u64
-    ensures { picture im.new zm.new result ≡ placed pen kind at i z (picture im.old zm.old 0) }
+pub fn put_placed(pen: Pen, kind: Kind, at: usize, i: u16, z: u16, m: &mut Memories) -> u64
+    ensures { Kept m × (held m.new result ≡ placed pen kind at i z (held m.old 0)) }
 {
-    if (at < im.len()) & (at < zm.len()) {
-        return put_at(pen, kind, at, i, z, im, zm, 0);
+    if (at < m.i.len()) & (at < m.z.len()) {
+        return put_at(pen, kind, at, i, z, m, 0);
     }
     0
 }
 
 // A pixel inside the memory, at its place, as the transparency pattern lets it through; n is the count so far.
-fn draw_one(
-    pen: Pen,
-    kind: Kind,
-    v: Vertex,
-    at: usize,
-    im: &mut [u16],
-    zm: &mut [u16],
-    n: u64,
-) -> u64
-    requires { (at ≡ place_of pen.frame v.x v.y) × (at < length im.old) × (at < length zm.old) × (n ≤ 65535) }
-    ensures { (Draws pen (λ _. shown pen (offer kind v.x v.y v.i v.z)) im zm n result) × (result ≤ n + 1) }
+fn draw_one(pen: Pen, kind: Kind, v: Vertex, at: usize, m: &mut Memories, n: u64) -> u64
+    requires { (at ≡ place_of pen.frame v.x v.y) × (at < length m.old.i.now) × (at < length m.old.z.now) × (n ≤ 65535) }
+    ensures { (Draws pen (λ _. shown pen (offer kind v.x v.y v.i v.z)) m n result) × (result ≤ n + 1) }
 {
     if !kind.is_masked() | is_shown(pen, v.x, v.y) {
-        return put_at(pen, kind, at, v.i, v.z, im, zm, n);
+        return put_at(pen, kind, at, v.i, v.z, m, n);
     }
     n
 }
 
 // The pixels of a row in use from column lo up to and without hi, which is no more than the line length, in rows or in tiles.
-fn fill(pen: Pen, kind: Kind, s: Stretch, im: &mut [u16], zm: &mut [u16]) -> u64
-    requires { InWhole pen.frame s.lo s.hi s.y (rows_over pen.frame im zm) }
-    ensures { Draws pen (λ rows. span_offers pen rows kind s.lo s.hi s.y s.i s.z) im zm 0 result }
+fn fill(pen: Pen, kind: Kind, s: Stretch, m: &mut Memories) -> u64
+    requires { InWhole pen.frame s.lo s.hi s.y (rows_over pen.frame m.old) }
+    ensures { Draws pen (λ rows. span_offers pen rows kind s.lo s.hi s.y s.i s.z) m 0 result }
 {
     let tiled = lies_tiled(pen.frame);
     let base = place(pen.frame, 0, s.y);
@@ -77,7 +60,7 @@ fn fill(pen: Pen, kind: Kind, s: Stretch, im: &mut [u16], zm: &mut [u16]) -> u64
             i: whole(i.first),
             z: whole(z.first),
         };
-        n = draw_one(pen, kind, v, base + along(tiled, x), im, zm, n);
+        n = draw_one(pen, kind, v, base + along(tiled, x), m, n);
         i = i.after(1);
         z = z.after(1);
     }
@@ -86,17 +69,9 @@ fn fill(pen: Pen, kind: Kind, s: Stretch, im: &mut [u16], zm: &mut [u16]) -> u64
 
 // The pixels of a row in use that a unit has: each so many columns on, and side by side. In one loop with rows and tiles, each of them would ask
 // about tiles besides.
-fn fill_own(
-    pen: Pen,
-    kind: Kind,
-    ways: u16,
-    own: Share,
-    y: u16,
-    im: &mut [u16],
-    zm: &mut [u16],
-) -> u64
-    requires { OwnColumns pen.frame ways own.x own.count y (rows_over pen.frame im zm) }
-    ensures { Draws pen (λ _. own_offers pen kind ways own.x own.count y own.i own.z) im zm 0 result }
+fn fill_own(pen: Pen, kind: Kind, ways: u16, own: Share, y: u16, m: &mut Memories) -> u64
+    requires { OwnColumns pen.frame ways own.x own.count y (rows_over pen.frame m.old) }
+    ensures { Draws pen (λ _. own_offers pen kind ways own.x own.count y own.i own.z) m 0 result }
 {
     let base = place(pen.frame, own.x, y);
     let mut i = own.i;
@@ -109,7 +84,7 @@ fn fill_own(
             i: whole(i.first),
             z: whole(z.first),
         };
-        n = draw_one(pen, kind, v, base + (j as usize), im, zm, n);
+        n = draw_one(pen, kind, v, base + (j as usize), m, n);
         i = i.after(1);
         z = z.after(1);
     }
@@ -117,34 +92,34 @@ fn fill_own(
 }
 
 // The same where a unit of a board has each of so many columns.
-fn fill_shared(pen: Pen, kind: Kind, s: Stretch, im: &mut [u16], zm: &mut [u16]) -> u64
-    requires { InShares pen.frame s.lo s.hi s.y (rows_over pen.frame im zm) }
-    ensures { Draws pen (λ rows. span_offers pen rows kind s.lo s.hi s.y s.i s.z) im zm 0 result }
+fn fill_shared(pen: Pen, kind: Kind, s: Stretch, m: &mut Memories) -> u64
+    requires { InShares pen.frame s.lo s.hi s.y (rows_over pen.frame m.old) }
+    ensures { Draws pen (λ rows. span_offers pen rows kind s.lo s.hi s.y s.i s.z) m 0 result }
 {
     let ways = ways_of(pen.frame);
     if let Some(own) = s.share(pen.frame, ways) {
-        return fill_own(pen, kind, ways, own, s.y, im, zm);
+        return fill_own(pen, kind, ways, own, s.y, m);
     }
     0
 }
 
 // The same in any layout.
-fn fill_row(pen: Pen, kind: Kind, s: Stretch, im: &mut [u16], zm: &mut [u16]) -> u64
-    requires { (s.lo < s.hi) × (s.hi ≤ pen.frame.line) × (s.y < rows_over pen.frame im zm) }
-    ensures { Draws pen (λ rows. span_offers pen rows kind s.lo s.hi s.y s.i s.z) im zm 0 result }
+fn fill_row(pen: Pen, kind: Kind, s: Stretch, m: &mut Memories) -> u64
+    requires { (s.lo < s.hi) × (s.hi ≤ pen.frame.line) × (s.y < rows_over pen.frame m.old) }
+    ensures { Draws pen (λ rows. span_offers pen rows kind s.lo s.hi s.y s.i s.z) m 0 result }
 {
     if lies_plain(pen.frame) | lies_tiled(pen.frame) {
-        return fill(pen, kind, s, im, zm);
+        return fill(pen, kind, s, m);
     }
-    fill_shared(pen, kind, s, im, zm)
+    fill_shared(pen, kind, s, m)
 }
 
 // The pixels of row y from column lo up to and without hi, their numbers carried; the window is not asked about. Answers how many passed.
-pub fn span(pen: Pen, kind: Kind, s: Stretch, im: &mut [u16], zm: &mut [u16]) -> u64
-    ensures { Draws pen (λ rows. span_offers pen rows kind s.lo s.hi s.y s.i s.z) im zm 0 result }
+pub fn span(pen: Pen, kind: Kind, s: Stretch, m: &mut Memories) -> u64
+    ensures { Draws pen (λ rows. span_offers pen rows kind s.lo s.hi s.y s.i s.z) m 0 result }
 {
-    if let Some(part) = s.within(pen.frame, im.len(), zm.len()) {
-        return fill_row(pen, kind, part, im, zm);
+    if let Some(part) = s.within(pen.frame, m.i.len(), m.z.len()) {
+        return fill_row(pen, kind, part, m);
     }
     0
 }

@@ -58,6 +58,13 @@ pub struct Vertex {
 // What 1 is as a carried number.
 pub const CARRIED_ONE: u64 = 1 << 48;
 
+// The two memories, lent together: I has the pixels' intensities, Z their depths.
+#[derive(Drop)]
+pub struct Memories<'a> {
+    pub i: &'a mut [u16],
+    pub z: &'a mut [u16],
+}
+
 // A number carried along a row, as 2^48 times itself and a part: what it is at the row's first pixel, and what each pixel adds, modulo
 // 2^64.
 #[derive(Clone, Copy)]

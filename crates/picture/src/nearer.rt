@@ -10,7 +10,7 @@ ghost use Rattle.picture.specs.Lent.{Draws};
 use crate::carry::{pick, whole};
 use crate::pixel::put_nearer;
 use crate::place::{along_tiles, lies_plain, lies_tiled, place, ways_of};
-use crate::{Carried, Frame, Kind, Pen, Run, Stretch};
+use crate::{Carried, Frame, Kind, Memories, Pen, Run, Stretch};
 
 // Whether nothing but a nearer depth decides of a figure's pixels, and both numbers are stored whole.
 pub fn is_plain(pen: Pen, kind: Kind) -> bool
@@ -170,23 +170,23 @@ pub(crate) fn run_of(frame: Frame, s: Stretch) -> Run
 }
 
 // The pixels of a row in use from column lo up to and without hi, which is no more than the line length.
-fn draw_row(frame: Frame, s: Stretch, im: &mut [u16], zm: &mut [u16]) -> u64
-    requires { (s.lo < s.hi) × (s.hi ≤ frame.line) × (s.y < rows_of frame (length im.old) (length zm.old)) }
-    ensures { Draws (nearer_pen frame) (λ rows. span_offers (nearer_pen frame) rows Gouraud s.lo s.hi s.y s.i s.z) im zm 0 result }
+fn draw_row(frame: Frame, s: Stretch, m: &mut Memories) -> u64
+    requires { (s.lo < s.hi) × (s.hi ≤ frame.line) × (s.y < rows_of frame (length m.old.i.now) (length m.old.z.now)) }
+    ensures { Draws (nearer_pen frame) (λ rows. span_offers (nearer_pen frame) rows Gouraud s.lo s.hi s.y s.i s.z) m 0 result }
 {
     if lies_tiled(frame) {
-        return draw_tiles(place(frame, 0, s.y), s, im, zm);
+        return draw_tiles(place(frame, 0, s.y), s, m.i, m.z);
     }
-    draw_beside(run_of(frame, s), im, zm)
+    draw_beside(run_of(frame, s), m.i, m.z)
 }
 
 // The pixels of row y from column lo up to and without hi, their numbers carried, with the pen of which nothing but a nearer depth decides.
 // Answers how many passed.
-pub fn span_nearer(frame: Frame, s: Stretch, im: &mut [u16], zm: &mut [u16]) -> u64
-    ensures { Draws (nearer_pen frame) (λ rows. span_offers (nearer_pen frame) rows Gouraud s.lo s.hi s.y s.i s.z) im zm 0 result }
+pub fn span_nearer(frame: Frame, s: Stretch, m: &mut Memories) -> u64
+    ensures { Draws (nearer_pen frame) (λ rows. span_offers (nearer_pen frame) rows Gouraud s.lo s.hi s.y s.i s.z) m 0 result }
 {
-    if let Some(part) = s.within(frame, im.len(), zm.len()) {
-        return draw_row(frame, part, im, zm);
+    if let Some(part) = s.within(frame, m.i.len(), m.z.len()) {
+        return draw_row(frame, part, m);
     }
     0
 }

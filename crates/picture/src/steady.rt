@@ -8,7 +8,7 @@ ghost use Rattle.picture.specs.Lent.{Draws};
 use crate::carry::{pick, whole};
 use crate::nearer::{draw_run, run_of};
 use crate::place::lies_tiled;
-use crate::{Carried, Frame, Run, Stretch};
+use crate::{Carried, Frame, Memories, Run, Stretch};
 
 // The eight numbers of a memory from a place on. The loops over eight count places and call no `copy_from_slice` or `zip`: of those LLVM makes no
 // vectors here.
@@ -110,17 +110,8 @@ fn draw_same(run: Run, im: &mut [u16], zm: &mut [u16]) -> u64
 
 // The pixels of row y from column lo up to and without hi, all with the same numbers, with the pen of which nothing but a nearer depth decides, over memories of
 // rows or of a unit; over tiles none. It takes no `Stretch`, whose numbers may change along the row. Answers how many passed.
-pub fn span_steady(
-    frame: Frame,
-    lo: u16,
-    hi: u16,
-    y: u16,
-    i: u16,
-    z: u16,
-    im: &mut [u16],
-    zm: &mut [u16],
-) -> u64
-    ensures { Draws (nearer_pen frame) (λ rows. steady_offers frame rows lo hi y i z) im zm 0 result }
+pub fn span_steady(frame: Frame, lo: u16, hi: u16, y: u16, i: u16, z: u16, m: &mut Memories) -> u64
+    ensures { Draws (nearer_pen frame) (λ rows. steady_offers frame rows lo hi y i z) m 0 result }
 {
     if lies_tiled(frame) {
         return 0;
@@ -132,8 +123,8 @@ pub fn span_steady(
         i: Carried::steady(i),
         z: Carried::steady(z),
     };
-    if let Some(part) = s.within(frame, im.len(), zm.len()) {
-        return draw_same(run_of(frame, part), im, zm);
+    if let Some(part) = s.within(frame, m.i.len(), m.z.len()) {
+        return draw_same(run_of(frame, part), m.i, m.z);
     }
     0
 }

@@ -5,18 +5,18 @@ ghost use Rattle.picture.specs.Lent.{Fills};
 
 use crate::pixel::{store_i, store_z};
 use crate::place::place_inside;
-use crate::{Frame, Pen};
+use crate::{Frame, Memories, Pen};
 
 // A number, stored in Z or in I where its pixel is inside the memory. `deep` is a truth value, as it is in the definitions that this promises
 // (`pixel_for`, `read_of`) and in the register's bit of which it comes: an enum would be made of that bit and be one again in each of them.
-pub fn store(pen: Pen, deep: bool, x: u16, y: u16, value: u16, im: &mut [u16], zm: &mut [u16])
-    ensures { Fills pen (λ rows. storable pen rows (pixel_for deep x y value)) im zm }
+pub fn store(pen: Pen, deep: bool, x: u16, y: u16, value: u16, m: &mut Memories)
+    ensures { Fills pen (λ rows. storable pen rows (pixel_for deep x y value)) m }
 {
-    if let Some(at) = place_inside(pen.frame, x, y, im.len(), zm.len()) {
+    if let Some(at) = place_inside(pen.frame, x, y, m.i.len(), m.z.len()) {
         if deep {
-            store_z(pen.zenable, at, value, zm);
+            store_z(pen.zenable, at, value, m.z);
         } else {
-            store_i(pen, at, value, im);
+            store_i(pen, at, value, m.i);
         }
     }
 }

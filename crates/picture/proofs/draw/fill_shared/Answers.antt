@@ -35,24 +35,28 @@ returns-in-Some c =
     let w = c.ways_of-ways in
     let own = c.in-Some.ensures in
     let shares = subst (λ (n : ℕ). Shares a.pen.frame n) (sym w.ensures.0) (shares_of a.pen.frame c.requires.3 c.requires.4) in
-    let rows = rows_of a.pen.frame (length a.im.now) (length a.zm.now) in
+    let rows = rows_of a.pen.frame (length a.m.now.i.now) (length a.m.now.z.now) in
     let first = until_own w.result a.pen.frame.layout a.s.lo in
-    let low = until_low a.pen.frame.layout a.s.lo w.result (few_some w.result shares.few) in
-    c.fill_own.ensures
-    ∙ ap (λ (os : List Offer). drawn a.pen os (picture a.im.now a.zm.now 0))
-    (ap (λ (x : ℕ). own_offers a.pen a.kind w.result x c.in-Some.own.count a.s.y c.in-Some.own.i c.in-Some.own.z) own.x
-    ∙ share_found a.pen w.result rows a.kind a.s.lo a.s.hi a.s.y a.s.i a.s.z shares c.requires.1 c.requires.2 {first = first} refl
-    (own.count ∙ own_some first (a.s.hi - a.s.lo) w.result shares.few low own.past) own.i own.z)
+    let low = until_low a.pen.frame.layout a.s.lo w.result (few_some w.result shares.few) in (
+      c.fill_own.ensures.0,
+      c.fill_own.ensures.1
+          ∙ ap (λ (os : List Offer). drawn a.pen os (picture a.m.now.i.now a.m.now.z.now 0))
+          (ap (λ (x : ℕ). own_offers a.pen a.kind w.result x c.in-Some.own.count a.s.y c.in-Some.own.i c.in-Some.own.z) own.x
+          ∙ share_found a.pen w.result rows a.kind a.s.lo a.s.hi a.s.y a.s.i a.s.z shares c.requires.1 c.requires.2 {first = first} refl
+          (own.count ∙ own_some first (a.s.hi - a.s.lo) w.result shares.few low own.past) own.i own.z),
+    )
 
 pub returns : goal.returns
 returns c =
     let a = c.args in
     let w = c.ways_of-ways in
     let shares = subst (λ (n : ℕ). Shares a.pen.frame n) (sym w.ensures.0) (shares_of a.pen.frame c.requires.3 c.requires.4) in
-    let rows = rows_of a.pen.frame (length a.im.now) (length a.zm.now) in
-    let p = picture a.im.now a.zm.now 0 in
-    let low = until_low a.pen.frame.layout a.s.lo w.result (few_some w.result shares.few) in
-    sym
-    (ap (λ (os : List Offer). drawn a.pen os p)
-    (share_none a.pen w.result rows a.kind a.s.lo a.s.hi a.s.y a.s.i a.s.z shares c.requires.1 c.requires.2 refl low c.in_default.ensures)
-    ∙ drawn_nil a.pen p)
+    let rows = rows_of a.pen.frame (length a.m.now.i.now) (length a.m.now.z.now) in
+    let p = picture a.m.now.i.now a.m.now.z.now 0 in
+    let low = until_low a.pen.frame.layout a.s.lo w.result (few_some w.result shares.few) in (
+      (refl, refl),
+      sym
+          (ap (λ (os : List Offer). drawn a.pen os p)
+          (share_none a.pen w.result rows a.kind a.s.lo a.s.hi a.s.y a.s.i a.s.z shares c.requires.1 c.requires.2 refl low c.in_default.ensures)
+          ∙ drawn_nil a.pen p),
+    )

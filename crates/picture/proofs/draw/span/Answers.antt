@@ -8,5 +8,5 @@ use Rattle.picture.proofs.draw.span.Goals as goal
 pub returns : goal.returns
 returns c =
     let a = c.args in
-    let p = picture a.im.now a.zm.now 0 in
-    sym (ap (λ (os : List Offer). drawn a.pen os p) (c.in_default.ensures a.pen a.kind refl) ∙ drawn_nil a.pen p)
+    let p = picture a.m.now.i.now a.m.now.z.now 0 in
+    ((refl, refl), sym (ap (λ (os : List Offer). drawn a.pen os p) (c.in_default.ensures a.pen a.kind refl) ∙ drawn_nil a.pen p))

@@ -11,5 +11,5 @@ pub returns : goal.returns
 returns c =
     let a = c.args in
     let pen = nearer_pen a.frame in
-    let p = picture a.im.now a.zm.now 0 in
-    sym (ap (λ (os : List Offer). drawn pen os p) (c.in_default.ensures pen Gouraud refl) ∙ drawn_nil pen p)
+    let p = picture a.m.now.i.now a.m.now.z.now 0 in
+    ((refl, refl), sym (ap (λ (os : List Offer). drawn pen os p) (c.in_default.ensures pen Gouraud refl) ∙ drawn_nil pen p))

@@ -12,17 +12,19 @@ use Rattle.picture.proofs.steady.span_steady.Goals as goal
 pub returns-then-lies_tiled : goal.returns-then-lies_tiled
 returns-then-lies_tiled c =
     let a = c.args in
-    rw (sym c.lies_tiled.ensures ∙ c.if-lies_tiled.true) (sym (drawn_nil (nearer_pen a.frame) (picture a.im.now a.zm.now 0)))
+    rw (sym c.lies_tiled.ensures ∙ c.if-lies_tiled.true) ((refl, refl), sym (drawn_nil (nearer_pen a.frame) (picture a.m.now.i.now a.m.now.z.now 0)))
 
 pub returns : goal.returns
 returns c =
     let a = c.args in
     let pen = nearer_pen a.frame in
-    let rows = rows_of a.frame (length a.im.now) (length a.zm.now) in
-    let p = picture a.im.now a.zm.now 0 in
+    let rows = rows_of a.frame (length a.m.now.i.now) (length a.m.now.z.now) in
+    let p = picture a.m.now.i.now a.m.now.z.now 0 in
     let plain : lies_tiled a.frame ≡ false = sym c.lies_tiled.ensures ∙ c.if-lies_tiled.false in
-    rw plain
-    (sym
-    (ap (λ (os : List Offer). drawn pen os p)
-    (sym (ap₂ (λ (i z : Carried). span_offers pen rows Gouraud a.lo a.hi a.y i z) c.steady.ensures c.steady-2.ensures) ∙ c.in_default.ensures pen Gouraud refl)
-    ∙ drawn_nil pen p))
+    rw plain (
+      (refl, refl),
+      sym
+          (ap (λ (os : List Offer). drawn pen os p)
+          (sym (ap₂ (λ (i z : Carried). span_offers pen rows Gouraud a.lo a.hi a.y i z) c.steady.ensures c.steady-2.ensures) ∙ c.in_default.ensures pen Gouraud refl)
+          ∙ drawn_nil pen p),
+    )
