@@ -1,8 +1,8 @@
 // What figures are drawn with: a pixel, and a run of pixels of one row.
 ghost use Rattle.std.specs.Prelude.{◌≡◌, ◌+◌, ◌<◌, ◌≤◌, min, length};
 ghost use Rattle.picture.specs.Draw.{placed, shown, span_offers};
-ghost use Rattle.picture.specs.Loops.{InWhole, InShares, OwnColumns, own_offers};
-ghost use Rattle.picture.specs.Place.{place_of};
+ghost use Rattle.picture.specs.Loops.{DrawsOver, InWhole, InShares, OwnColumns, own_offers};
+ghost use Rattle.picture.specs.Place.{place_of, rows_of};
 ghost use Rattle.picture.specs.Offer.{keep, offer};
 ghost use Rattle.picture.specs.Lent.{Draws, Kept, held, rows_over};
 
@@ -17,7 +17,7 @@ pub fn put(pen: Pen, kind: Kind, v: Vertex, m: &mut Memories) -> u64
 {
     if is_offered(pen, kind, v.x, v.y, m.i.len(), m.z.len()) {
         let at = place(pen.frame, v.x, v.y);
-        return put_at(pen, kind, at, v.i, v.z, m, 0);
+        return put_at(pen, kind, at, v.i, v.z, m.i, m.z, 0);
     }
     0
 }
@@ -27,26 +27,35 @@ pub fn put_placed(pen: Pen, kind: Kind, at: usize, i: u16, z: u16, m: &mut Memor
     ensures { Kept m × (held m.new result ≡ placed pen kind at i z (held m.old 0)) }
 {
     if (at < m.i.len()) & (at < m.z.len()) {
-        return put_at(pen, kind, at, i, z, m, 0);
+        return put_at(pen, kind, at, i, z, m.i, m.z, 0);
     }
     0
 }
 
 // A pixel inside the memory, at its place, as the transparency pattern lets it through; n is the count so far.
-fn draw_one(pen: Pen, kind: Kind, v: Vertex, at: usize, m: &mut Memories, n: u64) -> u64
-    requires { (at ≡ place_of pen.frame v.x v.y) × (at < length m.old.i.now) × (at < length m.old.z.now) × (n ≤ 65535) }
-    ensures { (Draws pen (λ _. shown pen (offer kind v.x v.y v.i v.z)) m n result) × (result ≤ n + 1) }
+fn draw_one(
+    pen: Pen,
+    kind: Kind,
+    v: Vertex,
+    at: usize,
+    im: &mut [u16],
+    zm: &mut [u16],
+    n: u64,
+) -> u64
+    requires { (at ≡ place_of pen.frame v.x v.y) × (at < length im.old) × (at < length zm.old) × (n ≤ 65535) }
+    ensures { (DrawsOver pen (shown pen (offer kind v.x v.y v.i v.z)) im zm n result) × (result ≤ n + 1) }
 {
     if !kind.is_masked() | is_shown(pen, v.x, v.y) {
-        return put_at(pen, kind, at, v.i, v.z, m, n);
+        return put_at(pen, kind, at, v.i, v.z, im, zm, n);
     }
     n
 }
 
-// The pixels of a row in use from column lo up to and without hi, which is no more than the line length, in rows or in tiles.
-fn fill(pen: Pen, kind: Kind, s: Stretch, m: &mut Memories) -> u64
-    requires { InWhole pen.frame s.lo s.hi s.y (rows_over pen.frame m.old) }
-    ensures { Draws pen (λ rows. span_offers pen rows kind s.lo s.hi s.y s.i s.z) m 0 result }
+// The pixels of a row in use from column lo up to and without hi, which is no more than the line length, in rows or in tiles. The loops take the two
+// memories each by itself: of a struct, LLVM would read where they lie again in each turn.
+fn fill(pen: Pen, kind: Kind, s: Stretch, im: &mut [u16], zm: &mut [u16]) -> u64
+    requires { InWhole pen.frame s.lo s.hi s.y (rows_of pen.frame (length im.old) (length zm.old)) }
+    ensures { DrawsOver pen (span_offers pen (rows_of pen.frame (length im.old) (length zm.old)) kind s.lo s.hi s.y s.i s.z) im zm 0 result }
 {
     let tiled = lies_tiled(pen.frame);
     let base = place(pen.frame, 0, s.y);
@@ -60,7 +69,7 @@ fn fill(pen: Pen, kind: Kind, s: Stretch, m: &mut Memories) -> u64
             i: whole(i.first),
             z: whole(z.first),
         };
-        n = draw_one(pen, kind, v, base + along(tiled, x), m, n);
+        n = draw_one(pen, kind, v, base + along(tiled, x), im, zm, n);
         i = i.after(1);
         z = z.after(1);
     }
@@ -69,9 +78,17 @@ fn fill(pen: Pen, kind: Kind, s: Stretch, m: &mut Memories) -> u64
 
 // The pixels of a row in use that a unit has: each so many columns on, and side by side. In one loop with rows and tiles, each of them would ask
 // about tiles besides.
-fn fill_own(pen: Pen, kind: Kind, ways: u16, own: Share, y: u16, m: &mut Memories) -> u64
-    requires { OwnColumns pen.frame ways own.x own.count y (rows_over pen.frame m.old) }
-    ensures { Draws pen (λ _. own_offers pen kind ways own.x own.count y own.i own.z) m 0 result }
+fn fill_own(
+    pen: Pen,
+    kind: Kind,
+    ways: u16,
+    own: Share,
+    y: u16,
+    im: &mut [u16],
+    zm: &mut [u16],
+) -> u64
+    requires { OwnColumns pen.frame ways own.x own.count y (rows_of pen.frame (length im.old) (length zm.old)) }
+    ensures { DrawsOver pen (own_offers pen kind ways own.x own.count y own.i own.z) im zm 0 result }
 {
     let base = place(pen.frame, own.x, y);
     let mut i = own.i;
@@ -84,7 +101,7 @@ fn fill_own(pen: Pen, kind: Kind, ways: u16, own: Share, y: u16, m: &mut Memorie
             i: whole(i.first),
             z: whole(z.first),
         };
-        n = draw_one(pen, kind, v, base + (j as usize), m, n);
+        n = draw_one(pen, kind, v, base + (j as usize), im, zm, n);
         i = i.after(1);
         z = z.after(1);
     }
@@ -98,7 +115,7 @@ fn fill_shared(pen: Pen, kind: Kind, s: Stretch, m: &mut Memories) -> u64
 {
     let ways = ways_of(pen.frame);
     if let Some(own) = s.share(pen.frame, ways) {
-        return fill_own(pen, kind, ways, own, s.y, m);
+        return fill_own(pen, kind, ways, own, s.y, m.i, m.z);
     }
     0
 }
@@ -109,7 +126,7 @@ fn fill_row(pen: Pen, kind: Kind, s: Stretch, m: &mut Memories) -> u64
     ensures { Draws pen (λ rows. span_offers pen rows kind s.lo s.hi s.y s.i s.z) m 0 result }
 {
     if lies_plain(pen.frame) | lies_tiled(pen.frame) {
-        return fill(pen, kind, s, m);
+        return fill(pen, kind, s, m.i, m.z);
     }
     fill_shared(pen, kind, s, m)
 }

@@ -6,7 +6,7 @@ ghost use Rattle.picture.specs.Loops.{Puts, PutsNearer};
 ghost use Rattle.picture.specs.Picture.{is_deep, in_planes, is_edge, wins, passes, new_i};
 
 use crate::place::is_inside;
-use crate::{Kind, Memories, Pen};
+use crate::{Kind, Pen};
 use std::cmp::Ordering;
 
 impl Kind {
@@ -73,12 +73,13 @@ fn in_planes(planes: u16, old: u16, new: u16) -> u16
     (old & !planes) | (new & planes)
 }
 
-// Whether a pixel passes where such a depth stands.
-fn is_passed(pen: Pen, kind: Kind, z: u16, old: u16) -> bool
-    ensures { result ≡ passes pen kind z old }
+// Whether a pixel passes at a place. The depth memory is read only where the depth is tested.
+fn is_passed(pen: Pen, kind: Kind, at: usize, z: u16, zm: &[u16]) -> bool
+    requires { at < length zm.now }
+    ensures { result ≡ passes pen kind z (slice_index zm.now at) }
 {
     if pen.depth & kind.is_deep() {
-        return kind.wins(z.cmp(&old));
+        return kind.wins(z.cmp(&zm[at]));
     }
     true
 }
@@ -110,15 +111,16 @@ pub(crate) fn put_at(
     at: usize,
     i: u16,
     z: u16,
-    m: &mut Memories,
+    im: &mut [u16],
+    zm: &mut [u16],
     n: u64,
 ) -> u64
-    requires { (at < length m.old.i.now) × (at < length m.old.z.now) × (n ≤ 65535) }
-    ensures { (Puts pen kind at i z m n result) × (result ≤ n + 1) }
+    requires { (at < length im.old) × (at < length zm.old) × (n ≤ 65535) }
+    ensures { (Puts pen kind at i z im zm n result) × (result ≤ n + 1) }
 {
-    if is_passed(pen, kind, z, m.z[at]) {
-        store_i(pen, at, i, m.i);
-        store_z(pen.zenable & kind.is_deep(), at, z, m.z);
+    if is_passed(pen, kind, at, z, zm) {
+        store_i(pen, at, i, im);
+        store_z(pen.zenable & kind.is_deep(), at, z, zm);
         return n + 1;
     }
     n

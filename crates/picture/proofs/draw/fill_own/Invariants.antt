@@ -4,12 +4,10 @@ use Rattle.std.proofs.Common.{◌≡◌, ◌+◌, ◌*◌}
 use Rattle.picture.specs.Place.{place_of}
 use Rattle.picture.specs.Offer.{offer}
 use Rattle.picture.specs.Draw.{shown, carried_to}
-use Rattle.picture.specs.Lent.{Same}
 use Rattle.picture.proofs.Loops.{Filling}
 use Rattle.picture.proofs.draw.fill_own.Given as goal
 
 abbrev pub invariant-loop-j : goal.invariant-loop-j
 invariant-loop-j l =
     (l.base ≡ place_of l.pen.frame l.own.x l.y)
-    × Same l.initial.m l.m
-    × Filling l.pen (λ m. shown l.pen (offer l.kind (l.own.x + l.ways * m) l.y (carried_to l.own.i m) (carried_to l.own.z m))) l.own.i l.own.z l.own.count l.initial.m.i.now l.initial.m.z.now l.m.i.now l.m.z.now l.i l.z l.j l.n
+    × Filling l.pen (λ m. shown l.pen (offer l.kind (l.own.x + l.ways * m) l.y (carried_to l.own.i m) (carried_to l.own.z m))) l.own.i l.own.z l.own.count l.initial.im l.initial.zm l.im l.zm l.i l.z l.j l.n

@@ -38,8 +38,8 @@ returns-in-Some c =
     let rows = rows_of a.pen.frame (length a.m.now.i.now) (length a.m.now.z.now) in
     let first = until_own w.result a.pen.frame.layout a.s.lo in
     let low = until_low a.pen.frame.layout a.s.lo w.result (few_some w.result shares.few) in (
-      c.fill_own.ensures.0,
-      c.fill_own.ensures.1
+      (refl, refl),
+      c.fill_own.ensures
           ∙ ap (λ (os : List Offer). drawn a.pen os (picture a.m.now.i.now a.m.now.z.now 0))
           (ap (λ (x : ℕ). own_offers a.pen a.kind w.result x c.in-Some.own.count a.s.y c.in-Some.own.i c.in-Some.own.z) own.x
           ∙ share_found a.pen w.result rows a.kind a.s.lo a.s.hi a.s.y a.s.i a.s.z shares c.requires.1 c.requires.2 {first = first} refl

@@ -17,10 +17,10 @@ put_at-requires c =
 pub returns-then-is_offered : goal.returns-then-is_offered
 returns-then-is_offered c =
     let a = c.args in (
-      c.put_at.ensures.0.0,
+      (refl, refl),
       keep_drawn a.pen (rows_of a.pen.frame (length a.m.now.i.now) (length a.m.now.z.now)) a.kind a.v.x a.v.y a.v.i a.v.z (picture a.m.now.i.now a.m.now.z.now 0) _
           (sym c.is_offered.ensures ∙ c.if-is_offered.true)
-          (c.put_at.ensures.0.1 ∙ ap (λ (at : ℕ). step_at a.pen a.kind at a.v.i a.v.z (picture a.m.now.i.now a.m.now.z.now 0)) c.place-at.ensures.0),
+          (c.put_at.ensures.0 ∙ ap (λ (at : ℕ). step_at a.pen a.kind at a.v.i a.v.z (picture a.m.now.i.now a.m.now.z.now 0)) c.place-at.ensures.0),
     )
 
 pub returns : goal.returns

@@ -7,7 +7,7 @@ use Rattle.picture.proofs.draw.put_placed.Goals as goal
 pub returns-then-at-m : goal.returns-then-at-m
 returns-then-at-m c =
     let a = c.args in
-    (c.put_at.ensures.0.0, c.put_at.ensures.0.1 ∙ sym (placed_in a.pen a.kind a.at a.i a.z (picture a.m.now.i.now a.m.now.z.now 0) c.if-at-m.true))
+    ((refl, refl), c.put_at.ensures.0 ∙ sym (placed_in a.pen a.kind a.at a.i a.z (picture a.m.now.i.now a.m.now.z.now 0) c.if-at-m.true))
 
 pub returns : goal.returns
 returns c = let a = c.args in ((refl, refl), sym (placed_out a.pen a.kind a.at a.i a.z (picture a.m.now.i.now a.m.now.z.now 0) c.if-at-m.false))
