@@ -3,12 +3,12 @@ ghost use Rattle.std.specs.Prelude.{◌≡◌, ◌≤◌};
 ghost use Rattle.picture.specs.Offer.{offer, keep};
 ghost use Rattle.picture.specs.Picture.{is_deep, picture, drawn};
 ghost use Rattle.line.specs.Segment.{kind_of, step_offers, segment_offers};
-ghost use Rattle.line.specs.Field.{field_of};
+ghost use Rattle.line.specs.Field.{direct_rows};
 ghost use Rattle.line.specs.Walk.{Reaches};
 ghost use Rattle.picture.specs.Lent.{Draws, rows_over};
 
 use crate::Style;
-use crate::field::{Field, field_of, is_within};
+use crate::field::{direct_rows, is_within};
 use crate::pattern::ink_at;
 use crate::slope::Slope;
 use crate::walk::{Step, walk_of};
@@ -17,44 +17,52 @@ use picture::draw::{put, put_placed};
 use picture::place::place;
 use picture::{Kind, Pen, Vertex};
 
-// What `put` draws, with as little asked as the field needs. The loop stands here once, so that all of this is compiled into it.
-fn put_pixel(pen: Pen, kind: Kind, field: Field, v: Vertex, im: &mut [u16], zm: &mut [u16]) -> u64
-    requires { field ≡ field_of pen kind (rows_over pen.frame im zm) }
-    ensures { Draws pen (λ rows. keep pen rows (offer kind v.x v.y v.i v.z)) im zm 0 result }
+// What `put` draws, with as little asked as the rows in use allow, where they are told. The loop stands here once, so that all of this is compiled into it. A
+// trait with this match's two arms for its impls, as `trace` has for its ways, would be no plainer: here are no two loops to tell apart.
+fn put_pixel(
+    pen: Pen,
+    kind: Kind,
+    direct: Option<usize>,
+    vertex: Vertex,
+    im: &mut [u16],
+    zm: &mut [u16],
+) -> u64
+    requires { direct ≡ direct_rows pen kind (rows_over pen.frame im zm) }
+    ensures { Draws pen (λ rows. keep pen rows (offer kind vertex.x vertex.y vertex.i vertex.z)) im zm 0 result }
 {
-    if field.direct {
-        if is_within(pen, field.rows, v.x, v.y) {
-            let at = place(pen.frame, v.x, v.y);
-            return put_placed(pen, kind, at, v.i, v.z, im, zm);
-        }
-        return 0;
+    let Some(rows) = direct else {
+        return put(pen, kind, vertex, im, zm);
+    };
+    if is_within(pen, rows, vertex.x, vertex.y) {
+        let at = place(pen.frame, vertex.x, vertex.y);
+        return put_placed(pen, kind, at, vertex.i, vertex.z, im, zm);
     }
-    put(pen, kind, v, im, zm)
+    0
 }
 
 // Draws the step where a walk stands.
 fn put_step(
     pen: Pen,
     style: Style,
-    field: Field,
-    s: Slope,
-    p: Step,
+    direct: Option<usize>,
+    slope: Slope,
+    step: Step,
     im: &mut [u16],
     zm: &mut [u16],
 ) -> u64
-    requires { Reaches style (is_deep (kind_of style.mode)) s s.a s.b p × (field ≡ field_of pen (kind_of style.mode) (rows_over pen.frame im zm)) }
-    ensures { (Draws pen (λ rows. step_offers pen rows style style.mode s.a s.b p.k) im zm 0 result) × (result ≤ 1) }
+    requires { Reaches style (is_deep (kind_of style.mode)) slope slope.a slope.b step × (direct ≡ direct_rows pen (kind_of style.mode) (rows_over pen.frame im zm)) }
+    ensures { (Draws pen (λ rows. step_offers pen rows style style.mode slope.a slope.b step.k) im zm 0 result) × (result ≤ 1) }
 {
-    let ink = ink_at(style, style.mode, p);
+    let ink = ink_at(style, style.mode, step);
     if ink.drawn {
-        let q = s.pixel_of(p.k, whole(p.side));
-        let v = Vertex {
-            x: q.x,
-            y: q.y,
+        let pixel = slope.pixel_of(step.k, whole(step.side));
+        let vertex = Vertex {
+            x: pixel.x,
+            y: pixel.y,
             i: ink.i,
             z: ink.z,
         };
-        return put_pixel(pen, style.mode.into(), field, v, im, zm);
+        return put_pixel(pen, style.mode.into(), direct, vertex, im, zm);
     }
     0
 }
@@ -63,21 +71,21 @@ fn put_step(
 pub(crate) fn drawn_anywhere(
     pen: Pen,
     style: Style,
-    s: Slope,
+    slope: Slope,
     im: &mut [u16],
     zm: &mut [u16],
 ) -> u64
-    ensures { Draws pen (λ rows. segment_offers pen rows style s.a s.b) im zm 0 result }
+    ensures { Draws pen (λ rows. segment_offers pen rows style slope.a slope.b) im zm 0 result }
 {
-    let n = s.n as u64;
-    let w = walk_of(s, style.mode.is_deep());
-    let field = field_of(pen, style.mode, im.len(), zm.len());
-    let mut p = w.begin(style.is_joined());
+    let last = slope.n as u64;
+    let walk = walk_of(slope, style.mode.is_deep());
+    let direct = direct_rows(pen, style.mode, im.len(), zm.len());
+    let mut step = walk.begin(style.is_joined());
     let mut passed: u64 = 0;
     // A while: an iterator of steps would need the walk's proof in its own next, and the sum of what they pass in this loop all the same; it is no plainer.
-    while p.k <= n {
-        passed += put_step(pen, style, field, s, p, im, zm);
-        p = w.next(p);
+    while step.k <= last {
+        passed += put_step(pen, style, direct, slope, step, im, zm);
+        step = walk.next(step);
     }
     passed
 }

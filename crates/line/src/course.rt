@@ -32,22 +32,15 @@ fn move_of(from: u16, to: u16, width: u32) -> Move
     Move { up: 0, down: width }
 }
 
-// So many pixels of a width.
-fn times(far: u16, width: u32) -> usize
-    ensures { (result ≡ far * width) × (result ≤ 281470681677825) }
-{
-    (far as usize) * (width as usize)
-}
-
 // The course of a segment.
-pub(crate) fn course_of(width: u32, s: Slope) -> Course
+pub(crate) fn course_of(width: u32, slope: Slope) -> Course
     requires { width ≤ 65536 }
-    ensures { (result.width ≡ width) × OnCourse result.width s.a s.b s result }
+    ensures { (result.width ≡ width) × OnCourse result.width slope.a slope.b slope result }
 {
-    let first = (times(s.a.y, width) + (s.a.x as usize)) as u32;
-    let x = move_of(s.a.x, s.b.x, 1);
-    let y = move_of(s.a.y, s.b.y, width);
-    if s.level {
+    let first = (slope.a.y as usize * width as usize + slope.a.x as usize) as u32;
+    let x = move_of(slope.a.x, slope.b.x, 1);
+    let y = move_of(slope.a.y, slope.b.y, width);
+    if slope.level {
         return Course {
             width,
             first,
@@ -65,13 +58,14 @@ pub(crate) fn course_of(width: u32, s: Slope) -> Course
 
 impl Course {
     // The spot of step k, which moves so far to the side.
-    pub(crate) fn spot_at(self, s: Slope, k: u64, side: u16) -> usize
-        requires { OnCourse self.width s.a s.b s self × (k ≤ s.n) × (side ≡ side_at s.n s.m k) }
-        ensures { result ≡ spot_at self.width s.a s.b k }
+    pub(crate) fn spot_at(self, slope: Slope, k: u64, side: u16) -> usize
+        requires { OnCourse self.width slope.a slope.b slope self × (k ≤ slope.n) × (side ≡ side_at slope.n slope.m k) }
+        ensures { result ≡ spot_at self.width slope.a slope.b k }
     {
-        let lead = k as u16;
-        let up = times(lead, self.ahead.up) + times(side, self.aside.up);
-        let down = times(lead, self.ahead.down) + times(side, self.aside.down);
-        (self.first as usize) + up - down
+        let lead = (k as u16) as usize;
+        let side = side as usize;
+        let up = lead * self.ahead.up as usize + side * self.aside.up as usize;
+        let down = lead * self.ahead.down as usize + side * self.aside.down as usize;
+        self.first as usize + up - down
     }
 }

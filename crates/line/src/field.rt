@@ -2,19 +2,12 @@
 ghost use Rattle.std.specs.Prelude.{◌≡◌};
 ghost use Rattle.picture.specs.Place.{rows_of};
 ghost use Rattle.line.specs.Segment.{kind_of};
-ghost use Rattle.line.specs.Field.{in_field, ends_within, is_open, lies_whole, field_of, is_bare};
+ghost use Rattle.line.specs.Field.{in_field, ends_within, is_open, lies_whole, direct_rows, is_bare};
 
 use crate::Mode;
 use picture::pixel::is_in_window;
 use picture::place::{lies_plain, lies_tiled, rows_of};
 use picture::{Frame, Pen, Vertex};
-
-// The rows in use, and whether nothing but the window and the memory is asked: in rows and in tiles, where the transparency pattern hides nothing.
-#[derive(Clone, Copy)]
-pub(crate) struct Field {
-    pub(crate) direct: bool,
-    pub(crate) rows: usize,
-}
 
 // Whether the transparency pattern hides nothing of a line.
 pub(crate) fn is_open(pen: Pen, mode: Mode) -> bool
@@ -30,13 +23,15 @@ fn lies_whole(frame: Frame) -> bool
     lies_plain(frame) | lies_tiled(frame)
 }
 
-// The field of a segment, over memories of these lengths.
-pub(crate) fn field_of(pen: Pen, mode: Mode, ni: usize, nz: usize) -> Field
-    ensures { result ≡ field_of pen (kind_of mode) (rows_of pen.frame ni nz) }
+// The rows in use, over memories of these lengths, where nothing but the window and the memory is asked of a segment's pixels: in rows and in tiles, where
+// the transparency pattern hides nothing.
+pub(crate) fn direct_rows(pen: Pen, mode: Mode, ni: usize, nz: usize) -> Option<usize>
+    ensures { result ≡ direct_rows pen (kind_of mode) (rows_of pen.frame ni nz) }
 {
-    let direct = lies_whole(pen.frame) & is_open(pen, mode);
-    let rows = rows_of(pen.frame, ni, nz);
-    Field { direct, rows }
+    if lies_whole(pen.frame) & is_open(pen, mode) {
+        return Some(rows_of(pen.frame, ni, nz));
+    }
+    None
 }
 
 // Whether pixel (x, y) is inside the window and the memory, with so many rows in use.

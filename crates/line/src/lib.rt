@@ -60,7 +60,8 @@ impl From<Mode> for Kind {
 }
 
 impl Mode {
-    // Whether lines of this mode have depths.
+    // Whether lines of this mode have depths: what the contract says is the definition that kinds have. `Kind`'s method is not for other crates, and a call of it
+    // would stand in the place of one comparison, no plainer.
     pub(crate) fn is_deep(self) -> bool
         ensures { result ≡ is_deep (kind_of self) }
     {
@@ -76,7 +77,7 @@ impl Mode {
 }
 
 // What the modes say of lines, and what the line says of its next segment: how many steps it has made, and whether the segment leaves out its
-// first point, which the one before it drew. All but the mode serves the modes 0 and 1.
+// first point, which the one before it drew. All but the mode serves the modes 0 and 1. No field is there for `joined` alone, so it is a `bool` and no `Option`.
 #[derive(Clone, Copy, Debug, PartialEq, Eq)]
 pub struct Style {
     pub mode: Mode,
@@ -101,10 +102,10 @@ pub fn segment(pen: Pen, style: Style, a: Vertex, b: Vertex, im: &mut [u16], zm:
     let rows = rows_of(pen.frame, im.len(), zm.len());
     let inside = has_ends(pen, rows, a, b);
     let bare = is_open(pen, style.mode) & is_bare(pen, style.mode);
-    let s = Slope::between(a, b);
+    let slope = Slope::between(a, b);
     if bare & (inside | lies_plain(pen.frame)) {
         let way = way_of(pen.frame, inside);
-        return drawn_bare(pen, style, rows, way, s, im, zm);
+        return drawn_bare(pen, style, rows, way, slope, im, zm);
     }
-    drawn_anywhere(pen, style, s, im, zm)
+    drawn_anywhere(pen, style, slope, im, zm)
 }

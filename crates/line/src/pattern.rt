@@ -45,17 +45,17 @@ impl Style {
 }
 
 // What a step of a line of this mode is drawn with.
-pub(crate) fn ink_at(style: Style, mode: Mode, p: Step) -> Ink
-    ensures { result ≡ ink_of style mode (is_set style p.k) (p.i / carried_one) (p.z / carried_one) }
+pub(crate) fn ink_at(style: Style, mode: Mode, step: Step) -> Ink
+    ensures { result ≡ ink_of style mode (is_set style step.k) (step.i / carried_one) (step.z / carried_one) }
 {
     if mode.is_deep() {
         return Ink {
             drawn: true,
-            i: whole(p.i),
-            z: whole(p.z),
+            i: whole(step.i),
+            z: whole(step.z),
         };
     }
-    let set = style.is_set(p.k);
+    let set = style.is_set(step.k);
     Ink {
         drawn: set | mode.has_ground(),
         i: style.colour_of(set),

@@ -123,18 +123,18 @@ fn row_of(at: usize) -> u16
 }
 
 // From a column of a unit to its next one: where x leads, as many steps as there are units.
-fn far_of(part: Part, s: Slope, w: Walk) -> Walk
-    requires { w.stride ≡ 1 }
-    ensures { result ≡ far_of part s w }
+fn far_of(part: Part, slope: Slope, near: Walk) -> Walk
+    requires { near.stride ≡ 1 }
+    ensures { result ≡ far_of part slope near }
 {
-    if s.level {
-        let second = w.twice();
+    if slope.level {
+        let second = near.twice();
         if part.shift == 1 {
             return second;
         }
         return second.twice();
     }
-    w
+    near
 }
 
 // The route of a segment.
@@ -157,11 +157,12 @@ pub(crate) fn route_of(frame: Frame, rows: usize, way: Way, deep: bool, slope: S
 
 impl Route {
     // The spot of the step where a walk stands.
-    pub(crate) fn spot_of(self, p: Step) -> usize
-        requires { OnCourse self.course.width self.slope.a self.slope.b self.slope self.course × OnWalk self.slope.a self.slope.b self.slope p }
-        ensures { result ≡ spot_at self.course.width self.slope.a self.slope.b p.k }
+    pub(crate) fn spot_of(self, step: Step) -> usize
+        requires { OnCourse self.course.width self.slope.a self.slope.b self.slope self.course × OnWalk self.slope.a self.slope.b self.slope step }
+        ensures { result ≡ spot_at self.course.width self.slope.a self.slope.b step.k }
     {
-        self.course.spot_at(self.slope, p.k, whole(p.side))
+        self.course
+            .spot_at(self.slope, step.k, whole(step.side))
     }
 
     // Whether the memory has the pixel of a spot, as far as a way asks.
@@ -189,13 +190,13 @@ impl Route {
     }
 
     // From a step that is drawn, or that the memory does not have, to the next that may be.
-    pub(crate) fn onward(self, way: Way, at: usize, p: Step) -> Step
-        requires { (p.k ≤ 65535) × (self.near.stride ≤ 4) × (self.far.stride ≤ 4) }
-        ensures { result ≡ onward_of way self at p }
+    pub(crate) fn onward(self, way: Way, at: usize, step: Step) -> Step
+        requires { (step.k ≤ 65535) × (self.near.stride ≤ 4) × (self.far.stride ≤ 4) }
+        ensures { result ≡ onward_of way self at step }
     {
         if matches!(way, Way::Shares) && self.part.has_place(at) {
-            return self.far.next(p);
+            return self.far.next(step);
         }
-        self.near.next(p)
+        self.near.next(step)
     }
 }

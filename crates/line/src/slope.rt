@@ -4,7 +4,8 @@ ghost use Rattle.line.specs.Segment.{distance, towards, larger, smaller, x_leads
 
 use picture::Vertex;
 
-// The two points of a segment, which axis leads (level: x does), the larger distance n and the smaller distance m.
+// The two points of a segment, which axis leads (level: x does), the larger distance n and the smaller distance m. All hold either way, so that `level` is a
+// `bool` and no `Option`: no plainer would it be as an enum of the axes, since the definitions ask `x_leads`, a truth value.
 #[derive(Clone, Copy)]
 pub(crate) struct Slope {
     pub(crate) a: Vertex,

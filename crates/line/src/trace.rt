@@ -82,19 +82,19 @@ fn put_bare(pen: Pen, mode: Mode, at: usize, i: u16, z: u16, im: &mut [u16], zm:
 fn put_spot<P: Path, M: Lined>(
     pen: Pen,
     style: Style,
-    r: Route,
-    p: Step,
+    route: Route,
+    step: Step,
     im: &mut [u16],
     zm: &mut [u16],
 ) -> u64
-    requires { Traces pen (rows_over pen.frame im zm) style M.MODE P.WAY r × Reaches style (is_deep (kind_of style.mode)) r.slope r.slope.a r.slope.b p }
-    ensures { (Draws pen (λ rows. step_offers pen rows style style.mode r.slope.a r.slope.b p.k) im zm 0 result) × (result ≤ 1) }
+    requires { Traces pen (rows_over pen.frame im zm) style M.MODE P.WAY route × Reaches style (is_deep (kind_of style.mode)) route.slope route.slope.a route.slope.b step }
+    ensures { (Draws pen (λ rows. step_offers pen rows style style.mode route.slope.a route.slope.b step.k) im zm 0 result) × (result ≤ 1) }
 {
-    let at = r.spot_of(p);
-    if r.is_here(pen, P::WAY, at) {
-        let ink = ink_at(style, M::MODE, p);
+    let at = route.spot_of(step);
+    if route.is_here(pen, P::WAY, at) {
+        let ink = ink_at(style, M::MODE, step);
         if ink.drawn {
-            let place = r.place_at(pen.frame, P::WAY, at);
+            let place = route.place_at(pen.frame, P::WAY, at);
             return put_bare(pen, M::MODE, place, ink.i, ink.z, im, zm);
         }
     }
@@ -105,22 +105,22 @@ fn put_spot<P: Path, M: Lined>(
 fn trace<P: Path, M: Lined>(
     pen: Pen,
     style: Style,
-    r: Route,
+    route: Route,
     first: Step,
     im: &mut [u16],
     zm: &mut [u16],
 ) -> u64
-    requires { Traces pen (rows_over pen.frame im zm) style M.MODE P.WAY r × Begins style r first }
-    ensures { Draws pen (λ rows. segment_offers pen rows style r.slope.a r.slope.b) im zm 0 result }
+    requires { Traces pen (rows_over pen.frame im zm) style M.MODE P.WAY route × Begins style route first }
+    ensures { Draws pen (λ rows. segment_offers pen rows style route.slope.a route.slope.b) im zm 0 result }
 {
-    let n = r.slope.n as u64;
-    let mut p = first;
+    let last = route.slope.n as u64;
+    let mut step = first;
     let mut passed: u64 = 0;
     // A while: an iterator of steps would hold the walk and its proof beside this loop, and is no plainer, since the place of a step says which is next.
-    while p.k <= n {
-        let at = r.spot_of(p);
-        passed += put_spot::<P, M>(pen, style, r, p, im, zm);
-        p = r.onward(P::WAY, at, p);
+    while step.k <= last {
+        let at = route.spot_of(step);
+        passed += put_spot::<P, M>(pen, style, route, step, im, zm);
+        step = route.onward(P::WAY, at, step);
     }
     passed
 }
@@ -129,18 +129,18 @@ fn trace<P: Path, M: Lined>(
 fn traced<P: Path>(
     pen: Pen,
     style: Style,
-    r: Route,
+    route: Route,
     first: Step,
     im: &mut [u16],
     zm: &mut [u16],
 ) -> u64
-    requires { Sets pen (rows_over pen.frame im zm) style P.WAY r first }
-    ensures { Draws pen (λ rows. segment_offers pen rows style r.slope.a r.slope.b) im zm 0 result }
+    requires { Sets pen (rows_over pen.frame im zm) style P.WAY route first }
+    ensures { Draws pen (λ rows. segment_offers pen rows style route.slope.a route.slope.b) im zm 0 result }
 {
     match style.mode {
-        Mode::Zero => trace::<P, Grounded>(pen, style, r, first, im, zm),
-        Mode::One => trace::<P, Dashed>(pen, style, r, first, im, zm),
-        Mode::Two => trace::<P, Shaded>(pen, style, r, first, im, zm),
+        Mode::Zero => trace::<P, Grounded>(pen, style, route, first, im, zm),
+        Mode::One => trace::<P, Dashed>(pen, style, route, first, im, zm),
+        Mode::Two => trace::<P, Shaded>(pen, style, route, first, im, zm),
     }
 }
 
@@ -150,19 +150,19 @@ pub(crate) fn drawn_bare(
     style: Style,
     rows: usize,
     way: Way,
-    s: Slope,
+    slope: Slope,
     im: &mut [u16],
     zm: &mut [u16],
 ) -> u64
-    requires { (rows ≡ rows_over pen.frame im zm) × Goes pen rows style way s.a s.b }
-    ensures { Draws pen (λ rows. segment_offers pen rows style s.a s.b) im zm 0 result }
+    requires { (rows ≡ rows_over pen.frame im zm) × Goes pen rows style way slope.a slope.b }
+    ensures { Draws pen (λ rows. segment_offers pen rows style slope.a slope.b) im zm 0 result }
 {
-    let r = route_of(pen.frame, rows, way, style.mode.is_deep(), s);
-    let first = r.near.begin(style.is_joined());
+    let route = route_of(pen.frame, rows, way, style.mode.is_deep(), slope);
+    let first = route.near.begin(style.is_joined());
     match way {
-        Way::Rows => traced::<InRows>(pen, style, r, first, im, zm),
-        Way::Tiles => traced::<InTiles>(pen, style, r, first, im, zm),
-        Way::Shares => traced::<InShares>(pen, style, r, first, im, zm),
-        Way::Asked => traced::<Asking>(pen, style, r, first, im, zm),
+        Way::Rows => traced::<InRows>(pen, style, route, first, im, zm),
+        Way::Tiles => traced::<InTiles>(pen, style, route, first, im, zm),
+        Way::Shares => traced::<InShares>(pen, style, route, first, im, zm),
+        Way::Asked => traced::<Asking>(pen, style, route, first, im, zm),
     }
 }

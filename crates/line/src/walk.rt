@@ -66,24 +66,24 @@ fn carried_deep(deep: bool, n: u16, first: u16, second: u16) -> Carried
 }
 
 // The walk along a segment, step by step, where lines have depths or not.
-pub(crate) fn walk_of(s: Slope, deep: bool) -> Walk
-    ensures { Carries deep s.a s.b s result }
+pub(crate) fn walk_of(slope: Slope, deep: bool) -> Walk
+    ensures { Carries deep slope.a slope.b slope result }
 {
     Walk {
         stride: 1,
-        side: carried(s.n, 0, s.m),
-        i: carried_deep(deep, s.n, s.a.i, s.b.i),
-        z: carried_deep(deep, s.n, s.a.z, s.b.z),
+        side: carried(slope.n, 0, slope.m),
+        i: carried_deep(deep, slope.n, slope.a.i, slope.b.i),
+        z: carried_deep(deep, slope.n, slope.a.z, slope.b.z),
     }
 }
 
-// What is carried over twice as many steps.
-fn double(c: Carried) -> Carried
-    ensures { result ≡ doubled c }
+// What is carried over twice as many steps. `picture` has one that goes on to a pixel besides: by it this would be a call with two numbers, 0 and 2, and no plainer.
+fn double(number: Carried) -> Carried
+    ensures { result ≡ doubled number }
 {
     Carried {
-        first: c.first,
-        add: c.add.wrapping_add(c.add),
+        add: number.add.wrapping_add(number.add),
+        ..number
     }
 }
 
@@ -102,15 +102,15 @@ impl Walk {
     }
 
     // A stride on.
-    pub(crate) fn next(self, p: Step) -> Step
-        requires { (p.k ≤ 65535) × (self.stride ≤ 4) }
-        ensures { result ≡ next_of self p }
+    pub(crate) fn next(self, step: Step) -> Step
+        requires { (step.k ≤ 65535) × (self.stride ≤ 4) }
+        ensures { result ≡ next_of self step }
     {
         Step {
-            k: p.k + self.stride,
-            side: p.side.wrapping_add(self.side.add),
-            i: p.i.wrapping_add(self.i.add),
-            z: p.z.wrapping_add(self.z.add),
+            k: step.k + self.stride,
+            side: step.side.wrapping_add(self.side.add),
+            i: step.i.wrapping_add(self.i.add),
+            z: step.z.wrapping_add(self.z.add),
         }
     }
 
@@ -119,12 +119,12 @@ impl Walk {
         requires { self.stride ≡ 1 }
         ensures { Stands self result × (result.k ≡ first_of joined) }
     {
-        let p = Step {
+        let step = Step {
             k: 0,
             side: self.side.first,
             i: self.i.first,
             z: self.z.first,
         };
-        if joined { self.next(p) } else { p }
+        if joined { self.next(step) } else { step }
     }
 }

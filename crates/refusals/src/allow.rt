@@ -45,8 +45,12 @@ pub(crate) fn is_parameter_allowed(s: Subcommand, k: u16, v: u16) -> bool
         Subcommand::Window if k < 4 => v <= LARGEST_BORDER,
         Subcommand::Window | Subcommand::Imode => v == 0,
         Subcommand::Load | Subcommand::Save => v <= LARGEST_COORDINATE,
-        Subcommand::Nothing | Subcommand::Tpattern | Subcommand::Section => true,
-        Subcommand::Color | Subcommand::Lpattern | Subcommand::Mask => true,
+        Subcommand::Nothing
+        | Subcommand::Tpattern
+        | Subcommand::Section
+        | Subcommand::Color
+        | Subcommand::Lpattern
+        | Subcommand::Mask => true,
     }
 }
 
@@ -82,7 +86,11 @@ pub(crate) fn coordinate_fits(c: Coordinate, shape: Shape, lmode: u16) -> bool
     match c {
         Coordinate::X => x_fits(shape, lmode),
         Coordinate::Px => px_fits(shape, lmode),
-        Coordinate::I | Coordinate::Z | Coordinate::Y => true,
-        Coordinate::T1x | Coordinate::T2x | Coordinate::Lx => true,
+        Coordinate::I
+        | Coordinate::Z
+        | Coordinate::Y
+        | Coordinate::T1x
+        | Coordinate::T2x
+        | Coordinate::Lx => true,
     }
 }

@@ -8,6 +8,8 @@ use crate::allow::{HCONTROL_BITS, LSTATUS_BITS, ZCONTROL_BITS, is_parameter_allo
 use picture::limits::{LARGEST_BORDER, LARGEST_COORDINATE};
 use picture::{Frame, Vertex};
 use registers::lines::{LINE_UNIT, LONGEST_LINE, SHORTEST_LINE};
+use registers::regions::LAST_WAY;
+use registers::shape::LAST_SHAPE;
 use registers::subcommand::Subcommand;
 use registers::{Figure, Modes, NOTHING, PATTERN_LENGTH, Parked, Region, Registers, Window};
 
@@ -60,7 +62,7 @@ fn vertex_fits(v: Vertex) -> bool
 fn figure_fits(f: Figure) -> bool
     ensures { result ≡ figure_fits f }
 {
-    (f.shape <= 3)
+    (f.shape <= LAST_SHAPE)
         & (f.pair <= 1)
         & vertex_fits(f.first)
         & vertex_fits(f.second)
@@ -98,7 +100,7 @@ fn parked_fits(p: Parked) -> bool
 fn region_fits(g: Region) -> bool
     ensures { result ≡ region_fits g }
 {
-    (g.way <= 2)
+    (g.way <= LAST_WAY)
         & (g.x0 <= LARGEST_COORDINATE)
         & (g.x1 <= LARGEST_COORDINATE)
         & (g.y1 <= LARGEST_COORDINATE)

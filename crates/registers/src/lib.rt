@@ -81,7 +81,7 @@ pub struct Latch {
     pub y: u16,
 }
 
-// The open figure: 0 for none, 1 a strip, 2 a fan, 3 a line. `first` is the vertex that the next one joins; where `pair` is 1, so is `second`.
+// The open figure: 0 for none, 1 a strip, 2 a fan, 3 a line (the numbers of `Shape`: C has the record). `first` is the vertex that the next one joins; where `pair` is 1, so is `second`.
 // Of a line, `steps` is how many it has made since LX, modulo 32, and `dashed` is 1 if its last segment was visible and of mode 0 or 1.
 #[repr(C)]
 #[derive(Clone, Copy, PartialEq, Eq)]

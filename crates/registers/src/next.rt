@@ -245,11 +245,11 @@ impl Registers {
             Coordinate::Z => self.latch.z = n,
             Coordinate::Y => self.latch.y = n,
             Coordinate::X | Coordinate::Px => self.figure = self.figure_after(n),
-            Coordinate::T1x => self.figure = Figure::open(Shape::Strip as u16, self.vertex(n)),
-            Coordinate::T2x => self.figure = Figure::open(Shape::Fan as u16, self.vertex(n)),
+            Coordinate::T1x => self.figure = Figure::open(Shape::Strip, self.vertex(n)),
+            Coordinate::T2x => self.figure = Figure::open(Shape::Fan, self.vertex(n)),
             Coordinate::Lx => {
                 self.modes.lstatus = 0;
-                self.figure = Figure::open(Shape::Line as u16, self.vertex(n));
+                self.figure = Figure::open(Shape::Line, self.vertex(n));
             }
         }
         self
@@ -262,8 +262,12 @@ impl Registers {
     {
         match c {
             Coordinate::X | Coordinate::Px => self.completing(n),
-            Coordinate::I | Coordinate::Z | Coordinate::Y => Completed::Nothing,
-            Coordinate::T1x | Coordinate::T2x | Coordinate::Lx => Completed::Nothing,
+            Coordinate::I
+            | Coordinate::Z
+            | Coordinate::Y
+            | Coordinate::T1x
+            | Coordinate::T2x
+            | Coordinate::Lx => Completed::Nothing,
         }
     }
 

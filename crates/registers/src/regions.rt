@@ -13,6 +13,9 @@ pub enum Way {
     FromMemory,
 }
 
+// The number of the last way.
+pub const LAST_WAY: u16 = Way::FromMemory as u16;
+
 // One step from a coordinate towards another.
 #[tactic(auto, unfolding(crate::specs::Region::toward))]
 fn step_toward(a: u16, b: u16) -> u16

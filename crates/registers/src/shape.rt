@@ -1,7 +1,7 @@
 // Open figures: what a vertex makes of them, and what it completes.
 ghost use Rattle.std.specs.Prelude.{◌≡◌};
 ghost use Rattle.registers.specs.Record.{opened, no_figure};
-ghost use Rattle.registers.specs.Figure.{shape_of, paired, advanced, grown_of, completes};
+ghost use Rattle.registers.specs.Figure.{shape_of, shape_number, paired, advanced, grown_of, completes};
 
 use crate::{Figure, PATTERN_LENGTH};
 use line::step_count;
@@ -15,6 +15,9 @@ pub enum Shape {
     Fan,
     Line,
 }
+
+// The number of the last shape.
+pub const LAST_SHAPE: u16 = Shape::Line as u16;
 
 // What a word completes: nothing, a triangle of three vertices of which the last is new, or a visible segment to the new endpoint.
 #[derive(Clone, Copy)]
@@ -52,15 +55,15 @@ impl Figure {
     pub(crate) fn none() -> Self
         ensures { result ≡ no_figure }
     {
-        Figure::open(Shape::Closed as u16, NO_VERTEX)
+        Figure::open(Shape::Closed, NO_VERTEX)
     }
 
     // A figure with its first vertex.
-    pub(crate) fn open(shape: u16, first: Vertex) -> Self
-        ensures { result ≡ opened shape first }
+    pub(crate) fn open(shape: Shape, first: Vertex) -> Self
+        ensures { result ≡ opened (shape_number shape) first }
     {
         Figure {
-            shape,
+            shape: shape as u16,
             pair: 0,
             first,
             second: NO_VERTEX,
@@ -70,8 +73,8 @@ impl Figure {
     }
 
     // A figure with two vertices.
-    fn pair(shape: u16, first: Vertex, second: Vertex) -> Self
-        ensures { result ≡ paired shape first second }
+    fn pair(shape: Shape, first: Vertex, second: Vertex) -> Self
+        ensures { result ≡ paired (shape_number shape) first second }
     {
         Figure {
             pair: 1,
@@ -89,7 +92,7 @@ impl Figure {
         Figure {
             steps: made as u16,
             dashed: u16::from(dashed),
-            ..Figure::open(Shape::Line as u16, v)
+            ..Figure::open(Shape::Line, v)
         }
     }
 
@@ -100,9 +103,9 @@ impl Figure {
     {
         match Shape::from(self.shape) {
             Shape::Closed => self,
-            Shape::Strip if self.pair == 1 => Figure::pair(Shape::Strip as u16, self.second, v),
-            Shape::Strip => Figure::pair(Shape::Strip as u16, self.first, v),
-            Shape::Fan => Figure::pair(Shape::Fan as u16, self.first, v),
+            Shape::Strip if self.pair == 1 => Figure::pair(Shape::Strip, self.second, v),
+            Shape::Strip => Figure::pair(Shape::Strip, self.first, v),
+            Shape::Fan => Figure::pair(Shape::Fan, self.first, v),
             Shape::Line if end => Figure::none(),
             Shape::Line => self.advanced(dashed, v),
         }

@@ -1,6 +1,6 @@
 // Words: a command of four bits and sixteen bits of data.
-ghost use Rattle.std.specs.Prelude.{◌≡◌};
-ghost use Rattle.registers.specs.Word.{decode};
+ghost use Rattle.std.specs.Prelude.{◌≡◌, ◌/◌, ◌%◌, ◌<◌};
+ghost use Rattle.registers.specs.Word.{decode, word_of};
 
 // The commands that carry a number of a vertex.
 #[derive(Clone, Copy)]
@@ -52,4 +52,22 @@ pub fn decoded(command: u8, data: u16) -> Word
         15 => Word::Init(data),
         _ => Word::Unknown,
     }
+}
+
+// The command and the data of a word of 20 bits.
+pub fn parts(word: u32) -> (u8, u16)
+    requires { word < 1048576 }
+    ensures { (result.0 ≡ word / 65536) × (result.1 ≡ word % 65536) }
+{
+    ((word / 65536) as u8, (word % 65536) as u16)
+}
+
+// What a word of 20 bits means.
+#[tactic(auto, unfolding(crate::specs::Word::word_of))]
+pub fn word_of(word: u32) -> Word
+    requires { word < 1048576 }
+    ensures { result ≡ word_of word }
+{
+    let (command, data) = parts(word);
+    decoded(command, data)
 }

@@ -57,16 +57,6 @@ good s next = go (bad_length s) (bad_tail s)
 pub good_told : (s : List ℕ) (next : ℕ) → checked s 0 ≡ 0 → checked s next ≡ next
 good_told s next e = let g = good s 0 e in next_told s next g.0 g.1
 
--- the number of what is wrong with a stream is at most 12
-pub flaw_small : (s : List ℕ) → checked s 0 ≤ 12
-unfolding checked
-flaw_small s = go (bad_length s) (bad_tail s)
-  where
-    go : (a b : Bool) → cond a 11 (cond b 12 0) ≤ 12
-    go true b = omega arith
-    go false true = omega arith
-    go false false = omega arith
-
 -- a result that is longer than the output is refused with 13
 pub no_room_lem : (result out : List ℕ) → length out < length result → no_room result out ≡ 13
 unfolding no_room

@@ -1,14 +1,12 @@
 -- A result written over the front of a list, some places at a time, as both loops do. Assumes nothing.
 use mathlib.Core.Path.{◌≡◌, refl, sym, ap, ap₂, ◌∙◌}
 use mathlib.Core.List.{List, [], ◌∷◌, ◌++◌}
-use Prim.Native.Nat.{ℕ, suc, ◌+◌, ◌-◌, ◌*◌, ◌/◌, ◌%◌, ◌≤◌}
+use Prim.Native.Nat.{ℕ, suc, ◌+◌, ◌*◌, ◌/◌, ◌%◌, ◌≤◌}
 use native.Mathlib.Nat.{add-zero, add-suc, suc-add}
 use native.Mathlib.Numerals.{add-one}
 use native.Mathlib.Omega.{arith}
 use lib.ListN.{length, get_or, take, drop, set, length-append, length-drop}
 use lib.Seq.{sets, sets-eq, take_all, take_at, take-suc, take-length, take-add, drop-cons, drop-drop, drop-append-add, length-take-le, get_or-drop}
-use borrow.Rule.Slice.PartMut.{put_mid}
-use Rattle.std.proofs.lemmas.Slice.{put_mid-paste}
 use Rattle.stream.specs.Format.{unpack_of, pack_of, word_at}
 use Rattle.stream.specs.Calls.{over}
 use Rattle.stream.proofs.Stream.{length_unpack, length_pack, drop_unpack, drop_pack, pack_none, pack_two, pack_end}
@@ -36,14 +34,6 @@ sets_append (a ∷ vs) us l k = ap (λ (j : ℕ). sets (sets l k (a ∷ vs)) j u
 -- stores behind a run of stores lengthen it
 pub stores_behind : (vs us l : List ℕ) (k : ℕ) → stored (sets l k vs) k (length vs) us ≡ sets l k (vs ++ us)
 stores_behind vs us l k = stored_sets us (sets l k vs) k (length vs) ∙ sets_append vs us l k
-
--- a part of a slice that is written over is a run of stores
-pub part_stored : (l vs : List ℕ) (k n : ℕ) → length vs ≡ n → k + n ≤ length l → put_mid k (k + n - k) l vs ≡ sets l k vs
-part_stored l vs k n e h =
-    let all : take n vs ≡ vs = take_all n vs (omega arith) in
-    put_mid-paste k (k + n - k) l vs vs n refl (omega arith) (sym e)
-    ∙ ap₂ (λ (a : List ℕ) (i : ℕ). take k l ++ a ++ drop (k + i) l) all (sym e)
-    ∙ sym (sets-eq vs l k (omega arith))
 
 -- ---- the front that is written so far
 

@@ -73,10 +73,6 @@ seam_byte v w =
     ∙ or_add 4 (v % 16) (v % 16 * 16) (w / 65536 % 16) refl (omega arith)
     ∙ sym (seam_number v (w / 65536))
 
--- the number of those eight bits is a byte
-pub seam_lt : (v w : ℕ) → number (bits 4 v ++ bits 4 (w / 65536)) < 256
-seam_lt v w = omega (arith, seam_number v (w / 65536))
-
 -- ---- four bytes at once
 
 -- four bytes as one number, the first the highest, divided by 4096 are the first 20 bits
@@ -129,12 +125,6 @@ middle_bytes b c d x e =
     (omega (arith, number_bits 8 (c / 4096)))
     (omega (arith, number_bits 8 (c / 16)))
     (omega (arith, seam_number c (d / 65536)))
-
--- all of a word and 12 bits of the next, shifted and set together, are the first 32 bits of the two
-pub pair_front_lem : (v w : ℕ) → bit_or (bit_and v 1048575 * 4096 % 4294967296) (bit_and (w / 256) 4095) ≡ pair_front v w
-pair_front_lem v w =
-    ap₂ (λ (x y : ℕ). bit_or x y) (ap (λ (x : ℕ). x * 4096 % 4294967296) (and_mask v 20) ∙ shl (v % 1048576) 4096 (omega arith)) (and_mask (w / 256) 12)
-    ∙ or_add 12 (v % 1048576) (v % 1048576 * 4096) (w / 256 % 4096) refl (omega arith)
 
 -- the last 20 bits of a word, shifted to the left within 64 bits
 shifted : (x k : ℕ) → k ≤ 17592186044416 → bit_and x 1048575 * k % 18446744073709551616 ≡ x % 1048576 * k

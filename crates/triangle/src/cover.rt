@@ -6,13 +6,6 @@ ghost use Rattle.triangle.specs.Loops.{edges_at};
 use crate::{Corners, Edge, Edges};
 use picture::Vertex;
 
-// A product of two numbers of 16 bits.
-fn times(a: u16, b: u16) -> u64
-    ensures { (result ≡ a * b) × (result ≤ 4294836225) }
-{
-    a as u64 * b as u64
-}
-
 // How far a is above b, modulo 2^64.
 pub(crate) fn over(a: u16, b: u16) -> u64
     ensures { (result + b) % 2 ^ 64 ≡ a }
@@ -21,12 +14,13 @@ pub(crate) fn over(a: u16, b: u16) -> u64
 }
 
 // The edge from a to b at the pixel (x, y).
+#[tactic(auto, unfolding(crate::specs::Edge::plus_of, crate::specs::Edge::minus_of))]
 pub(crate) fn edge_at(a: Vertex, b: Vertex, x: u16, y: u16) -> Edge
     ensures { (result ≡ edge_at a b x y) × (result.plus ≤ 12884508675) × (result.minus ≤ 12884508675) }
 {
     Edge {
-        plus: times(b.x, y) + times(a.x, b.y) + times(a.y, x),
-        minus: times(b.x, a.y) + times(a.x, y) + times(b.y, x),
+        plus: b.x as u64 * y as u64 + a.x as u64 * b.y as u64 + a.y as u64 * x as u64,
+        minus: b.x as u64 * a.y as u64 + a.x as u64 * y as u64 + b.y as u64 * x as u64,
     }
 }
 

@@ -9,10 +9,10 @@ pub returns-then-ink : goal.returns-then-ink
 returns-then-ink c =
     let a = c.args in
     put_step a.pen (rows_of a.pen.frame (length a.im.now) (length a.zm.now)) _ a.im.now a.zm.now
-    (inked_step a.pen _ a.style a.s.a a.s.b a.s a.p _ _ _ c.requires.0 c.pixel_of-q.ensures c.into.ensures c.ink_at-ink.ensures c.if-ink.true)
+    (inked_step a.pen _ a.style a.slope.a a.slope.b a.slope a.step _ _ _ c.requires.0 c.pixel_of-pixel.ensures c.into.ensures c.ink_at-ink.ensures c.if-ink.true)
     c.put_pixel.ensures
 
 pub returns : goal.returns
 returns c = let a = c.args in
     no_step a.pen a.im.now a.zm.now
-    (blank_step a.pen (rows_of a.pen.frame (length a.im.now) (length a.zm.now)) a.style a.s.a a.s.b a.p _ c.requires.0.begun c.ink_at-ink.ensures c.if-ink.false)
+    (blank_step a.pen (rows_of a.pen.frame (length a.im.now) (length a.zm.now)) a.style a.slope.a a.slope.b a.step _ c.requires.0.begun c.ink_at-ink.ensures c.if-ink.false)

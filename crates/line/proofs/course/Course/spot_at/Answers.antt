@@ -7,9 +7,9 @@ use Rattle.line.proofs.course.Course.spot_at.Goals as goal
 pub overflow_sub-result : goal.overflow_sub-result
 overflow_sub-result c =
     let a = c.args in
-    omega (arith, course_spot a.self.width a.s.a a.s.b a.s a.k a.side a.self c.requires.0 (on_step a.s c.requires.1) c.requires.2, c.times.ensures.0, c.times-2.ensures.0, c.times-3.ensures.0, c.times-4.ensures.0)
+    omega (arith, course_spot a.self.width a.slope.a a.slope.b a.slope a.k a.side a.self c.requires.0 (on_step a.slope c.requires.1) c.requires.2)
 
 pub returns : goal.returns
 returns c =
     let a = c.args in
-    omega (arith, course_spot a.self.width a.s.a a.s.b a.s a.k a.side a.self c.requires.0 (on_step a.s c.requires.1) c.requires.2, c.times.ensures.0, c.times-2.ensures.0, c.times-3.ensures.0, c.times-4.ensures.0)
+    omega (arith, course_spot a.self.width a.slope.a a.slope.b a.slope a.k a.side a.self c.requires.0 (on_step a.slope c.requires.1) c.requires.2)
