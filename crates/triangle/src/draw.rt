@@ -12,7 +12,7 @@ use picture::draw::{put, span};
 use picture::nearer::{is_plain, span_nearer};
 use picture::place::{lies_tiled, rows_of};
 use picture::steady::span_steady;
-use picture::{Carried, Kind, Pen, Stretch, Vertex};
+use picture::{Carried, Kind, Memories, Pen, Stretch, Vertex};
 
 // A row of a constant triangle.
 fn flat_run(pen: Pen, corners: Corners, span: Span, y: u16) -> Stretch
@@ -87,20 +87,20 @@ fn kind_of(constant: bool) -> Kind
 
 // A row drawn as one stretch. Gouraud rows, and constant ones over tiles, share the one call of `span_nearer` for pens of which nothing but a nearer depth decides,
 // and all rows the one of `span` for others: called once, it is compiled in place, and the numbers stay in registers.
-fn run_row(brush: Brush, corners: Corners, run: Stretch, im: &mut [u16], zm: &mut [u16]) -> u64
+fn run_row(brush: Brush, corners: Corners, run: Stretch, m: &mut Memories) -> u64
     requires { (Told brush.pen brush.constant corners run.y run) × (InRows brush.pen run.y) }
-    ensures { Draws brush.pen (λ rows. row_offers brush.pen rows brush.constant corners run.y) im zm 0 result }
+    ensures { Draws brush.pen (λ rows. row_offers brush.pen rows brush.constant corners run.y) m 0 result }
 {
     if brush.plain {
-        return span_nearer(brush.pen.frame, run, im, zm);
+        return span_nearer(brush.pen.frame, run, m);
     }
-    span(brush.pen, kind_of(brush.constant), run, im, zm)
+    span(brush.pen, kind_of(brush.constant), run, m)
 }
 
 // One covered pixel of a Gouraud triangle.
-fn divided_pixel(pen: Pen, facet: Facet, x: u16, y: u16, im: &mut [u16], zm: &mut [u16]) -> u64
+fn divided_pixel(pen: Pen, facet: Facet, x: u16, y: u16, m: &mut Memories) -> u64
     requires { (covers facet.corners x y ≡ true) × (Large facet.corners) }
-    ensures { Draws pen (λ rows. pixel_offers pen rows false facet.corners x y) im zm 0 result }
+    ensures { Draws pen (λ rows. pixel_offers pen rows false facet.corners x y) m 0 result }
 {
     let edges = facet.corners.edges_at(x, y);
     let pixel = Vertex {
@@ -109,18 +109,18 @@ fn divided_pixel(pen: Pen, facet: Facet, x: u16, y: u16, im: &mut [u16], zm: &mu
         i: facet.number(edges, facet.corners.intensities()),
         z: facet.number(edges, facet.corners.depths()),
     };
-    put(pen, Kind::Gouraud, pixel, im, zm)
+    put(pen, Kind::Gouraud, pixel, m)
 }
 
 // A row of a Gouraud triangle that is too large for carried numbers (doubled area above 2^31): two divisions a pixel. No word that the chip
 // accepts completes one.
-fn divided_row(pen: Pen, facet: Facet, span: Span, y: u16, im: &mut [u16], zm: &mut [u16]) -> u64
+fn divided_row(pen: Pen, facet: Facet, span: Span, y: u16, m: &mut Memories) -> u64
     requires { (Spanned pen facet.corners y span) × (InRows pen y) × (span.lo < span.hi) × (Large facet.corners) }
-    ensures { Draws pen (λ rows. row_offers pen rows false facet.corners y) im zm 0 result }
+    ensures { Draws pen (λ rows. row_offers pen rows false facet.corners y) m 0 result }
 {
     let mut passed: u64 = 0;
     for x in span.lo..span.hi {
-        passed += divided_pixel(pen, facet, x as u16, y, im, zm);
+        passed += divided_pixel(pen, facet, x as u16, y, m);
     }
     passed
 }
@@ -132,17 +132,16 @@ fn draw_row(
     shades: Shades,
     rising: Rising,
     y: u16,
-    im: &mut [u16],
-    zm: &mut [u16],
+    m: &mut Memories,
 ) -> u64
     requires { Drawable brush.pen brush.constant facet.corners shades rising y }
-    ensures { Draws brush.pen (λ rows. row_offers brush.pen rows brush.constant facet.corners y) im zm 0 result }
+    ensures { Draws brush.pen (λ rows. row_offers brush.pen rows brush.constant facet.corners y) m 0 result }
 {
     let span = rising.flanks.spanned(brush.pen, facet.corners, y);
     if span.lo < span.hi {
         return match run_of(brush, facet, shades, rising, span, y) {
-            Some(run) => run_row(brush, facet.corners, run, im, zm),
-            None => divided_row(brush.pen, facet, span, y, im, zm),
+            Some(run) => run_row(brush, facet.corners, run, m),
+            None => divided_row(brush.pen, facet, span, y, m),
         };
     }
     0
@@ -204,16 +203,9 @@ fn end_of(size: usize, limit: u16, corners: Corners) -> usize
 }
 
 // A row of a constant triangle, with a pen of which nothing but a nearer depth decides, where pixels lie in no tiles.
-fn flat_row(
-    pen: Pen,
-    corners: Corners,
-    flanks: Flanks,
-    y: u16,
-    im: &mut [u16],
-    zm: &mut [u16],
-) -> u64
+fn flat_row(pen: Pen, corners: Corners, flanks: Flanks, y: u16, m: &mut Memories) -> u64
     requires { (Steady pen) × (Crossed corners y) × (Flanked corners y flanks) × (InRows pen y) }
-    ensures { Draws pen (λ rows. row_offers pen rows true corners y) im zm 0 result }
+    ensures { Draws pen (λ rows. row_offers pen rows true corners y) m 0 result }
 {
     let span = flanks.spanned(pen, corners, y);
     if span.lo < span.hi {
@@ -224,8 +216,7 @@ fn flat_row(
             y,
             corners.last.i,
             corners.last.z,
-            im,
-            zm,
+            m,
         );
     }
     0
@@ -238,15 +229,14 @@ fn draw_flat(
     mut flanks: Flanks,
     first: u16,
     top: u16,
-    im: &mut [u16],
-    zm: &mut [u16],
+    m: &mut Memories,
 ) -> u64
-    requires { (Steady pen) × (Ranges pen corners flanks first top (length im.old) (length zm.old)) }
-    ensures { Draws pen (λ rows. turned_offers pen rows true corners) im zm 0 result }
+    requires { (Steady pen) × (Ranges pen corners flanks first top (length m.old.i.now) (length m.old.z.now)) }
+    ensures { Draws pen (λ rows. turned_offers pen rows true corners) m 0 result }
 {
     let mut passed: u64 = 0;
     for y in first..top {
-        passed += flat_row(pen, corners, flanks, y, im, zm);
+        passed += flat_row(pen, corners, flanks, y, m);
         flanks = flanks.raised(corners, y);
     }
     passed
@@ -259,52 +249,51 @@ fn draw_shaded(
     flanks: Flanks,
     first: u16,
     top: u16,
-    im: &mut [u16],
-    zm: &mut [u16],
+    m: &mut Memories,
 ) -> u64
-    requires { Ranges brush.pen facet.corners flanks first top (length im.old) (length zm.old) }
-    ensures { Draws brush.pen (λ rows. turned_offers brush.pen rows brush.constant facet.corners) im zm 0 result }
+    requires { Ranges brush.pen facet.corners flanks first top (length m.old.i.now) (length m.old.z.now) }
+    ensures { Draws brush.pen (λ rows. turned_offers brush.pen rows brush.constant facet.corners) m 0 result }
 {
     let mut rising = Rising::new(facet, flanks, first);
     let shades = shades_of(brush.constant, facet, rising);
     let mut passed: u64 = 0;
     for y in first..top {
-        passed += draw_row(brush, facet, shades, rising, y, im, zm);
+        passed += draw_row(brush, facet, shades, rising, y, m);
         rising = rising.raised(facet.corners, y);
     }
     passed
 }
 
 // A triangle whose corners turn anticlockwise, the lowest first.
-fn draw_lowest(pen: Pen, constant: bool, facet: Facet, im: &mut [u16], zm: &mut [u16]) -> u64
+fn draw_lowest(pen: Pen, constant: bool, facet: Facet, m: &mut Memories) -> u64
     requires { Lowest facet.corners }
-    ensures { Draws pen (λ rows. turned_offers pen rows constant facet.corners) im zm 0 result }
+    ensures { Draws pen (λ rows. turned_offers pen rows constant facet.corners) m 0 result }
 {
-    let rows = rows_of(pen.frame, im.len(), zm.len());
+    let rows = rows_of(pen.frame, m.i.len(), m.z.len());
     let top = end_of(rows, pen.top, facet.corners) as u16;
     let first = start_of(pen.bottom, facet.corners).min(top);
     let flanks = Flanks::new(facet.corners, first);
     let plain = is_plain(pen, kind_of(constant));
     if constant & plain & !lies_tiled(pen.frame) {
-        return draw_flat(pen, facet.corners, flanks, first, top, im, zm);
+        return draw_flat(pen, facet.corners, flanks, first, top, m);
     }
     let brush = Brush {
         pen,
         constant,
         plain,
     };
-    draw_shaded(brush, facet, flanks, first, top, im, zm)
+    draw_shaded(brush, facet, flanks, first, top, m)
 }
 
 // A triangle whose corners turn anticlockwise.
-fn draw_turned(pen: Pen, constant: bool, facet: Facet, im: &mut [u16], zm: &mut [u16]) -> u64
-    ensures { Draws pen (λ rows. turned_offers pen rows constant facet.corners) im zm 0 result }
+fn draw_turned(pen: Pen, constant: bool, facet: Facet, m: &mut Memories) -> u64
+    ensures { Draws pen (λ rows. turned_offers pen rows constant facet.corners) m 0 result }
 {
     let lowest = Facet {
         corners: facet.corners.lowest_first(),
         area: facet.area,
     };
-    draw_lowest(pen, constant, lowest, im, zm)
+    draw_lowest(pen, constant, lowest, m)
 }
 
 // The corners named so that they turn anticlockwise, by the expression of the first edge at the third corner.
@@ -349,16 +338,8 @@ impl Corners {
 
 // The triangle that vertex c completes. Answers how many pixels passed. Both turning senses share the one call of `draw_turned`: so it is
 // compiled in place.
-pub fn triangle(
-    pen: Pen,
-    constant: bool,
-    a: Vertex,
-    b: Vertex,
-    c: Vertex,
-    im: &mut [u16],
-    zm: &mut [u16],
-) -> u64
-    ensures { Draws pen (λ rows. triangle_offers pen rows constant a b c) im zm 0 result }
+pub fn triangle(pen: Pen, constant: bool, a: Vertex, b: Vertex, c: Vertex, m: &mut Memories) -> u64
+    ensures { Draws pen (λ rows. triangle_offers pen rows constant a b c) m 0 result }
 {
     let edge = edge_at(a, b, c.x, c.y);
     let area = edge.plus.abs_diff(edge.minus);
@@ -367,7 +348,7 @@ pub fn triangle(
             corners: named(a, b, c, edge),
             area,
         };
-        return draw_turned(pen, constant, facet, im, zm);
+        return draw_turned(pen, constant, facet, m);
     }
     0
 }

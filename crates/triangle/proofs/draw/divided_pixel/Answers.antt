@@ -22,8 +22,10 @@ pub returns : goal.returns
 returns c =
     let a = c.args in
     let t = a.facet.corners in
-    let e = c.edges_at-edges.ensures in
-    pixel_drawn a.pen (rows_of a.pen.frame (length a.im.now) (length a.zm.now)) t a.x a.y _ _ (picture a.im.now a.zm.now 0) _ c.requires.0
-    (number_told t t.a.i t.b.i t.c.i a.x a.y a.facet.area _ _ a.facet.sized.area e (rw c.intensities.ensures at c.number.ensures))
-    (number_told t t.a.z t.b.z t.c.z a.x a.y a.facet.area _ _ a.facet.sized.area e (rw c.depths.ensures at c.number-2.ensures))
-    c.put.ensures
+    let e = c.edges_at-edges.ensures in (
+      c.put.ensures.0,
+      pixel_drawn a.pen (rows_of a.pen.frame (length a.m.now.i.now) (length a.m.now.z.now)) t a.x a.y _ _ (picture a.m.now.i.now a.m.now.z.now 0) _ c.requires.0
+          (number_told t t.a.i t.b.i t.c.i a.x a.y a.facet.area _ _ a.facet.sized.area e (rw c.intensities.ensures at c.number.ensures))
+          (number_told t t.a.z t.b.z t.c.z a.x a.y a.facet.area _ _ a.facet.sized.area e (rw c.depths.ensures at c.number-2.ensures))
+          c.put.ensures.1,
+    )

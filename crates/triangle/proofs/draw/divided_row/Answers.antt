@@ -1,5 +1,5 @@
 -- `draw::divided_row` meets its contract. The invariant of its loop: the pixels below x are drawn. Assumes nothing.
-use Rattle.std.proofs.Common.{ℕ, false, length, ◌∙◌, ap₂, le_refl, arith}
+use Rattle.std.proofs.Common.{ℕ, false, length, refl, ◌∙◌, ap₂, le_refl, arith}
 use Rattle.picture.specs.Place.{rows_of}
 use Rattle.picture.specs.Picture.{picture, drawn}
 use Rattle.triangle.specs.Offers.{pixel_offers}
@@ -15,7 +15,8 @@ loop-x-init c =
       since = le_refl _;
       until = omega (arith, c.requires.2);
       few = omega (arith, k.wide);
-      so_far_lem = reached_start (λ x h. row_quiet a.pen (rows_of a.pen.frame (length a.im.now) (length a.zm.now)) false a.facet.corners a.y a.span k x (omega (arith, k.wide, c.requires.2)) (λ u v. omega arith));
+      same = (refl, refl);
+      so_far_lem = reached_start (λ x h. row_quiet a.pen (rows_of a.pen.frame (length a.m.now.i.now) (length a.m.now.z.now)) false a.facet.corners a.y a.span k x (omega (arith, k.wide, c.requires.2)) (λ u v. omega arith));
     }
 
 pub overflow_add-passed : goal.overflow_add-passed
@@ -23,10 +24,10 @@ overflow_add-passed c =
     let a = c.args in
     let k = c.loop-x in
     let t = a.facet.corners in
-    let turn = ap₂ (λ (i z : ℕ). drawn a.pen (pixel_offers a.pen (rows_of a.pen.frame i z) false t k.x a.y) (picture k.im k.zm 0)) (reached_i k.invariant.so_far_lem) (reached_z k.invariant.so_far_lem) in
+    let turn = ap₂ (λ (i z : ℕ). drawn a.pen (pixel_offers a.pen (rows_of a.pen.frame i z) false t k.x a.y) (picture k.m.i.now k.m.z.now 0)) (reached_i k.invariant.so_far_lem) (reached_z k.invariant.so_far_lem) in
     omega (
       arith,
-      reached_count 1 (reached_add k.invariant.so_far_lem (c.divided_pixel-passed.ensures ∙ turn)) (offers_length a.pen (rows_of a.pen.frame (length a.im.now) (length a.zm.now)) false t a.y),
+      reached_count 1 (reached_add k.invariant.so_far_lem (c.divided_pixel-passed.ensures.1 ∙ turn)) (offers_length a.pen (rows_of a.pen.frame (length a.m.now.i.now) (length a.m.now.z.now)) false t a.y),
       c.loop-x-test.true,
       k.invariant.few,
     )
@@ -36,18 +37,21 @@ loop-x-preserved c =
     let a = c.args in
     let k = c.loop-x in
     let t = a.facet.corners in
-    let turn = ap₂ (λ (i z : ℕ). drawn a.pen (pixel_offers a.pen (rows_of a.pen.frame i z) false t k.x a.y) (picture k.im k.zm 0)) (reached_i k.invariant.so_far_lem) (reached_z k.invariant.so_far_lem) in
+    let turn = ap₂ (λ (i z : ℕ). drawn a.pen (pixel_offers a.pen (rows_of a.pen.frame i z) false t k.x a.y) (picture k.m.i.now k.m.z.now 0)) (reached_i k.invariant.so_far_lem) (reached_z k.invariant.so_far_lem) in
     record {
       since = omega (arith, k.invariant.since);
       until = omega (arith, c.loop-x-test.true);
       few = k.invariant.few;
-      so_far_lem = reached_add k.invariant.so_far_lem (c.divided_pixel-passed.ensures ∙ turn);
+      same = (c.divided_pixel-passed.ensures.0.0 ∙ k.invariant.same.0, c.divided_pixel-passed.ensures.0.1 ∙ k.invariant.same.1);
+      so_far_lem = reached_add k.invariant.so_far_lem (c.divided_pixel-passed.ensures.1 ∙ turn);
     }
 
 pub returns : goal.returns
 returns c =
     let a = c.args in
     let l = c.loop-x in
-    let k = c.requires.0 in
-    reached_end a.pen.frame.line l.invariant.so_far_lem (omega (arith, l.invariant.until, k.wide))
-    (λ x h m. row_quiet a.pen (rows_of a.pen.frame (length a.im.now) (length a.zm.now)) false a.facet.corners a.y a.span k x m (λ u v. omega (arith, c.loop-x-test.false)))
+    let k = c.requires.0 in (
+      l.invariant.same,
+      reached_end a.pen.frame.line l.invariant.so_far_lem (omega (arith, l.invariant.until, k.wide))
+          (λ x h m. row_quiet a.pen (rows_of a.pen.frame (length a.m.now.i.now) (length a.m.now.z.now)) false a.facet.corners a.y a.span k x m (λ u v. omega (arith, c.loop-x-test.false))),
+    )

@@ -6,4 +6,4 @@ use Rattle.triangle.proofs.draw.draw_lowest.Goals as goal
 pub overflow_cast-top : goal.overflow_cast-top
 overflow_cast-top c =
     let a = c.args in
-    omega (arith, c.end_of-top.ensures, c.rows_of-rows.ensures, rows_low a.pen.frame (length a.im.now) (length a.zm.now))
+    omega (arith, c.end_of-top.ensures, c.rows_of-rows.ensures, rows_low a.pen.frame (length a.m.now.i.now) (length a.m.now.z.now))

@@ -1,5 +1,5 @@
 -- `draw::draw_row` meets its contract: either way of drawing draws the row, and a row with no covered pixel has no offers. Assumes nothing.
-use Rattle.std.proofs.Common.{length, arith}
+use Rattle.std.proofs.Common.{length, refl, arith}
 use Rattle.picture.specs.Place.{rows_of}
 use Rattle.picture.specs.Picture.{picture}
 use Rattle.triangle.proofs.Rows.{row_empty}
@@ -7,6 +7,8 @@ use Rattle.triangle.proofs.draw.draw_row.Goals as goal
 
 pub returns : goal.returns
 returns c =
-    let a = c.args in
-    row_empty a.brush.pen (rows_of a.brush.pen.frame (length a.im.now) (length a.zm.now)) a.brush.constant a.facet.corners a.y _
-    c.spanned-span.ensures (omega (arith, c.if-span.false)) (picture a.im.now a.zm.now 0)
+    let a = c.args in (
+      (refl, refl),
+      row_empty a.brush.pen (rows_of a.brush.pen.frame (length a.m.now.i.now) (length a.m.now.z.now)) a.brush.constant a.facet.corners a.y _
+          c.spanned-span.ensures (omega (arith, c.if-span.false)) (picture a.m.now.i.now a.m.now.z.now 0),
+    )

@@ -16,5 +16,5 @@ draw_lowest-requires c = rw c.lowest_first.ensures (lowest_lowest c.args.facet.c
 pub returns : goal.returns
 returns c =
     let a = c.args in
-    let rows = rows_of a.pen.frame (length a.im.now) (length a.zm.now) in
-    rw (sym (lowest_offers a.facet.corners a.pen rows a.constant)) (rw c.lowest_first.ensures at c.draw_lowest.ensures)
+    let rows = rows_of a.pen.frame (length a.m.now.i.now) (length a.m.now.z.now) in
+    (c.draw_lowest.ensures.0, rw (sym (lowest_offers a.facet.corners a.pen rows a.constant)) (rw c.lowest_first.ensures at c.draw_lowest.ensures.1))

@@ -1,5 +1,5 @@
 -- `draw::flat_row` meets its contract: the covered columns with the completing vertex's numbers are the row. Assumes nothing.
-use Rattle.std.proofs.Common.{true, List, length, sym, ap, ◌∙◌, arith}
+use Rattle.std.proofs.Common.{true, List, length, sym, refl, ap, ◌∙◌, arith}
 use Rattle.picture.specs.declared.Kind.TheVariants.{Constant}
 use Rattle.picture.specs.Draw.{steady_of}
 use Rattle.picture.specs.Place.{rows_of}
@@ -15,19 +15,23 @@ pub returns-then-span : goal.returns-then-span
 unfolding pixel_at
 returns-then-span c =
     let a = c.args in
-    let rows = rows_of a.pen.frame (length a.im.now) (length a.zm.now) in
-    let p = picture a.im.now a.zm.now 0 in
+    let rows = rows_of a.pen.frame (length a.m.now.i.now) (length a.m.now.z.now) in
+    let p = picture a.m.now.i.now a.m.now.z.now 0 in
     let k = c.spanned-span in
     let i = steady_of a.corners.last.i in
-    let z = steady_of a.corners.last.z in
-    rw c.requires.0.rows at c.span_steady.ensures
-    ∙ sym (plain_span a.pen Constant c.requires.0.plain rows k.result.lo k.result.hi a.y i z p)
-    ∙ ap (λ (os : List Offer). drawn a.pen os p)
-    (row_span a.pen rows true a.corners a.y k.result k.ensures c.requires.3 c.if-span.true i z
-    (λ j l. (steady_at a.corners.last.i j (omega arith), steady_at a.corners.last.z j (omega arith))))
+    let z = steady_of a.corners.last.z in (
+      c.span_steady.ensures.0,
+      rw c.requires.0.rows at c.span_steady.ensures.1
+          ∙ sym (plain_span a.pen Constant c.requires.0.plain rows k.result.lo k.result.hi a.y i z p)
+          ∙ ap (λ (os : List Offer). drawn a.pen os p)
+          (row_span a.pen rows true a.corners a.y k.result k.ensures c.requires.3 c.if-span.true i z
+          (λ j l. (steady_at a.corners.last.i j (omega arith), steady_at a.corners.last.z j (omega arith)))),
+    )
 
 pub returns : goal.returns
 returns c =
-    let a = c.args in
-    row_empty a.pen (rows_of a.pen.frame (length a.im.now) (length a.zm.now)) true a.corners a.y _
-    c.spanned-span.ensures (omega (arith, c.if-span.false)) (picture a.im.now a.zm.now 0)
+    let a = c.args in (
+      (refl, refl),
+      row_empty a.pen (rows_of a.pen.frame (length a.m.now.i.now) (length a.m.now.z.now)) true a.corners a.y _
+          c.spanned-span.ensures (omega (arith, c.if-span.false)) (picture a.m.now.i.now a.m.now.z.now 0),
+    )

@@ -16,19 +16,23 @@ returns-then-brush c =
     let a = c.args in
     let b = a.brush in
     let k = c.requires.0 in
-    let rows = rows_of b.pen.frame (length a.im.now) (length a.zm.now) in
-    let p = picture a.im.now a.zm.now 0 in
-    c.span_nearer.ensures
-    ∙ sym (plain_span b.pen (kind_of b.constant) (sym b.fast ∙ c.if-brush.true) rows a.run.lo a.run.hi a.run.y a.run.i a.run.z p)
-    ∙ ap (λ (os : List Offer). drawn b.pen os p) (row_span b.pen rows b.constant a.corners a.run.y (record { lo = a.run.lo; hi = a.run.hi }) k.spanned c.requires.1 k.some a.run.i a.run.z k.so)
+    let rows = rows_of b.pen.frame (length a.m.now.i.now) (length a.m.now.z.now) in
+    let p = picture a.m.now.i.now a.m.now.z.now 0 in (
+      c.span_nearer.ensures.0,
+      c.span_nearer.ensures.1
+          ∙ sym (plain_span b.pen (kind_of b.constant) (sym b.fast ∙ c.if-brush.true) rows a.run.lo a.run.hi a.run.y a.run.i a.run.z p)
+          ∙ ap (λ (os : List Offer). drawn b.pen os p) (row_span b.pen rows b.constant a.corners a.run.y (record { lo = a.run.lo; hi = a.run.hi }) k.spanned c.requires.1 k.some a.run.i a.run.z k.so),
+    )
 
 pub returns : goal.returns
 returns c =
     let a = c.args in
     let b = a.brush in
     let k = c.requires.0 in
-    let rows = rows_of b.pen.frame (length a.im.now) (length a.zm.now) in
-    let p = picture a.im.now a.zm.now 0 in
-    c.span.ensures
-    ∙ ap (λ (kind : Kind). drawn b.pen (span_offers b.pen rows kind a.run.lo a.run.hi a.run.y a.run.i a.run.z) p) c.kind_of.ensures
-    ∙ ap (λ (os : List Offer). drawn b.pen os p) (row_span b.pen rows b.constant a.corners a.run.y (record { lo = a.run.lo; hi = a.run.hi }) k.spanned c.requires.1 k.some a.run.i a.run.z k.so)
+    let rows = rows_of b.pen.frame (length a.m.now.i.now) (length a.m.now.z.now) in
+    let p = picture a.m.now.i.now a.m.now.z.now 0 in (
+      c.span.ensures.0,
+      c.span.ensures.1
+          ∙ ap (λ (kind : Kind). drawn b.pen (span_offers b.pen rows kind a.run.lo a.run.hi a.run.y a.run.i a.run.z) p) c.kind_of.ensures
+          ∙ ap (λ (os : List Offer). drawn b.pen os p) (row_span b.pen rows b.constant a.corners a.run.y (record { lo = a.run.lo; hi = a.run.hi }) k.spanned c.requires.1 k.some a.run.i a.run.z k.so),
+    )

@@ -1,5 +1,5 @@
 -- `draw::triangle` meets its contract: the corners are named so that they turn anticlockwise. Assumes nothing.
-use Rattle.std.proofs.Common.{length, arith}
+use Rattle.std.proofs.Common.{length, refl, arith}
 use Rattle.picture.specs.Place.{rows_of}
 use Rattle.picture.specs.Picture.{picture}
 use Rattle.triangle.proofs.Turning.{named_turned, named_drawn, flat_drawn}
@@ -16,13 +16,17 @@ invariant_of-facet c =
 pub returns-then-area-gt0 : goal.returns-then-area-gt0
 returns-then-area-gt0 c =
     let a = c.args in
-    let rows = rows_of a.pen.frame (length a.im.now) (length a.zm.now) in
-    named_drawn a.pen rows a.constant a.a a.b a.c _ c.edge_at-edge.ensures.0 _ c.abs_diff-area.ensures c.if-area-gt0.true
-    (picture a.im.now a.zm.now 0) _ c.named.ensures c.draw_turned.ensures
+    let rows = rows_of a.pen.frame (length a.m.now.i.now) (length a.m.now.z.now) in (
+      c.draw_turned.ensures.0,
+      named_drawn a.pen rows a.constant a.a a.b a.c _ c.edge_at-edge.ensures.0 _ c.abs_diff-area.ensures c.if-area-gt0.true
+          (picture a.m.now.i.now a.m.now.z.now 0) _ c.named.ensures c.draw_turned.ensures.1,
+    )
 
 pub returns : goal.returns
 returns c =
     let a = c.args in
-    let rows = rows_of a.pen.frame (length a.im.now) (length a.zm.now) in
-    flat_drawn a.pen rows a.constant a.a a.b a.c _ c.edge_at-edge.ensures.0
-    (picture a.im.now a.zm.now 0) (omega (arith, c.abs_diff-area.ensures, c.if-area-gt0.false))
+    let rows = rows_of a.pen.frame (length a.m.now.i.now) (length a.m.now.z.now) in (
+      (refl, refl),
+      flat_drawn a.pen rows a.constant a.a a.b a.c _ c.edge_at-edge.ensures.0
+          (picture a.m.now.i.now a.m.now.z.now 0) (omega (arith, c.abs_diff-area.ensures, c.if-area-gt0.false)),
+    )
