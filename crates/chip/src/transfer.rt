@@ -8,16 +8,17 @@ ghost use Rattle.picture.specs.Lent.{Fills};
 ghost use Rattle.machine.specs.Machine.{memories};
 
 use ground::Refusal;
+use picture::Memories;
 use picture::transfer::{fetch, store};
 use refusals::read_checked;
 use registers::Registers;
 
 // Stores PTRN's number at the region's pixel.
-pub(crate) fn load(r: Registers, value: u16, im: &mut [u16], zm: &mut [u16])
-    ensures { Fills (pen_of r) (λ rows. picture_stores rows r value) im zm }
+pub(crate) fn load(r: Registers, value: u16, m: &mut Memories)
+    ensures { Fills (pen_of r) (λ rows. picture_stores rows r value) m }
 {
     let deep = r.is_deep_picture();
-    store(r.pen(), deep, r.region.x, r.region.y, value, im, zm);
+    store(r.pen(), deep, r.region.x, r.region.y, value, m);
 }
 
 // The number at the region's pixel.
