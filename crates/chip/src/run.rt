@@ -13,7 +13,7 @@ ghost use Rattle.chip.specs.Promises.{Takes, RunsFrom, passed_in, registers_in};
 use crate::step::{Answer, step_kept};
 use ground::Refusal;
 use registers::Registers;
-use registers::word::decoded;
+use registers::word::word_of;
 use stream::read::{checked, held, word};
 
 // How a run ended: what refused a word or the stream, if anything did; the index of that word, or how many words there are; the sum of the
@@ -27,7 +27,7 @@ pub struct Ran {
 }
 
 // The word at place k of a stream, taken.
-#[tactic(auto, using(stream::proofs::Round::word_fits), unfolding(registers::specs::Word::word_of))]
+#[tactic(auto, using(stream::proofs::Round::word_fits))]
 fn step_at(
     r: Registers,
     bytes: &[u8],
@@ -38,9 +38,7 @@ fn step_at(
     requires { (in_bounds r ≡ true) × (length im.old ≡ length zm.old) }
     ensures { Takes r (word_of (word_at bytes.now k)) (found im zm) (told result) (passed_in result) (registers_in r result) (left im zm) }
 {
-    let w = word(bytes, k);
-    let taken = decoded((w / 65536) as u8, (w % 65536) as u16);
-    step_kept(r, taken, im, zm)
+    step_kept(r, word_of(word(bytes, k)), im, zm)
 }
 
 // The words of a stream, one after the other, until one is refused. Bounds and lengths hold from reset on, so that no word asks about them.

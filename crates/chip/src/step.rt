@@ -23,6 +23,16 @@ pub struct Answer {
     pub registers: Registers,
 }
 
+// How many pixels passed by an answer; none where the word was refused.
+pub fn passed(answer: Result<Answer, Refusal>) -> u64
+    ensures { result ≡ passed_in answer }
+{
+    match answer {
+        Ok(answer) => answer.passed,
+        Err(_) => 0,
+    }
+}
+
 // An answer of no pixels.
 fn quiet(registers: Registers) -> Answer
     ensures { result ≡ record { passed = 0; registers = registers } }

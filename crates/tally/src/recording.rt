@@ -13,7 +13,7 @@ use chip::figure::completed;
 use chip::step::{Answer, step};
 use ground::Refusal;
 use registers::Registers;
-use registers::word::decoded;
+use registers::word::{decoded, parts};
 use stream::read::{checked, held, word};
 
 // What comes of an accepted word: what `step` answers to it, and what it is counted as.
@@ -41,6 +41,7 @@ fn take(
 }
 
 // The word at place k of a stream, taken and counted.
+#[tactic(auto, using(stream::proofs::Round::word_fits), unfolding(registers::specs::Word::word_of))]
 fn take_at(
     r: Registers,
     bytes: &[u8],
@@ -50,11 +51,11 @@ fn take_at(
 ) -> Result<Turn, Refusal>
     ensures { Counted r (word_of (word_at bytes.now k)) im zm result }
 {
-    let w = word(bytes, k);
-    take(r, (w / 65536) as u8, (w % 65536) as u16, im, zm)
+    let (command, data) = parts(word(bytes, k));
+    take(r, command, data, im, zm)
 }
 
-// The words of a stream, one after the other, until one is refused.
+// The words of a stream, one after the other, until one is refused. (A loop of its own, as `board`'s `run_words` says.)
 fn words_counted(bytes: &[u8], im: &mut [u16], zm: &mut [u16]) -> Entry
     requires { length bytes.now ≤ 8192 }
     ensures { entered result ≡ entry_from bytes.now (found im zm) }
@@ -93,6 +94,7 @@ fn uncounted(why: Stop) -> Entry
 }
 
 // A recording's entry in the report: run on a fresh picture of the drawing program's size, unless it is too long.
+#[tactic(auto, using(ground::proofs::Numbers::number_positive, crate::proofs::Entries::entry_long, crate::proofs::Entries::entry_flawed, crate::proofs::Entries::entry_run), unfolding(crate::specs::Overdraw::entered))]
 pub fn enter(bytes: &[u8]) -> Entry
     ensures { entered result ≡ entry_of bytes.now }
 {
