@@ -8,7 +8,7 @@ returns c =
     let is = c.aim.ensures in
     let drew = c.draw.ensures in
     record {
-      told = aimed_count a.self.x a.self.y a.r a.figure a.im.now a.zm.now is drew;
-      i_stays = aimed_i a.self.x a.self.y a.r a.figure a.im.now a.zm.now is drew;
-      z_stays = aimed_z a.self.x a.self.y a.r a.figure a.im.now a.zm.now is drew;
+      told = aimed_count a.self.x a.self.y a.registers a.figure a.im.now a.zm.now is drew;
+      i_stays = aimed_i a.self.x a.self.y a.registers a.figure a.im.now a.zm.now is drew;
+      z_stays = aimed_z a.self.x a.self.y a.registers a.figure a.im.now a.zm.now is drew;
     }
