@@ -74,6 +74,7 @@ pub fn fail(rt: &impl Eprint, what: &str, error: Error)
         text: [0; 64],
         size: 0,
     };
+    // `Front` takes what it has room for, and never fails.
     let _ = write!(why, "{error}");
     let reason = Ascii(bare(&why.text[..why.size]));
     say(rt, format_args!("{what}: {reason}"));

@@ -1,13 +1,14 @@
 // A word with what the machine made of it, as a line of text.
-ghost use Rattle.std.specs.Prelude.{◌≡◌, ◌+◌, ◌*◌, ◌<◌, ◌≤◌, length, take, drop};
-ghost use Rattle.report.specs.Calls.{Put, Laid};
+ghost use Rattle.std.specs.Prelude.{◌≡◌, ◌+◌, ◌*◌, ◌<◌, take, drop};
+ghost use Rattle.report.specs.Calls.{Adds, Lays, Room};
 ghost use Rattle.listing.specs.Trace.{meanings, meaning_name, share, meaning_text, number_text, answer_text, traced_text, numbers_text, trace_line, watch_line};
 
 use crate::write::{put_name, put_word};
-use report::{has_room, put_bytes, put_digits};
+use report::{Page, has_room};
 
 // What a word means: a row of the table of meanings, and which of how many parameters it is, 0 of 0 where there are none. The row is a number: up to 15
-// it is AUX's own, and IMG's behind those, so that an enum of 32 rows would be made of numbers only to be told by them again.
+// it is AUX's own, and IMG's behind those, so that an enum of 32 rows would be made of numbers only to be told by them again. Its two numbers are no flag with a value: a subcommand may want no
+// parameters, so that an `Option` of the two would be made by a test for 0 where `put_share` has that test now, and taken apart there besides.
 #[derive(Clone, Copy)]
 pub struct Meaning {
     pub row: u64,
@@ -80,100 +81,99 @@ fn meaning_at(row: usize) -> [u8; 12]
 
 // Puts a row of the table of meanings.
 #[tactic(auto, unfolding(crate::specs::Trace::meaning_name))]
-fn put_row(row: u64, out: &mut [u8], at: usize) -> usize
-    requires { at + 12 ≤ length out.old }
-    ensures { Put (meaning_name row) out.old at out.new result }
+fn put_row(row: u64, page: &mut Page<'_>)
+    requires { Room 12 page.old }
+    ensures { Adds (meaning_name row) page.old page.new }
 {
-    put_bytes(&meaning_at((row % 32) as usize), out, at)
+    page.put_bytes(&meaning_at((row % 32) as usize));
 }
 
 // Puts which of how many parameters it is.
-fn put_share(came: u64, wanted: u64, out: &mut [u8], at: usize) -> usize
-    requires { at + 3 ≤ length out.old }
-    ensures { Put (share came wanted) out.old at out.new result }
+fn put_share(came: u64, wanted: u64, page: &mut Page<'_>)
+    requires { Room 3 page.old }
+    ensures { Adds (share came wanted) page.old page.new }
 {
     if wanted == 0 {
-        return put_bytes(b"-  ", out, at);
+        page.put_bytes(b"-  ");
+        return;
     }
-    let slash = put_digits(came, 10, 1, out, at);
-    let last = put_bytes(b"/", out, slash);
-    put_digits(wanted, 10, 1, out, last)
+    page.put_digits(came, 10, 1);
+    page.put_byte(b'/');
+    page.put_digits(wanted, 10, 1);
 }
 
 // Puts a blank and a number of so many digits.
-fn put_number(n: u64, count: usize, out: &mut [u8], at: usize) -> usize
-    requires { at + (1 + count) ≤ length out.old }
-    ensures { Put (number_text count n) out.old at out.new result }
+fn put_number(n: u64, count: usize, page: &mut Page<'_>)
+    requires { Room (1 + count) page.old }
+    ensures { Adds (number_text count n) page.old page.new }
 {
-    let next = put_bytes(b" ", out, at);
-    put_digits(n, 10, count, out, next)
+    page.put_byte(b' ');
+    page.put_digits(n, 10, count);
 }
 
 // Puts the number that refuses a word, and how many pixels passed.
-fn put_answer(refusal: u64, passed: u64, out: &mut [u8], at: usize) -> usize
-    requires { at + 11 ≤ length out.old }
-    ensures { Put (answer_text refusal passed) out.old at out.new result }
+fn put_answer(refusal: u64, passed: u64, page: &mut Page<'_>)
+    requires { Room 11 page.old }
+    ensures { Adds (answer_text refusal passed) page.old page.new }
 {
-    let next = put_number(refusal, 2, out, at);
-    put_number(passed, 7, out, next)
+    put_number(refusal, 2, page);
+    put_number(passed, 7, page);
 }
 
 impl Meaning {
     // Puts what a word means.
-    fn put(self, out: &mut [u8], at: usize) -> usize
-        requires { at + 15 ≤ length out.old }
-        ensures { Put (meaning_text self) out.old at out.new result }
+    fn put(self, page: &mut Page<'_>)
+        requires { Room 15 page.old }
+        ensures { Adds (meaning_text self) page.old page.new }
     {
-        let next = put_row(self.row, out, at);
-        put_share(self.came, self.wanted, out, next)
+        put_row(self.row, page);
+        put_share(self.came, self.wanted, page);
     }
 }
 
 impl Traced {
     // Puts a word with what the machine made of it, and no line's end.
-    fn put(self, out: &mut [u8], at: usize) -> usize
-        requires { at + 51 ≤ length out.old }
-        ensures { Put (traced_text self) out.old at out.new result }
+    fn put(self, page: &mut Page<'_>)
+        requires { Room 51 page.old }
+        ensures { Adds (traced_text self) page.old page.new }
     {
-        let name = put_word(self.index, self.word, out, at);
-        let operand = put_name((self.word / 65536 % 16) as usize, out, name);
-        let means = put_digits(self.word as u64, 16, 4, out, operand);
-        let answer = self.meaning.put(out, means);
-        put_answer(self.refusal, self.passed, out, answer)
+        put_word(self.index, self.word, page);
+        put_name((self.word / 65536 % 16) as usize, page);
+        page.put_digits(self.word as u64, 16, 4);
+        self.meaning.put(page);
+        put_answer(self.refusal, self.passed, page);
     }
 }
 
 impl Numbers {
     // Puts the two numbers of a pixel.
-    fn put(self, out: &mut [u8], at: usize) -> usize
-        requires { at + 12 ≤ length out.old }
-        ensures { Put (numbers_text self) out.old at out.new result }
+    fn put(self, page: &mut Page<'_>)
+        requires { Room 12 page.old }
+        ensures { Adds (numbers_text self) page.old page.new }
     {
-        let next = put_number(self.i as u64, 5, out, at);
-        put_number(self.z as u64, 5, out, next)
+        put_number(self.i as u64, 5, page);
+        put_number(self.z as u64, 5, page);
     }
 }
 
-// Lays the line of a word at a place of `out`, and tells the place after it; where it has no room there, it is left out.
-pub fn trace_line(t: Traced, out: &mut [u8], at: usize) -> usize
-    ensures { Laid (trace_line t) out.old at out.new result }
+// Lays the line of a word on a page; where it has no room there, it is left out.
+pub fn trace_line(t: Traced, page: &mut Page<'_>)
+    ensures { Lays (trace_line t) page.old page.new }
 {
-    if !has_room(out.len(), 52, at) {
-        return at;
+    if has_room(page.out.len(), 52, page.at) {
+        t.put(page);
+        page.put_byte(b'\n');
     }
-    let end = t.put(out, at);
-    put_bytes(b"\n", out, end)
 }
 
 // Lays the line of a word with a pixel's numbers before and after it.
-pub fn watch_line(t: Traced, before: Numbers, after: Numbers, out: &mut [u8], at: usize) -> usize
-    ensures { Laid (watch_line t before after) out.old at out.new result }
+pub fn watch_line(t: Traced, before: Numbers, after: Numbers, page: &mut Page<'_>)
+    ensures { Lays (watch_line t before after) page.old page.new }
 {
-    if !has_room(out.len(), 76, at) {
-        return at;
+    if has_room(page.out.len(), 76, page.at) {
+        t.put(page);
+        before.put(page);
+        after.put(page);
+        page.put_byte(b'\n');
     }
-    let first = t.put(out, at);
-    let second = before.put(out, first);
-    let end = after.put(out, second);
-    put_bytes(b"\n", out, end)
 }

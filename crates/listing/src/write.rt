@@ -1,9 +1,9 @@
 // Words to text: a line for each.
-ghost use Rattle.std.specs.Prelude.{◌≡◌, ◌+◌, ◌*◌, ◌<◌, ◌≤◌, length, take, drop};
-ghost use Rattle.report.specs.Calls.{Put, wrote, writing_text};
+ghost use Rattle.std.specs.Prelude.{◌≡◌, ◌*◌, ◌<◌, length, take, drop};
+ghost use Rattle.report.specs.Calls.{Adds, Room, wrote, writing_text};
 ghost use Rattle.listing.specs.Text.{name_of, placed, line, lines, listing};
 
-use report::{NoRoom, put_bytes, put_digits};
+use report::{NoRoom, Page};
 
 // The names of the commands 0 to F hex, each in six columns.
 const NAMES: [[u8; 6]; 16] = [
@@ -21,45 +21,43 @@ fn name_of(command: usize) -> [u8; 6]
 }
 
 // Puts a command's name.
-pub(crate) fn put_name(command: usize, out: &mut [u8], at: usize) -> usize
+pub(crate) fn put_name(command: usize, page: &mut Page<'_>)
     requires command_bound { command < 16 }
-    requires at_in_bounds { at + 6 ≤ length out.old }
-    ensures { Put (name_of command) out.old at out.new result }
+    requires at_in_bounds { Room 6 page.old }
+    ensures { Adds (name_of command) page.old page.new }
 {
-    put_bytes(&name_of(command), out, at)
+    page.put_bytes(&name_of(command));
 }
 
 // Puts a word, and the index that its remark begins with.
-pub(crate) fn put_word(index: u64, word: u32, out: &mut [u8], at: usize) -> usize
-    requires { at + 15 ≤ length out.old }
-    ensures { Put (placed index word) out.old at out.new result }
+pub(crate) fn put_word(index: u64, word: u32, page: &mut Page<'_>)
+    requires { Room 15 page.old }
+    ensures { Adds (placed index word) page.old page.new }
 {
-    let remark = put_digits(word as u64, 16, 5, out, at);
-    let place = put_bytes(b" # ", out, remark);
-    put_digits(index, 10, 7, out, place)
+    page.put_digits(word as u64, 16, 5);
+    page.put_bytes(b" # ");
+    page.put_digits(index, 10, 7);
 }
 
 // Puts the line of a word.
-fn put_line(index: u64, word: u32, out: &mut [u8], at: usize) -> usize
-    requires { at + 26 ≤ length out.old }
-    ensures { Put (line index word) out.old at out.new result }
+fn put_line(index: u64, word: u32, page: &mut Page<'_>)
+    requires { Room 26 page.old }
+    ensures { Adds (line index word) page.old page.new }
 {
-    let name = put_word(index, word, out, at);
-    let operand = put_name((word / 65536 % 16) as usize, out, name);
-    let end = put_digits(word as u64, 16, 4, out, operand);
-    put_bytes(b"\n", out, end)
+    put_word(index, word, page);
+    put_name((word / 65536 % 16) as usize, page);
+    page.put_digits(word as u64, 16, 4);
+    page.put_byte(b'\n');
 }
 
-// Puts the lines of all words, and tells the place after them.
-fn put_lines(from: u32, words: &[u32], out: &mut [u8]) -> usize
-    requires { length words.now * 26 ≤ length out.old }
-    ensures { Put (lines from words.now (length words.now)) out.old 0 out.new result }
+// Puts the lines of all words.
+fn put_lines(from: u32, words: &[u32], page: &mut Page<'_>)
+    requires { Room (length words.now * 26) page.old }
+    ensures { Adds (lines from words.now (length words.now)) page.old page.new }
 {
-    let mut next = 0;
     for (k, word) in words.iter().enumerate() {
-        next = put_line(from as u64 + k as u64, *word, out, next);
+        put_line(from as u64 + k as u64, *word, page);
     }
-    next
 }
 
 // Writes the lines of some words to the front of `out`, or refuses where that is too short. The first word's index is `from`, so that a
@@ -70,5 +68,7 @@ pub fn list(from: u32, words: &[u32], out: &mut [u8]) -> Result<usize, NoRoom>
     if out.len() / 26 < words.len() {
         return Err(NoRoom);
     }
-    Ok(put_lines(from, words, out))
+    let mut page = Page { out, at: 0 };
+    put_lines(from, words, &mut page);
+    Ok(page.at)
 }

@@ -12,8 +12,10 @@ fn say_dropped(rt: &impl Eprint, number: u8, index: u64, word: u32)
     requires { index < 4294967296 }
 {
     let mut line = [0u8; 26];
+    // A line has 26 bytes, so that it fits.
     let _ = list(index as u32, &[word], &mut line);
     let text = Ascii(&line);
+    // Whether it is read no contract can say.
     let _ = eprint!(rt; "refusal {number} {text}");
 }
 

@@ -26,6 +26,7 @@ pub struct Mended {
 }
 
 // How many bits are cut from the end.
+#[tactic(auto, unfolding(crate::specs::Mend::cut_of))]
 fn cut_bits(bytes: &[u8]) -> u64
     ensures { result ≡ cut_of bytes.now }
 {

@@ -35,6 +35,7 @@ pub(crate) fn kept(bytes: &[u8]) -> usize
                 r = answer.registers;
                 j += 1;
             }
+            // The arm stays beside the first: `if let` leaves no line in which the edit `refused_word_kept` says its one wrong fact.
             Err(_) => {}
         }
     }
@@ -48,6 +49,7 @@ fn put_words(words: &[u32], j: usize, out: &mut [u8])
     requires words_in_bounds { 5 * (j / 2) + (length words.now * 5 + 1) / 2 ≤ length out.old }
     ensures { out.new ≡ put_waiting words.now j out.old }
 {
+    // There is room, and each word has 20 bits (both are asked for): nothing is refused, and the length that is told is known.
     let _ = pack(words, &mut out[5 * (j / 2)..]);
 }
 

@@ -9,6 +9,7 @@ use lib.ListN.{length, set, length-append}
 use lib.Dec.{eqb}
 use lib.Seq.{sets}
 use Rattle.report.proofs.Putting.{store_first}
+use Rattle.report.specs.declared.page.Page.{Page}
 use Rattle.tally.specs.declared.Count.{Count}
 use Rattle.tally.specs.declared.Tally.{Tally}
 use Rattle.tally.specs.Overdraw.{Entered}
@@ -55,6 +56,13 @@ module _ (k n at : ℕ) (out : List ℕ) where
   pub put_next : {g : ℕ} → g ≡ glyph n → sets (set out (at + k) g) at (front k (n / 10)) ≡ sets out at (front (k + 1) n)
   unfolding front
   put_next e = rw (here, e, add-one k) (store_first (front k (n / 10)) out at (glyph n))
+
+-- a page while a number is stored, from the last column to the first: what is left of it, put into the first k columns over what stands, gives what the
+-- whole number gives, put over what stood; the next byte's place and the buffer are what they were
+pub record Storing (width n k rest : ℕ) (old new : Page) : Type 0 where
+  pub put : sets new.out.now old.at (front k rest) ≡ sets old.out.now old.at (front width n)
+  pub at : new.at ≡ old.at
+  pub same : new.out.ghost_name ≡ old.out.ghost_name
 
 -- nothing is left
 pub put_all : (n at : ℕ) (out : List ℕ) → sets out at (front 0 n) ≡ out

@@ -1,14 +1,14 @@
 // The files where the program stands, by their numbers.
-ghost use Rattle.std.specs.Prelude.{◌≡◌, length};
+ghost use Rattle.std.specs.Prelude.{length};
 ghost use Rattle.std.specs.Str.{IsAscii};
-ghost use Rattle.overdraw.specs.Read.{found_of, Within};
+ghost use Rattle.overdraw.specs.Read.{Within};
 
 use crate::text::name_of;
 use console::say::fail;
 use console::take_from;
 use std::io::{Eprint, Error, ErrorKind};
 use std::rt::Files;
-use std::{fs, io, str};
+use std::{fs, str};
 
 // Why a file's bytes do not come: it is missing, or it is there and cannot be read.
 #[derive(Debug, Drop)]
@@ -32,25 +32,13 @@ fn unopened(error: Error) -> Lost {
     Lost::Unreadable(error)
 }
 
-// What reading an open file came to.
-fn found(taken: io::Result<usize>) -> Result<usize, Lost>
-    ensures { result ≡ found_of taken }
-{
-    match taken {
-        Ok(n) => Ok(n),
-        Err(error) => Err(Lost::Unreadable(error)),
-    }
-}
-
 // Looks for the file with number k, and reads it until it ends or the buffer is full: so many bytes came.
 pub(crate) fn find(rt: &impl Files, k: u64, bytes: &mut [u8]) -> Result<usize, Lost>
     ensures { Within (length bytes.old) result }
 {
     let name = name_of(k);
-    match fs::open(rt, text_of(&name[..3])) {
-        Ok(mut file) => found(take_from(&mut file, bytes)),
-        Err(error) => Err(unopened(error)),
-    }
+    let mut file = fs::open(rt, text_of(&name[..3])).map_err(unopened)?;
+    take_from(&mut file, bytes).map_err(Lost::Unreadable)
 }
 
 // Says that the file with number k cannot be read, and why.

@@ -7,35 +7,37 @@ mod file;
 mod page;
 mod text;
 
+ghost use Rattle.std.specs.Prelude.{◌≡◌, ◌≤◌, length};
 ghost use Rattle.overdraw.specs.Report.{Gathered, Printed};
 
 use console::args::count;
 use console::say::{fail, say};
 use file::{Lost, find, say_unread};
 use page::Reached;
+use report::Page;
 use std::io::Eprint;
 use std::rt::Files;
 
-// A report that a file which cannot be read has cut short, and where its lines end.
+// Why a report has no total: a file cannot be read. Its lines end where its page had come to.
 #[derive(Clone, Copy, Debug, PartialEq, Eq)]
-struct Cut {
-    end: usize,
-}
+struct Cut;
 
 // Reads and reports file after file, until one is missing or cannot be read. One byte more than a recording may have is enough to tell that it is
 // too long. (No range counts the files: the report itself does.)
-fn gather(rt: &(impl Files + Eprint), out: &mut [u8; 418474]) -> Result<Reached, Cut>
-    ensures { Gathered out.old out.new result }
+fn gather(rt: &(impl Files + Eprint), page: &mut Page<'_>) -> Result<Reached, Cut>
+    requires at_front { page.old.at ≡ 0 }
+    requires long { 418474 ≤ length page.old.out.now }
+    ensures { Gathered page.old page.new result }
 {
-    let mut reached = Reached::begin(out);
+    let mut reached = Reached::begin(page);
     let mut bytes = [0u8; 8193];
     while reached.files < 1000 {
         match find(rt, reached.files, &mut bytes) {
-            Ok(n) => reached = reached.add(&bytes[..n], out),
+            Ok(n) => reached = reached.add(&bytes[..n], page),
             Err(Lost::Missing) => return Ok(reached),
             Err(Lost::Unreadable(error)) => {
                 say_unread(rt, reached.files, error);
-                return Err(Cut { end: reached.end });
+                return Err(Cut);
             }
         }
     }
@@ -46,9 +48,13 @@ fn gather(rt: &(impl Files + Eprint), out: &mut [u8; 418474]) -> Result<Reached,
 fn reported(rt: &(impl Files + Eprint), out: &mut [u8; 418474]) -> usize
     ensures { Printed out.old out.new result }
 {
-    match gather(rt, out) {
-        Ok(reached) => reached.finish(out),
-        Err(cut) => cut.end,
+    let mut page = Page { out, at: 0 };
+    match gather(rt, &mut page) {
+        Ok(reached) => {
+            reached.finish(&mut page);
+            page.at
+        }
+        Err(Cut) => page.at,
     }
 }
 

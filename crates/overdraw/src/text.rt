@@ -1,16 +1,17 @@
-// The lines of the report, put at a place of a buffer. Each tells the place after it.
-ghost use Rattle.std.specs.Prelude.{◌≡◌, ◌+◌, ◌≤◌, length};
-ghost use Rattle.report.specs.Calls.{Put};
+// The lines of the report, put on its page.
+ghost use Rattle.std.specs.Prelude.{◌≡◌, ◌≤◌};
+ghost use Rattle.report.specs.Calls.{Adds, Room};
 ghost use Rattle.ground.specs.Refusal.{number};
 ghost use Rattle.tally.specs.Tally.{EachWithin};
 ghost use Rattle.tally.specs.Overdraw.{entered};
 ghost use Rattle.overdraw.specs.Text.{glyph, front, columns, percent_of, name_of, heading, numbers, count_line, tally_lines, refusal_line, too_long_line, entry_lines};
 
 use ground::Refusal;
-use report::put_bytes;
+use report::Page;
 use tally::{Count, Entry, Stop, Tally};
 
 // The last digit of a number, or a blank where nothing is left of it.
+#[tactic(auto, unfolding(crate::specs::Text::glyph))]
 fn glyph_of(n: u64) -> u8
     ensures { result ≡ glyph n }
 {
@@ -22,27 +23,26 @@ fn glyph_of(n: u64) -> u8
 
 // Puts a number into `width` columns, as it stands in front of another digit. The digits come from the last to the first, so that one division finds
 // each. (report's `put_digits` puts zeros where this puts blanks: to call it, the digits would have to be counted first.)
-fn put_front(n: u64, width: usize, out: &mut [u8], at: usize) -> usize
-    requires { at + width ≤ length out.old }
-    ensures { Put (front width n) out.old at out.new result }
+fn put_front(n: u64, width: usize, page: &mut Page<'_>)
+    requires { Room width page.old }
+    ensures { Adds (front width n) page.old page.new }
 {
     let mut rest = n;
     for k in (0..width).rev() {
-        out[at + k] = glyph_of(rest);
+        page.out[page.at + k] = glyph_of(rest);
         rest /= 10;
     }
-    at + width
+    page.at += width;
 }
 
 // Puts a number into `width` columns.
-fn put_columns(n: u64, width: usize, out: &mut [u8], at: usize) -> usize
+fn put_columns(n: u64, width: usize, page: &mut Page<'_>)
     requires le_width { 1 ≤ width }
-    requires width_in_bounds { at + width ≤ length out.old }
-    ensures { Put (columns width n) out.old at out.new result }
+    requires width_in_bounds { Room width page.old }
+    ensures { Adds (columns width n) page.old page.new }
 {
-    let next = put_front(n / 10, width - 1, out, at);
-    out[next] = b'0' + (n % 10) as u8;
-    next + 1
+    put_front(n / 10, width - 1, page);
+    page.put_byte(b'0' + (n % 10) as u8);
 }
 
 // The share that is hidden.
@@ -71,99 +71,98 @@ pub(crate) fn name_of(k: u64) -> [u8; 6]
 }
 
 // Puts the heading.
-pub(crate) fn put_heading(out: &mut [u8], at: usize) -> usize
-    requires { at + 79 ≤ length out.old }
-    ensures { Put heading out.old at out.new result }
+#[tactic(auto, unfolding(crate::specs::Text::heading))]
+pub(crate) fn put_heading(page: &mut Page<'_>)
+    requires { Room 79 page.old }
+    ensures { Adds heading page.old page.new }
 {
-    put_bytes(
+    page.put_bytes(
         b"file  kind     figures         offered          passed          hidden percent\n",
-        out,
-        at,
-    )
+    );
 }
 
 // Puts the numbers of a count.
-fn put_numbers(c: Count, out: &mut [u8], at: usize) -> usize
+fn put_numbers(c: Count, page: &mut Page<'_>)
     requires hidden_bound { c.hidden ≤ 100000000000000000 }
-    requires at_in_bounds { at + 64 ≤ length out.old }
-    ensures { Put (numbers c) out.old at out.new result }
+    requires at_in_bounds { Room 64 page.old }
+    ensures { Adds (numbers c) page.old page.new }
 {
-    let first = put_columns(c.figures, 8, out, at);
-    let second = put_columns(c.offered, 16, out, first);
-    let third = put_columns(c.passed, 16, out, second);
-    let fourth = put_columns(c.hidden, 16, out, third);
-    put_columns(percent(c), 8, out, fourth)
+    put_columns(c.figures, 8, page);
+    put_columns(c.offered, 16, page);
+    put_columns(c.passed, 16, page);
+    put_columns(c.hidden, 16, page);
+    put_columns(percent(c), 8, page);
 }
 
 // Puts the line of a kind.
-fn put_count(name: [u8; 6], kind: [u8; 8], c: Count, out: &mut [u8], at: usize) -> usize
+fn put_count(name: [u8; 6], kind: [u8; 8], c: Count, page: &mut Page<'_>)
     requires hidden_bound { c.hidden ≤ 100000000000000000 }
-    requires at_in_bounds { at + 79 ≤ length out.old }
-    ensures { Put (count_line name kind c) out.old at out.new result }
+    requires at_in_bounds { Room 79 page.old }
+    ensures { Adds (count_line name kind c) page.old page.new }
 {
-    let first = put_bytes(&name, out, at);
-    let second = put_bytes(&kind, out, first);
-    let third = put_numbers(c, out, second);
-    put_bytes(b"\n", out, third)
+    page.put_bytes(&name);
+    page.put_bytes(&kind);
+    put_numbers(c, page);
+    page.put_byte(b'\n');
 }
 
 // Puts a line a kind.
-pub(crate) fn put_tally(name: [u8; 6], t: Tally, out: &mut [u8], at: usize) -> usize
+pub(crate) fn put_tally(name: [u8; 6], t: Tally, page: &mut Page<'_>)
     requires each_within { EachWithin 3276000 t }
-    requires at_in_bounds { at + 395 ≤ length out.old }
-    ensures { Put (tally_lines name t) out.old at out.new result }
+    requires at_in_bounds { Room 395 page.old }
+    ensures { Adds (tally_lines name t) page.old page.new }
 {
-    let first = put_count(name, *b"gouraud ", t.gouraud, out, at);
-    let second = put_count(name, *b"constant", t.constant, out, first);
-    let third = put_count(name, *b"line0   ", t.line0, out, second);
-    let fourth = put_count(name, *b"line1   ", t.line1, out, third);
-    put_count(name, *b"line2   ", t.line2, out, fourth)
+    put_count(name, *b"gouraud ", t.gouraud, page);
+    put_count(name, *b"constant", t.constant, page);
+    put_count(name, *b"line0   ", t.line0, page);
+    put_count(name, *b"line1   ", t.line1, page);
+    put_count(name, *b"line2   ", t.line2, page);
 }
 
 // Puts the line of a refusal.
-fn put_refusal(name: [u8; 6], refusal: Refusal, out: &mut [u8], at: usize) -> usize
-    requires { at + 23 ≤ length out.old }
-    ensures { Put (refusal_line name (number refusal)) out.old at out.new result }
+fn put_refusal(name: [u8; 6], refusal: Refusal, page: &mut Page<'_>)
+    requires { Room 23 page.old }
+    ensures { Adds (refusal_line name (number refusal)) page.old page.new }
 {
-    let first = put_bytes(&name, out, at);
-    let second = put_bytes(b"refusal ", out, first);
-    let third = put_columns(refusal.into(), 8, out, second);
-    put_bytes(b"\n", out, third)
+    page.put_bytes(&name);
+    page.put_bytes(b"refusal ");
+    put_columns(refusal.into(), 8, page);
+    page.put_byte(b'\n');
 }
 
 // Puts the line of a recording that is too long.
-fn put_too_long(name: [u8; 6], out: &mut [u8], at: usize) -> usize
-    requires { at + 15 ≤ length out.old }
-    ensures { Put (too_long_line name) out.old at out.new result }
+fn put_too_long(name: [u8; 6], page: &mut Page<'_>)
+    requires { Room 15 page.old }
+    ensures { Adds (too_long_line name) page.old page.new }
 {
-    let first = put_bytes(&name, out, at);
-    let second = put_bytes(b"too long", out, first);
-    put_bytes(b"\n", out, second)
+    page.put_bytes(&name);
+    page.put_bytes(b"too long");
+    page.put_byte(b'\n');
 }
 
 // Puts the lines of a recording that was not run to its end.
-fn put_stopped(name: [u8; 6], tally: Tally, why: Stop, out: &mut [u8], at: usize) -> usize
+fn put_stopped(name: [u8; 6], tally: Tally, why: Stop, page: &mut Page<'_>)
     requires each_within { EachWithin 3276 tally }
-    requires at_in_bounds { at + 418 ≤ length out.old }
-    ensures { Put (entry_lines name (entered (record { outcome = Err why; tally = tally }))) out.old at out.new result }
+    requires at_in_bounds { Room 418 page.old }
+    ensures { Adds (entry_lines name (entered (record { outcome = Err why; tally = tally }))) page.old page.new }
 {
     match why {
-        Stop::TooLong => put_too_long(name, out, at),
+        Stop::TooLong => put_too_long(name, page),
         Stop::Refused(refusal) => {
-            let next = put_tally(name, tally, out, at);
-            put_refusal(name, refusal, out, next)
+            put_tally(name, tally, page);
+            put_refusal(name, refusal, page);
         }
     }
 }
 
 // Puts the lines of a recording.
-pub(crate) fn put_entry(name: [u8; 6], e: Entry, out: &mut [u8], at: usize) -> usize
+pub(crate) fn put_entry(name: [u8; 6], e: Entry, page: &mut Page<'_>)
     requires each_within { EachWithin 3276 e.tally }
-    requires at_in_bounds { at + 418 ≤ length out.old }
-    ensures { Put (entry_lines name (entered e)) out.old at out.new result }
+    requires at_in_bounds { Room 418 page.old }
+    ensures { Adds (entry_lines name (entered e)) page.old page.new }
 {
     match e.outcome {
-        Ok(()) => put_tally(name, e.tally, out, at),
-        Err(why) => put_stopped(name, e.tally, why, out, at),
+        Ok(()) => put_tally(name, e.tally, page),
+        Err(why) => put_stopped(name, e.tally, why, page),
     }
 }

@@ -9,8 +9,9 @@ use lib.ListN.{length, drop, length-append}
 use lib.Seq.{length-take-le}
 use Rattle.stream.specs.Calls.{Outcome, over, written, concluded}
 use Rattle.stream.proofs.Calls.{no_room_lem, room}
-use Rattle.report.specs.Calls.{writing_text, wrote, Put, Stands}
+use Rattle.report.specs.Calls.{writing_text, wrote, Adds, Stands}
 use Rattle.report.specs.declared.NoRoom.{NoRoom}
+use Rattle.report.specs.declared.page.Page.{Page}
 use Rattle.report.proofs.Putting.{put_over}
 
 module _ (text out : List ℕ) where
@@ -24,10 +25,11 @@ module _ (text out : List ℕ) where
   unfolding writing_text concluded
   writes h = rw (room text out h)
 
-  -- a call that puts a text that fits at the front of the buffer, and answers with the place after it, has written the text
-  pub done : {left : List ℕ} {n : ℕ} → length text ≤ length out → Put text out 0 left n → wrote (Ok n) left ≡ writing_text text out
-  done h p =
-      let all = put_over h p in
+  -- a call that puts a text that fits on a page from the front of the buffer on, and answers with the place after it, has written the text
+  pub done : {old new : Page} {left : List ℕ} → length text ≤ length out → Adds text old new → old.out.now ≡ out → old.at ≡ 0 → new.out.now ≡ left
+      → wrote (Ok new.at) left ≡ writing_text text out
+  done h p e f g =
+      let all = put_over h (rw (e, f, g) at p.put) in
       rw (writes h, all.0, all.1)
 
 -- what was written stands

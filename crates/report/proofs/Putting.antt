@@ -6,11 +6,12 @@ use native.Mathlib.Nat.{add-zero, zero-add, add-suc, suc-add}
 use native.Mathlib.Numerals.{add-one}
 use native.Mathlib.Omega.{arith}
 use lib.ListN.{length, set, take, drop, length-append}
-use lib.Seq.{sets, sets-eq, set_comm, drop-drop}
+use lib.Seq.{sets, sets-eq, length-sets, set_comm, drop-drop}
 use borrow.Rule.Slice.PartMut.{put_mid}
 use Rattle.stream.specs.Calls.{over}
 use Rattle.report.specs.Text.{glyph, last_digits}
-use Rattle.report.specs.Calls.{Put}
+use Rattle.report.specs.Calls.{Put, Adds, Room}
+use Rattle.report.specs.declared.page.Page.{Page}
 use Rattle.report.proofs.Decimal.{length_digits}
 
 sets_append : (a b l : List ℕ) (at : ℕ) → sets (sets l at a) (at + length a) b ≡ sets l at (a ++ b)
@@ -48,6 +49,16 @@ pub put_over : {text l m : List ℕ} {n : ℕ} → length text ≤ length l → 
 unfolding over
 put_over {text} {l} {m} {n} h p = (p.ends ∙ zero-add (length text), p.stands ∙ sets-eq text l 0 (omega arith) ∙ rw (zero-add (length text)))
 
+-- ---- the same of a page
+
+-- nothing
+pub add_none : (page : Page) → Adds [] page page
+add_none page = record { put = put_none page.out.now page.at; same = refl }
+
+-- a text behind a text
+pub add_after : {a b : List ℕ} {l m n : Page} → Adds a l m → Adds b m n → Adds (a ++ b) l n
+add_after p q = record { put = put_append p.put q.put; same = q.same ∙ p.same }
+
 -- ---- digits, stored from the last to the first
 
 -- the last of k + 1 digits stored, the others of the number without it are left to put
@@ -62,6 +73,21 @@ put_last base k n at out {g} e =
 pub put_all : (base n at : ℕ) (out : List ℕ) → sets out at (last_digits base 0 n) ≡ out
 unfolding last_digits
 put_all base n at out = refl
+
+-- a page keeps its buffer's length
+pub add_length : {text : List ℕ} {old new : Page} → Adds text old new → length new.out.now ≡ length old.out.now
+add_length {text} {old} p = ap (length {A = ℕ}) p.put.stands ∙ length-sets old.out.now old.at text
+
+-- where a text and so many bytes more have room, those bytes have room behind the text
+pub room_after : {text : List ℕ} {old new : Page} (size : ℕ) → Adds text old new → Room (length text + size) old → Room size new
+room_after size p h = omega (arith, h, p.put.ends, add_length p)
+
+-- a page while digits are stored, from the last to the first: the first k digits of the rest, put over what stands, give what all digits give, put over
+-- what stood; the next byte's place and the buffer are what they were
+pub record Storing (base count n k rest : ℕ) (old new : Page) : Type 0 where
+  pub put : sets new.out.now old.at (last_digits base k rest) ≡ sets old.out.now old.at (last_digits base count n)
+  pub at : new.at ≡ old.at
+  pub same : new.out.ghost_name ≡ old.out.ghost_name
 
 -- ---- a text in place of as many bytes
 

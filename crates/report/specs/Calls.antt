@@ -4,6 +4,7 @@ use Rattle.std.proofs.lemmas.List.Edits.{sets}
 use Rattle.stream.specs.Calls.{Outcome, concluded, no_room, over}
 use Rattle.report.specs.Text.{report}
 use Rattle.report.specs.declared.NoRoom.{NoRoom}
+use Rattle.report.specs.declared.page.Page.{Page}
 
 -- writing checks 13
 unfoldable pub writing_text : List ℕ → List ℕ → Outcome
@@ -55,3 +56,23 @@ fits text old at = leb (at + length text) (length old)
 pub record Laid (text old : List ℕ) (at : ℕ) (new : List ℕ) (next : ℕ) : Type 0 where
   pub left : new ≡ cond (fits text old at) (sets old at text) old
   pub end : next ≡ cond (fits text old at) (at + length text) at
+
+-- ---- the same of a page, whose buffer and place go together
+
+-- so many bytes have room
+abbrev pub Room : ℕ → Page → Type 0
+Room size page = page.at + size ≤ length page.out.now
+
+-- the next byte's place is on the page, or where it ends
+abbrev pub OnPage : Page → Type 0
+OnPage page = page.at ≤ length page.out.now
+
+-- a text put where the page had come to; the page has its buffer still
+pub record Adds (text : List ℕ) (old new : Page) : Type 0 where
+  pub put : Put text old.out.now old.at new.out.now new.at
+  pub same : new.out.ghost_name ≡ old.out.ghost_name
+
+-- a text laid there
+pub record Lays (text : List ℕ) (old new : Page) : Type 0 where
+  pub laid : Laid text old.out.now old.at new.out.now new.at
+  pub same : new.out.ghost_name ≡ old.out.ghost_name

@@ -1,10 +1,10 @@
 // The first line: what came of the run.
-ghost use Rattle.std.specs.Prelude.{◌+◌, ◌≤◌, length};
+ghost use Rattle.std.specs.Prelude.{length};
 ghost use Rattle.report.specs.Text.{named, heading};
-ghost use Rattle.report.specs.Calls.{Put, Sized};
+ghost use Rattle.report.specs.Calls.{Adds, Room, Sized};
 
-use crate::number::{digits, put_field};
-use crate::put::put_bytes;
+use crate::number::digits;
+use crate::page::Page;
 
 // The three numbers of a run: its words, the number that refused one or 0, and the pixels that passed.
 #[derive(Clone, Copy)]
@@ -14,13 +14,15 @@ pub(crate) struct Heading {
     pub(crate) passed: u64,
 }
 
-// Puts a name, its number, and the byte after it.
-fn put_named(name: &[u8], n: u64, after: u8, out: &mut [u8], at: usize) -> usize
-    requires { at + length (named name.now n after) ≤ length out.old }
-    ensures { Put (named name.now n after) out.old at out.new result }
-{
-    let next = put_bytes(name, out, at);
-    put_field(n, after, out, next)
+impl Page<'_> {
+    // Puts a name, its number, and the byte after it.
+    fn put_named(&mut self, name: &[u8], n: u64, after: u8)
+        requires { Room (length (named name.now n after)) self.old }
+        ensures { Adds (named name.now n after) self.old self.new }
+    {
+        self.put_bytes(name);
+        self.put_field(n, after);
+    }
 }
 
 impl Heading {
@@ -32,12 +34,12 @@ impl Heading {
     }
 
     // Puts the first line.
-    pub(crate) fn put(self, out: &mut [u8], at: usize) -> usize
-        requires { at + length (heading self.words self.refusal self.passed) ≤ length out.old }
-        ensures { Put (heading self.words self.refusal self.passed) out.old at out.new result }
+    pub(crate) fn put(self, page: &mut Page<'_>)
+        requires { Room (length (heading self.words self.refusal self.passed)) page.old }
+        ensures { Adds (heading self.words self.refusal self.passed) page.old page.new }
     {
-        let first = put_named(b"words ", self.words, b' ', out, at);
-        let second = put_named(b"refusal ", self.refusal, b' ', out, first);
-        put_named(b"passed ", self.passed, b'\n', out, second)
+        page.put_named(b"words ", self.words, b' ');
+        page.put_named(b"refusal ", self.refusal, b' ');
+        page.put_named(b"passed ", self.passed, b'\n');
     }
 }

@@ -2,12 +2,12 @@
 // that a pixel may have.
 ghost use Rattle.std.specs.Prelude.{◌≡◌, ◌+◌, ◌≤◌, length};
 ghost use Rattle.report.specs.Image.{image_heading, pixel, pixel_size, numbers, row_bytes, down};
-ghost use Rattle.report.specs.Calls.{Put, Sized, wrote, writing_text};
+ghost use Rattle.report.specs.Calls.{Adds, Room, Sized, wrote, writing_text};
 
 use crate::NoRoom;
-use crate::number::{digits, put_field, put_pair};
+use crate::number::digits;
+use crate::page::Page;
 use crate::place::number_at;
-use crate::put::put_bytes;
 
 // How many bytes the heading takes: six, and the digits of the width, the height and the greatest number.
 fn size_of_heading(most: u16, line: u16, rows: usize) -> usize
@@ -17,13 +17,13 @@ fn size_of_heading(most: u16, line: u16, rows: usize) -> usize
 }
 
 // Puts the heading.
-fn put_image_heading(most: u16, line: u16, rows: usize, out: &mut [u8], at: usize) -> usize
-    requires { at + length (image_heading most line rows) ≤ length out.old }
-    ensures { Put (image_heading most line rows) out.old at out.new result }
+fn put_image_heading(most: u16, line: u16, rows: usize, page: &mut Page<'_>)
+    requires { Room (length (image_heading most line rows)) page.old }
+    ensures { Adds (image_heading most line rows) page.old page.new }
 {
-    let first = put_bytes(b"P5\n", out, at);
-    let second = put_pair(line as u64, rows as u64, b'\n', out, first);
-    put_field(most as u64, b'\n', out, second)
+    page.put_bytes(b"P5\n");
+    page.put_pair(line as u64, rows as u64, b'\n');
+    page.put_field(most as u64, b'\n');
 }
 
 // Writes the heading to the front of `out`, or refuses where that is too short.
@@ -33,7 +33,9 @@ pub fn image_heading(most: u16, line: u16, rows: usize, out: &mut [u8]) -> Resul
     if out.len() < size_of_heading(most, line, rows) {
         return Err(NoRoom);
     }
-    Ok(put_image_heading(most, line, rows, out, 0))
+    let mut page = Page { out, at: 0 };
+    put_image_heading(most, line, rows, &mut page);
+    Ok(page.at)
 }
 
 // How many bytes a pixel takes: one where no number is above 255, and else two.
@@ -45,62 +47,43 @@ fn pixel_size(most: u16) -> usize
 }
 
 // Puts a pixel's bytes: the last of its number's two, or both.
-fn put_pixel(most: u16, n: u16, out: &mut [u8], at: usize) -> usize
-    requires { at + pixel_size most ≤ length out.old }
-    ensures { Put (pixel most n) out.old at out.new result }
+fn put_pixel(most: u16, n: u16, page: &mut Page<'_>)
+    requires { Room (pixel_size most) page.old }
+    ensures { Adds (pixel most n) page.old page.new }
 {
     let bytes = n.to_be_bytes();
-    put_bytes(&bytes[2 - pixel_size(most)..], out, at)
+    page.put_bytes(&bytes[2 - pixel_size(most)..]);
 }
 
 // Puts the numbers of `count` places, from a place on.
-fn put_numbers(
-    most: u16,
-    memory: &[u16],
-    from: usize,
-    count: u16,
-    out: &mut [u8],
-    at: usize,
-) -> usize
+fn put_numbers(most: u16, memory: &[u16], from: usize, count: u16, page: &mut Page<'_>)
     requires from_in_bounds { from ≤ length memory.now }
-    requires count_in_bounds { at + length (numbers most memory.now from count) ≤ length out.old }
-    ensures { Put (numbers most memory.now from count) out.old at out.new result }
+    requires count_in_bounds { Room (length (numbers most memory.now from count)) page.old }
+    ensures { Adds (numbers most memory.now from count) page.old page.new }
 {
-    let mut next = at;
     for k in 0..count as usize {
-        next = put_pixel(most, number_at(memory, from + k), out, next);
+        put_pixel(most, number_at(memory, from + k), page);
     }
-    next
 }
 
 // Puts the numbers of a row. From the memory's end on all is 0, so that it starts there at the latest.
-fn put_row(most: u16, line: u16, y: usize, memory: &[u16], out: &mut [u8], at: usize) -> usize
-    requires { at + length (row_bytes most line memory.now y) ≤ length out.old }
-    ensures { Put (row_bytes most line memory.now y) out.old at out.new result }
+fn put_row(most: u16, line: u16, y: usize, memory: &[u16], page: &mut Page<'_>)
+    requires { Room (length (row_bytes most line memory.now y)) page.old }
+    ensures { Adds (row_bytes most line memory.now y) page.old page.new }
 {
     let start = y.saturating_mul(line as usize).min(memory.len());
-    put_numbers(most, memory, start, line, out, at)
+    put_numbers(most, memory, start, line, page);
 }
 
 // Puts the rows under row `below`, downward; where there are not so many, the lowest once more for each.
-fn put_rows(
-    most: u16,
-    line: u16,
-    below: usize,
-    count: usize,
-    memory: &[u16],
-    out: &mut [u8],
-    at: usize,
-) -> usize
-    requires { at + length (down most line memory.now below count) ≤ length out.old }
-    ensures { Put (down most line memory.now below count) out.old at out.new result }
+fn put_rows(most: u16, line: u16, below: usize, count: usize, memory: &[u16], page: &mut Page<'_>)
+    requires { Room (length (down most line memory.now below count)) page.old }
+    ensures { Adds (down most line memory.now below count) page.old page.new }
 {
-    let mut next = at;
     for k in 0..count {
         let y = below.saturating_sub(k + 1);
-        next = put_row(most, line, y, memory, out, next);
+        put_row(most, line, y, memory, page);
     }
-    next
 }
 
 // Writes the `count` rows under row `below`, the topmost first, to the front of `out`, or refuses where that is too short.
@@ -118,5 +101,7 @@ pub fn image_rows(
     if out.len() < count.saturating_mul(row_size) {
         return Err(NoRoom);
     }
-    Ok(put_rows(most, line, below, count, memory, out, 0))
+    let mut page = Page { out, at: 0 };
+    put_rows(most, line, below, count, memory, &mut page);
+    Ok(page.at)
 }

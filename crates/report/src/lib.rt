@@ -1,19 +1,18 @@
 // The text of a run: a line for its three numbers, and one for each place of the picture that shows. And the image of a memory, as it stands or
-// in levels. And any text, laid at a place. specs/Text.antt is the text, specs/Image.antt the image, specs/Levels.antt the levels, specs/Calls.antt what the calls that write
+// in levels. And any text, put or laid on a page. specs/Text.antt is the text, specs/Image.antt the image, specs/Levels.antt the levels, specs/Calls.antt what the calls that write
 // tell and leave.
 #![tactic(auto)]
 
 mod heading;
 mod image;
 mod number;
+mod page;
 mod place;
-mod put;
 mod scale;
 mod text;
 
 pub use image::{image_heading, image_rows};
-pub use number::put_digits;
-pub use put::{has_room, lay, put_bytes};
+pub use page::{Page, has_room};
 pub use scale::{drawn_places, to_levels};
 pub use text::write;
 

@@ -1,7 +1,9 @@
 // Numbers in digits, and the byte after each.
 ghost use Rattle.std.specs.Prelude.{◌≡◌, ◌+◌, ◌<◌, ◌≤◌, length};
 ghost use Rattle.report.specs.Text.{glyph, last_digits, decimal, field, pair};
-ghost use Rattle.report.specs.Calls.{Put, Sized};
+ghost use Rattle.report.specs.Calls.{Adds, Room, Sized};
+
+use crate::page::Page;
 
 // The character of a digit.
 #[tactic(auto, unfolding(crate::specs::Text::glyph))]
@@ -13,22 +15,6 @@ fn character(digit: u64) -> u8
         return b'0' + digit as u8;
     }
     b'A' - 10 + digit as u8
-}
-
-// Puts the last `count` digits of a number at a place, and tells the place after them. They come from the last to the first, so that one
-// division finds each.
-pub fn put_digits(n: u64, base: u64, count: usize, out: &mut [u8], at: usize) -> usize
-    requires base_nonzero { 0 < base }
-    requires base_bound { base ≤ 16 }
-    requires count_in_bounds { at + count ≤ length out.old }
-    ensures { Put (last_digits base count n) out.old at out.new result }
-{
-    let mut rest = n;
-    for k in (0..count).rev() {
-        out[at + k] = character(rest % base);
-        rest /= base;
-    }
-    at + count
 }
 
 // How many digits a number has. No range counts them: the loop ends with what is left of the number.
@@ -44,21 +30,37 @@ pub(crate) fn digits(n: u64) -> usize
     count
 }
 
-// Puts a number and the byte after it.
-pub(crate) fn put_field(n: u64, after: u8, out: &mut [u8], at: usize) -> usize
-    requires { at + length (field n after) ≤ length out.old }
-    ensures { Put (field n after) out.old at out.new result }
-{
-    let next = put_digits(n, 10, digits(n), out, at);
-    out[next] = after;
-    next + 1
-}
+impl Page<'_> {
+    // Puts the last `count` digits of a number. They come from the last to the first, so that one division finds each.
+    pub fn put_digits(&mut self, n: u64, base: u64, count: usize)
+        requires base_nonzero { 0 < base }
+        requires base_bound { base ≤ 16 }
+        requires count_in_bounds { Room count self.old }
+        ensures { Adds (last_digits base count n) self.old self.new }
+    {
+        let mut rest = n;
+        for k in (0..count).rev() {
+            self.out[self.at + k] = character(rest % base);
+            rest /= base;
+        }
+        self.at += count;
+    }
 
-// Puts two numbers, a space between them, and the byte after them.
-pub(crate) fn put_pair(m: u64, n: u64, after: u8, out: &mut [u8], at: usize) -> usize
-    requires { at + length (pair m n after) ≤ length out.old }
-    ensures { Put (pair m n after) out.old at out.new result }
-{
-    let next = put_field(m, b' ', out, at);
-    put_field(n, after, out, next)
+    // Puts a number and the byte after it.
+    pub(crate) fn put_field(&mut self, n: u64, after: u8)
+        requires { Room (length (field n after)) self.old }
+        ensures { Adds (field n after) self.old self.new }
+    {
+        self.put_digits(n, 10, digits(n));
+        self.put_byte(after);
+    }
+
+    // Puts two numbers, a space between them, and the byte after them.
+    pub(crate) fn put_pair(&mut self, m: u64, n: u64, after: u8)
+        requires { Room (length (pair m n after)) self.old }
+        ensures { Adds (pair m n after) self.old self.new }
+    {
+        self.put_field(m, b' ');
+        self.put_field(n, after);
+    }
 }

@@ -1,9 +1,10 @@
 // The places of a picture that show: a line for each whose I is not 0.
-ghost use Rattle.std.specs.Prelude.{◌≡◌, ◌+◌, ◌≤◌, length, get_or, eqb, not};
+ghost use Rattle.std.specs.Prelude.{◌≡◌, length, get_or, eqb, not};
 ghost use Rattle.report.specs.Text.{column_of, row_of, place_of, shown};
-ghost use Rattle.report.specs.Calls.{Put, Sized};
+ghost use Rattle.report.specs.Calls.{Adds, Room, Sized};
 
-use crate::number::{digits, put_pair};
+use crate::number::digits;
+use crate::page::Page;
 
 // A place of a picture, and its two numbers.
 #[derive(Clone, Copy)]
@@ -73,14 +74,13 @@ impl Place {
     }
 
     // Puts its line, if it has one.
-    pub(crate) fn put(self, out: &mut [u8], at: usize) -> usize
-        requires { at + length (shown self) ≤ length out.old }
-        ensures { Put (shown self) out.old at out.new result }
+    pub(crate) fn put(self, page: &mut Page<'_>)
+        requires { Room (length (shown self)) page.old }
+        ensures { Adds (shown self) page.old page.new }
     {
-        if !self.shows() {
-            return at;
+        if self.shows() {
+            page.put_pair(self.column, self.row, b' ');
+            page.put_pair(self.i as u64, self.z as u64, b'\n');
         }
-        let next = put_pair(self.column, self.row, b' ', out, at);
-        put_pair(self.i as u64, self.z as u64, b'\n', out, next)
     }
 }

@@ -1,10 +1,11 @@
 // The whole text: first whether it fits, so that a short buffer stays untouched, and then its bytes.
-ghost use Rattle.std.specs.Prelude.{◌≡◌, ◌+◌, ◌≤◌, length, min};
+ghost use Rattle.std.specs.Prelude.{◌≡◌, length, min};
 ghost use Rattle.report.specs.Text.{lines, report};
-ghost use Rattle.report.specs.Calls.{Put, wrote, writing};
+ghost use Rattle.report.specs.Calls.{Adds, Room, wrote, writing};
 
 use crate::NoRoom;
 use crate::heading::Heading;
+use crate::page::Page;
 use crate::place::{Place, number_at};
 
 // How many bytes the text takes, or as many as no buffer has.
@@ -19,16 +20,14 @@ fn size_of(heading: Heading, line: u16, im: &[u16], zm: &[u16]) -> usize
     size
 }
 
-// Puts the lines of all places, and tells the place after them.
-fn put_lines(line: u16, im: &[u16], zm: &[u16], out: &mut [u8], at: usize) -> usize
-    requires { at + length (lines line im.now zm.now (length im.now)) ≤ length out.old }
-    ensures { Put (lines line im.now zm.now (length im.now)) out.old at out.new result }
+// Puts the lines of all places.
+fn put_lines(line: u16, im: &[u16], zm: &[u16], page: &mut Page<'_>)
+    requires { Room (length (lines line im.now zm.now (length im.now))) page.old }
+    ensures { Adds (lines line im.now zm.now (length im.now)) page.old page.new }
 {
-    let mut next = at;
     for (place, i) in im.iter().enumerate() {
-        next = Place::at(line, place, *i, number_at(zm, place)).put(out, next);
+        Place::at(line, place, *i, number_at(zm, place)).put(page);
     }
-    next
 }
 
 // Writes the text to the front of `out`, or refuses where that is too short.
@@ -51,6 +50,8 @@ pub fn write(
     if out.len() < size_of(heading, line, im, zm) {
         return Err(NoRoom);
     }
-    let first = heading.put(out, 0);
-    Ok(put_lines(line, im, zm, out, first))
+    let mut page = Page { out, at: 0 };
+    heading.put(&mut page);
+    put_lines(line, im, zm, &mut page);
+    Ok(page.at)
 }

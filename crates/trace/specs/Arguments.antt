@@ -1,7 +1,7 @@
 -- What the arguments of the program ask for: `trace`, or `trace X Y`.
 use Rattle.std.specs.Prelude.{ℕ, min, cond, List, length, ltb, eqb, Option, None, Some, Result, Ok, Err}
 use Rattle.console.specs.Digits.{digits_only, value_of}
-use Rattle.trace.specs.declared.Pixel.{Pixel}
+use Rattle.tracing.specs.declared.pixel.Pixel.{Pixel}
 use Rattle.trace.specs.declared.Usage.{Usage}
 use Rattle.trace.specs.declared.Usage.TheVariants.{Unclear}
 

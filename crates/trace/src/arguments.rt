@@ -2,8 +2,9 @@
 ghost use Rattle.std.specs.Prelude.{◌≡◌};
 ghost use Rattle.trace.specs.Arguments.{coordinate_of, asked_of};
 
-use crate::{Pixel, Usage};
+use crate::Usage;
 use console::digits::{digits_only, value};
+use tracing::Pixel;
 
 // The coordinate that an argument tells.
 fn coordinate(arg: &[u8]) -> Option<u16>

@@ -12,13 +12,7 @@ use console::say::{fail, say};
 use console::{recording, take};
 use print::print_trace;
 use std::fmt;
-
-// A pixel, of which the words are asked for.
-#[derive(Clone, Copy)]
-struct Pixel {
-    x: u16,
-    y: u16,
-}
+use tracing::Pixel;
 
 // Why it is not told what to trace.
 #[derive(Clone, Copy)]

@@ -1,15 +1,15 @@
 // The trace goes to standard output, and what went wrong to standard error.
-ghost use Rattle.std.specs.Prelude.{◌≡◌, ◌≤◌, length};
+ghost use Rattle.report.specs.Calls.{OnPage};
 
-use crate::Pixel;
 use chip::run::Ran;
 use console::say::{fail, say, say_refused};
 use console::{blank, piece};
 use ground::Refusal;
 use registers::Registers;
+use report::Page;
 use std::io;
 use stream::read::{checked, held};
-use tracing::{Turn, trace, watch};
+use tracing::{Pixel, trace, watch};
 
 // Before the first word.
 fn begun() -> Ran {
@@ -22,21 +22,21 @@ fn begun() -> Ran {
 }
 
 // The next word, traced or watched, with its line on the page. The two calls take different things, so that a closure would be no plainer.
+#[tactic(auto, using(report::proofs::Laying::lays_within))]
 fn turn(
     pixel: Option<Pixel>,
     run: Ran,
     bytes: &[u8],
     im: &mut [u16],
     zm: &mut [u16],
-    page: &mut [u8; 65536],
-    at: usize,
-) -> Turn
-    requires { at ≤ 65536 }
-    ensures { (result.next ≤ 65536) × (65536 ≡ length page.new) }
+    page: &mut Page<'_>,
+) -> Ran
+    requires { OnPage page.old }
+    ensures { OnPage page.new }
 {
     match pixel {
-        Some(Pixel { x, y }) => watch(x, y, run, bytes, im, zm, page, at),
-        None => trace(run, bytes, im, zm, page, at),
+        Some(pixel) => watch(pixel, run, bytes, im, zm, page),
+        None => trace(run, bytes, im, zm, page),
     }
 }
 
@@ -49,22 +49,25 @@ fn print_words(
     im: &mut [u16],
     zm: &mut [u16],
 ) -> (Ran, io::Result<()>) {
-    let mut page = piece();
+    let mut buffer = piece();
+    let mut page = Page {
+        out: &mut buffer,
+        at: 0,
+    };
     let mut run = begun();
-    let mut at = 0;
     for _ in 0..held(bytes) {
-        let t = turn(pixel, run, bytes, im, zm, &mut page, at);
-        run = t.run;
-        at = t.next;
+        run = turn(pixel, run, bytes, im, zm, &mut page);
+        let at = page.at;
         if 65460 < at {
-            let printed = rt.write_all(&page[..at]);
+            let printed = rt.write_all(&page.out[..at]);
             if printed.is_err() {
                 return (run, printed);
             }
-            at = 0;
+            page.at = 0;
         }
     }
-    (run, rt.write_all(&page[..at]))
+    let at = page.at;
+    (run, rt.write_all(&page.out[..at]))
 }
 
 // Says that standard output did not take all, if it did not.

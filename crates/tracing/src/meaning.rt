@@ -34,10 +34,10 @@ fn subject_of(number: u16, place: u64) -> Meaning
 }
 
 // The row of a triangle.
-fn triangle_row(r: Registers) -> u64
-    ensures { result ≡ (if is_constant r then 17 else 16) }
+fn triangle_row(registers: Registers) -> u64
+    ensures { result ≡ (if is_constant registers then 17 else 16) }
 {
-    if r.modes.pmode == 1 { 17 } else { 16 }
+    if registers.modes.pmode == 1 { 17 } else { 16 }
 }
 
 // The row of a segment.
@@ -52,53 +52,58 @@ fn line_row(mode: Mode) -> u64
 }
 
 // The row of a picture's pixel.
-fn picture_row(r: Registers) -> u64
-    ensures { result ≡ (if is_deep_picture r then 29 else 28) }
+fn picture_row(registers: Registers) -> u64
+    ensures { result ≡ (if is_deep_picture registers then 29 else 28) }
 {
-    if r.is_deep_picture() { 29 } else { 28 }
+    if registers.is_deep_picture() { 29 } else { 28 }
 }
 
 // What a vertex means that completes this.
 #[tactic(auto, unfolding(crate::specs::Meaning::completed_meaning))]
-fn completed_meaning(r: Registers, figure: Completed) -> Meaning
-    ensures { result ≡ completed_meaning r figure }
+fn completed_meaning(registers: Registers, figure: Completed) -> Meaning
+    ensures { result ≡ completed_meaning registers figure }
 {
     match figure {
         Completed::Nothing => plain(13),
-        Completed::Triangle(_, _, _) => plain(triangle_row(r)),
-        Completed::Segment(_, _) => plain(line_row(Mode::from(r.modes.lmode))),
+        Completed::Triangle(_, _, _) => plain(triangle_row(registers)),
+        Completed::Segment(_, _) => plain(line_row(Mode::from(registers.modes.lmode))),
     }
 }
 
 // What a coordinate means.
 #[tactic(auto, unfolding(crate::specs::Meaning::coordinate_meaning))]
-fn coordinate_meaning(r: Registers, c: Coordinate, n: u16) -> Meaning
-    ensures { result ≡ coordinate_meaning r c n }
+fn coordinate_meaning(registers: Registers, coordinate: Coordinate, number: u16) -> Meaning
+    ensures { result ≡ coordinate_meaning registers coordinate number }
 {
-    match c {
+    match coordinate {
         Coordinate::I => plain(25),
         Coordinate::Z => plain(26),
         Coordinate::Y => plain(27),
         Coordinate::T1x => plain(21),
         Coordinate::T2x => plain(22),
         Coordinate::Lx => plain(23),
-        // a vertex
-        Coordinate::X | Coordinate::Px => completed_meaning(r, r.completed_by(c, n)),
+        // These complete vertices.
+        Coordinate::X | Coordinate::Px => {
+            completed_meaning(registers, registers.completed_by(coordinate, number))
+        }
     }
 }
 
 // What a word means.
 #[tactic(auto, unfolding(crate::specs::Meaning::meaning_of))]
-pub(crate) fn meaning(r: Registers, word: Word) -> Meaning
-    ensures { result ≡ meaning_of r word }
+pub(crate) fn meaning(registers: Registers, word: Word) -> Meaning
+    ensures { result ≡ meaning_of registers word }
 {
     match word {
         Word::Init(_) => plain(24),
-        Word::Aux(n) => subject_of(n.min(13), 0),
-        Word::Parm(_) => subject_of(r.parked.subcommand, r.parked.came as u64 + 1),
-        Word::At(c, n) => coordinate_meaning(r, c, n),
-        Word::Img(d) => subject_of(14 + d % 2, 0),
-        Word::Ptrn(_) => plain(picture_row(r)),
+        Word::Aux(number) => subject_of(number.min(13), 0),
+        Word::Parm(_) => {
+            let parked = registers.parked;
+            subject_of(parked.subcommand, parked.came as u64 + 1)
+        }
+        Word::At(coordinate, number) => coordinate_meaning(registers, coordinate, number),
+        Word::Img(operand) => subject_of(14 + operand % 2, 0),
+        Word::Ptrn(_) => plain(picture_row(registers)),
         Word::Reserved => plain(30),
         Word::Unmodelled => plain(11),
         Word::Unknown => plain(31),

@@ -1,11 +1,10 @@
 // One word of a recording, taken, and traced where it has a pixel at a place that is asked for.
 ghost use Rattle.std.specs.Prelude.{◌≡◌, not, ◌&&◌, [], if◌then◌else◌, ◌==◌, nat_eq};
-ghost use Rattle.report.specs.Calls.{Laid};
+ghost use Rattle.report.specs.Calls.{Lays};
 ghost use Rattle.listing.specs.Trace.{watch_line};
 ghost use Rattle.tracing.specs.Lent.{Counts, Turned};
 ghost use Rattle.tracing.specs.Watch.{narrowed, aimed, passes_at, loads_at, hits_of, numbers_at, watch_at};
 
-use crate::Turn;
 use crate::next::{is_over, take};
 use chip::draw::draw;
 use chip::run::Ran;
@@ -16,66 +15,80 @@ use picture::{Frame, Memories};
 use registers::shape::Completed;
 use registers::word::{Word, word_of};
 use registers::{Registers, Window};
+use report::Page;
 use stream::read::word;
 
 // The pixel that is asked for.
 #[derive(Clone, Copy)]
-struct Pixel {
-    x: u16,
-    y: u16,
+pub struct Pixel {
+    pub x: u16,
+    pub y: u16,
 }
 
 impl Pixel {
     // What of a window is at the pixel.
-    fn narrow(self, w: Window) -> Window
-        ensures { result ≡ narrowed self.x self.y w }
+    fn narrow(self, window: Window) -> Window
+        ensures { result ≡ narrowed self.x self.y window }
     {
         Window {
-            left: w.left.max(self.x),
-            top: w.top.min(self.y),
-            right: w.right.min(self.x),
-            bottom: w.bottom.max(self.y),
+            left: window.left.max(self.x),
+            top: window.top.min(self.y),
+            right: window.right.min(self.x),
+            bottom: window.bottom.max(self.y),
         }
     }
 
     // The registers with that window and both write enables off.
-    fn aim(self, mut r: Registers) -> Registers
-        ensures { result ≡ aimed self.x self.y r }
+    fn aim(self, mut registers: Registers) -> Registers
+        ensures { result ≡ aimed self.x self.y registers }
     {
-        r.modes.hcontrol = 0;
-        r.window = self.narrow(r.window);
-        r
+        registers.modes.hcontrol = 0;
+        registers.window = self.narrow(registers.window);
+        registers
     }
 
     // How many pixels of a figure pass there. With those registers none is stored.
-    fn passes(self, r: Registers, figure: Completed, im: &mut [u16], zm: &mut [u16]) -> u64
-        ensures { Counts (passes_at self.x self.y r figure) im zm result }
+    fn passes(self, registers: Registers, figure: Completed, im: &mut [u16], zm: &mut [u16]) -> u64
+        ensures { Counts (passes_at self.x self.y registers figure) im zm result }
     {
         let mut m = Memories { i: im, z: zm };
-        draw(self.aim(r), figure, &mut m)
+        draw(self.aim(registers), figure, &mut m)
     }
 
     // How many pixels PTRN has there: its own, or none.
     #[tactic(auto, unfolding(crate::specs::Watch::loads_at))]
-    fn loads(self, r: Registers, ni: usize, nz: usize) -> u64
-        ensures { result ≡ loads_at self.x self.y r ni nz }
+    fn loads(self, registers: Registers, ni: usize, nz: usize) -> u64
+        ensures { result ≡ loads_at self.x self.y registers ni nz }
     {
-        let rows = rows_of(r.frame, ni, nz);
-        let here = r.region.x == self.x && r.region.y == self.y;
-        let inside = self.x < r.frame.line && (self.y as usize) < rows;
+        let Registers { region, frame, .. } = registers;
+        let rows = rows_of(frame, ni, nz);
+        let here = region.x == self.x && region.y == self.y;
+        let inside = self.x < frame.line && (self.y as usize) < rows;
         if here && inside { 1 } else { 0 }
     }
 
     // How many pixels a word has there, if it is accepted.
     #[tactic(auto, unfolding(crate::specs::Watch::hits_of))]
-    fn hits(self, r: Registers, word: Word, im: &mut [u16], zm: &mut [u16]) -> u64
-        ensures { Counts (hits_of self.x self.y r word) im zm result }
+    fn hits(self, registers: Registers, word: Word, im: &mut [u16], zm: &mut [u16]) -> u64
+        ensures { Counts (hits_of self.x self.y registers word) im zm result }
     {
         match word {
-            Word::At(c, n) => self.passes(r, r.completed_by(c, n), im, zm),
-            Word::Ptrn(_) => self.loads(r, im.len(), zm.len()),
-            Word::Init(_) | Word::Aux(_) | Word::Parm(_) | Word::Img(_) => 0,
-            Word::Reserved | Word::Unmodelled | Word::Unknown => 0,
+            Word::At(coordinate, number) => {
+                self.passes(
+                    registers,
+                    registers.completed_by(coordinate, number),
+                    im,
+                    zm,
+                )
+            }
+            Word::Ptrn(_) => self.loads(registers, im.len(), zm.len()),
+            Word::Init(_)
+            | Word::Aux(_)
+            | Word::Parm(_)
+            | Word::Img(_)
+            | Word::Reserved
+            | Word::Unmodelled
+            | Word::Unknown => 0,
         }
     }
 
@@ -91,41 +104,36 @@ impl Pixel {
 }
 
 // Lays a word's line, if it was accepted and has pixels.
-fn lay(t: Traced, count: u64, before: Numbers, after: Numbers, out: &mut [u8], at: usize) -> usize
-    ensures { Laid (if nat_eq t.refusal 0 && not (count == 0) then watch_line t before after else []) out.old at out.new result }
+fn lay(word: Traced, count: u64, before: Numbers, after: Numbers, page: &mut Page<'_>)
+    ensures { Lays (if nat_eq word.refusal 0 && not (count == 0) then watch_line word before after else []) page.old page.new }
 {
-    if t.refusal == 0 && count != 0 {
-        return watch_line(t, before, after, out, at);
+    if word.refusal == 0 && count != 0 {
+        watch_line(word, before, after, page);
     }
-    at
 }
 
-// Takes the next word and, if it has a pixel at (x, y), lays its line with the numbers there at a place of `out`; does nothing where nothing is
-// left.
+// Takes the next word and, if it has the pixel, lays its line with the numbers there on a page; does nothing where nothing is left.
 #[tactic(auto, using(stream::proofs::Round::word_fits))]
 pub fn watch(
-    x: u16,
-    y: u16,
-    a: Ran,
+    pixel: Pixel,
+    run: Ran,
     bytes: &[u8],
     im: &mut [u16],
     zm: &mut [u16],
-    out: &mut [u8],
-    at: usize,
-) -> Turn
-    ensures { Turned (watch_at x y) bytes a im zm out at result }
+    page: &mut Page<'_>,
+) -> Ran
+    ensures { Turned (watch_at pixel.x pixel.y) bytes run im zm page.old page.new result }
 {
-    if is_over(a, bytes) {
-        return Turn { run: a, next: at };
+    if is_over(run, bytes) {
+        return run;
     }
-    let pixel = Pixel { x, y };
-    let frame = a.registers.frame;
-    let w = word(bytes, a.index as usize);
-    let next_word = word_of(w);
+    let frame = run.registers.frame;
+    let word = word(bytes, run.index as usize);
+    let next = word_of(word);
     let before = pixel.numbers(frame, im, zm);
-    let count = pixel.hits(a.registers, next_word, im, zm);
-    let t = take(a, bytes, im, zm);
+    let count = pixel.hits(run.registers, next, im, zm);
+    let taken = take(run, bytes, im, zm);
     let after = pixel.numbers(frame, im, zm);
-    let next = lay(t.traced, count, before, after, out, at);
-    Turn { run: t.run, next }
+    lay(taken.traced, count, before, after, page);
+    taken.run
 }

@@ -35,7 +35,7 @@ fn read_part<'a>(file: &mut impl Read, n: usize, buf: &'a mut [u8]) -> &'a [u8]
 
 // Two bytes as a number.
 fn number(bytes: [u8; 2]) -> usize {
-    usize::from(u16::from_be_bytes(bytes))
+    u16::from_be_bytes(bytes) as usize
 }
 
 // How many streams the file says that it has.
@@ -50,7 +50,7 @@ fn run_next(file: &mut impl Read, rt: &impl Print) -> io::Result<()> {
     let mut head = [0u8; 3];
     read_full(file, &mut head);
     let mut name = [0u8; 255];
-    let name = read_part(file, usize::from(head[0]), &mut name);
+    let name = read_part(file, head[0] as usize, &mut name);
     let mut bytes = [0u8; 65535];
     let bytes = read_part(file, number([head[1], head[2]]), &mut bytes);
     print_stream(rt, name, bytes)

@@ -19,7 +19,7 @@ fn first_line(text: &[u8]) -> &[u8]
 // The checksum of a text: FNV-1a of 64 bits.
 fn checksum(text: &[u8]) -> u64 {
     text.iter().fold(0xcbf2_9ce4_8422_2325, |sum, byte| {
-        (sum ^ u64::from(*byte)).wrapping_mul(0x0100_0000_01b3)
+        (sum ^ *byte as u64).wrapping_mul(0x0100_0000_01b3)
     })
 }
 

@@ -5,7 +5,7 @@ use Rattle.overdraw.specs.Report.{Come}
 use Rattle.overdraw.proofs.gather.Given as goal
 
 abbrev pub invariant-loop-reached : goal.invariant-loop-reached
-invariant-loop-reached g l = Come l.fn.out l.out l.reached
+invariant-loop-reached g l = Come l.fn.page l.page l.reached
 
 abbrev pub decreases-loop-reached : goal.decreases-loop-reached
 decreases-loop-reached g l = 1000 - l.reached.files

@@ -1,5 +1,5 @@
 -- `image::image_rows` meets its contract: the test decides between the two outcomes. Assumes nothing.
-use Rattle.std.proofs.Common.{◌≡◌, ◌≤◌, ◌*◌, ℕ, List, length, min, arith, ◌∙◌, mul-le-mul_right}
+use Rattle.std.proofs.Common.{rules, refl, ◌≡◌, ◌≤◌, ◌*◌, ℕ, List, length, min, arith, ◌∙◌, mul-le-mul_right}
 use Rattle.report.specs.Image.{down, pixel_size}
 use Rattle.report.proofs.Calls.{unwritten, done}
 use Rattle.report.proofs.Pages.{length_down, size_low}
@@ -32,4 +32,4 @@ pub returns : goal.returns
 returns c =
     let a = c.args in
     let size = asked a.most a.line a.below a.count a.memory.now c.pixel_size.ensures c.saturating_mul.ensures in
-    done (down a.most a.line a.memory.now a.below a.count) a.out.now (omega (arith, size, c.if-out-saturating_mul.false)) c.put_rows.ensures
+    done (down a.most a.line a.memory.now a.below a.count) a.out.now (omega (arith, size, c.if-out-saturating_mul.false)) c.put_rows.ensures refl refl (search rules)

@@ -2,26 +2,26 @@
 use Rattle.std.proofs.Common.{◌≡◌, ℕ, ap, length, arith}
 use Rattle.report.specs.Text.{lines}
 use Rattle.report.proofs.Lengths.{lines_more, lines_within, place_told}
-use Rattle.report.proofs.Putting.{put_none, put_append}
+use Rattle.report.proofs.Putting.{add_none, add_after, room_after}
 use Rattle.report.proofs.text.put_lines.Goals as goal
 
 pub loop-place-init : goal.loop-place-init
 unfolding lines
-loop-place-init c = put_none c.args.out.now c.args.at
+loop-place-init c = add_none c.args.page.now
 
-pub put-next-requires : goal.put-next-requires
-put-next-requires c =
+pub put-requires : goal.put-requires
+put-requires c =
     let a = c.args in
     let k = c.loop-place.place in
     let told = place_told a.line a.im.now a.zm.now k c.number_at.ensures c.at.ensures in
-    omega (arith, ap (length {A = ℕ}) told, c.loop-place.invariant.ends, lines_within a.line a.im.now a.zm.now k (omega arith))
+    room_after _ c.loop-place.invariant (omega (arith, ap (length {A = ℕ}) told, lines_within a.line a.im.now a.zm.now k (omega arith)))
 
 pub loop-place-preserved : goal.loop-place-preserved
 loop-place-preserved c =
     let a = c.args in
     let k = c.loop-place.place in
     let told = place_told a.line a.im.now a.zm.now k c.number_at.ensures c.at.ensures in
-    rw (lines_more a.line a.im.now a.zm.now k) (put_append c.loop-place.invariant (rw told at c.put-next.ensures))
+    rw (lines_more a.line a.im.now a.zm.now k) (add_after c.loop-place.invariant (rw told at c.put.ensures))
 
 pub returns : goal.returns
 returns c =

@@ -9,11 +9,11 @@ use Rattle.tracing.proofs.next.take.Goals as goal
 pub move_on-requires : goal.move_on-requires
 move_on-requires c =
     let a = c.args in
-    omega (arith, left_index a.bytes.now (told a.a.outcome) a.a.index c.requires, length_unpack a.bytes.now, c.well_formed.1)
+    omega (arith, left_index a.bytes.now (told a.run.outcome) a.run.index c.requires, length_unpack a.bytes.now, c.well_formed.1)
 
 pub returns : goal.returns
 returns c =
     let a = c.args in
     let split = c.parts-command.ensures in
-    let means = c.meaning-meaning.ensures ∙ ap (meaning_of a.a.registers) (rw (split.0, split.1) at c.decoded.ensures) in
-    takes a.bytes.now a.a a.im.now a.zm.now c.step-answer.result c.word-w.ensures (rw (split.0, split.1) at c.step-answer.ensures) means c.number_of.ensures c.passed.ensures c.move_on.ensures
+    let means = c.meaning-meaning.ensures ∙ ap (meaning_of a.run.registers) (rw (split.0, split.1) at c.decoded.ensures) in
+    takes a.bytes.now a.run a.im.now a.zm.now c.step-answer.result c.word-word.ensures (rw (split.0, split.1) at c.step-answer.ensures) means c.number_of.ensures c.passed.ensures c.move_on.ensures

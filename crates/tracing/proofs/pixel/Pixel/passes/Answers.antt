@@ -8,10 +8,10 @@ returns c =
     let a = c.args in
     let is = c.aim.ensures in
     let drew = c.draw.ensures.1 in
-    let i = aimed_i a.self.x a.self.y a.r a.figure a.im.now a.zm.now is drew in
-    let z = aimed_z a.self.x a.self.y a.r a.figure a.im.now a.zm.now is drew in
+    let i = aimed_i a.self.x a.self.y a.registers a.figure a.im.now a.zm.now is drew in
+    let z = aimed_z a.self.x a.self.y a.registers a.figure a.im.now a.zm.now is drew in
     record {
-      told = aimed_count a.self.x a.self.y a.r a.figure a.im.now a.zm.now is drew;
+      told = aimed_count a.self.x a.self.y a.registers a.figure a.im.now a.zm.now is drew;
       i_stays = search rules;
       z_stays = search rules;
     }
