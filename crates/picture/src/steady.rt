@@ -61,7 +61,7 @@ fn sum_eight(n: [u16; 8]) -> u16
     requires { sum_of n ≤ 65535 }
     ensures { result ≡ sum_of n }
 {
-    n.iter().sum()
+    n.into_iter().sum()
 }
 
 // The eight pixels from a place on. n has the counts so far.

@@ -70,11 +70,12 @@ fn figure_fits(f: Figure) -> bool
         & (f.dashed <= 1)
 }
 
-// Parameter k of those parked; 0 past the fifth.
+// Parameter k of those parked; 0 past the fifth. (Not by `get`: an `Option` of a reference is laid out otherwise where addresses have another size, and
+// web/build compiles this code for such a processor.)
 fn value_at(values: [u16; 5], k: u16) -> u16
     ensures { result ≡ value values k }
 {
-    values.get(k as usize).copied().unwrap_or(0)
+    if k < 5 { values[k as usize] } else { 0 }
 }
 
 // Each value that has come is allowed for its place.

@@ -1,14 +1,18 @@
--- Listed squares, as the code asks of them and copies them. Assumes nothing.
-use mathlib.Core.Path.{◌≡◌, refl, ap}
-use mathlib.Core.Bool.{Bool, ◌&&◌}
-use mathlib.Core.List.{List, [], ◌∷◌, map}
-use Prim.Native.Nat.{ℕ}
-use Rattle.std.specs.List.{list_all}
+-- Listed squares taken one by one, as the code asks of them and copies them. Assumes nothing.
+use Rattle.std.proofs.Common.{◌≡◌, refl, ℕ, ◌+◌, ◌<◌, true, ◌&&◌, List, [], map, length, drop, get_or}
+use Rattle.std.proofs.lemmas.List.{at_drop_more}
 use Rattle.squares.specs.Squares.{corner_of}
 use Rattle.squares.specs.Calls.{is_square, are_squares}
 
--- a test of each number of a list
-pub each_square : (width rows : ℕ) (list : List ℕ) → list_all (λ v. is_square width rows (corner_of v)) list ≡ are_squares width rows (map corner_of list)
-unfolding are_squares
-each_square width rows [] = refl
-each_square width rows (v ∷ list) = ap (λ (b : Bool). is_square width rows (corner_of v) && b) (each_square width rows list)
+module _ (width rows : ℕ) where
+  -- of an empty list all are squares of the picture
+  pub squares_none : are_squares width rows [] ≡ true
+  unfolding are_squares
+  squares_none = refl
+
+  -- those from place k on
+  pub squares_next : (list : List ℕ) (k : ℕ) → k < length list
+      → are_squares width rows (map corner_of (drop k list))
+      ≡ is_square width rows (corner_of (get_or list k 0)) && are_squares width rows (map corner_of (drop (k + 1) list))
+  unfolding are_squares
+  squares_next list k h = at_drop_more (λ (left : List ℕ). are_squares width rows (map corner_of left)) list k 0 h

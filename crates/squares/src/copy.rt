@@ -13,11 +13,17 @@ fn is_square(number: u32, size: Size) -> bool
     size.lists(Corner::from(number))
 }
 
-// Whether all listed numbers do.
+// Whether all listed numbers do. (Not by the slice's iterator: it answers an `Option` of a reference, which is laid out otherwise where addresses
+// have another size, and web/build compiles this code for such a processor.)
 pub(crate) fn are_squares(list: &[u32], size: Size) -> bool
     ensures { result ≡ are_squares size.width size.rows (map corner_of list.now) }
 {
-    list.iter().all(|number| is_square(*number, size))
+    for k in 0..list.len() {
+        if !is_square(list[k], size) {
+            return false;
+        }
+    }
+    true
 }
 
 // The n places from `at` on take the new picture's numbers. (A loop: `copy_from_slice` is compiled to a call of memmove here, which an archive for C would then want of

@@ -8,11 +8,16 @@ ghost use Rattle.stream.specs.Calls.{over, coded_told, packing};
 use crate::word::{group_front, low_byte, pair_front, seam};
 use ground::Refusal;
 
-// The bits that are set in any of the words. (No early end: so the loop takes many words at once.)
+// The bits that are set in any of the words. (No early end: so the loop takes many words at once. It counts places: a slice's iterator answers an
+// `Option` of a reference, which is laid out otherwise where addresses have another size, and web/build compiles this code for such a processor.)
 fn bits_of(words: &[u32]) -> u32
     ensures { result ≡ fold bit_or 0 words.now }
 {
-    words.iter().fold(0, |set, word| set | *word)
+    let mut set = 0;
+    for k in 0..words.len() {
+        set |= words[k];
+    }
+    set
 }
 
 // Whether each word has at most 20 bits: no bit above the twentieth is set in any.

@@ -1,15 +1,22 @@
 -- `copy::are_squares` meets its contract. Assumes nothing.
-use Rattle.std.proofs.Common.{◌∙◌, rules, tests, ℕ, Bool}
-use Rattle.std.proofs.lemmas.Iterator.{YieldsList-from_slice}
-use Rattle.std.proofs.lemmas.Iterator.Search.{all_from_yields_List}
-use Rattle.squares.specs.Squares.{corner_of}
-use Rattle.squares.specs.Calls.{is_square}
-use Rattle.squares.proofs.Lists.{each_square}
+use Rattle.std.proofs.Common.{sym, ◌∙◌, arith}
+use lib.ListN.{drop_of_length-le}
+use Rattle.squares.proofs.Lists.{squares_next, squares_none}
 use Rattle.squares.proofs.copy.are_squares.Goals as goal
+
+pub returns-then-not-is_square : goal.returns-then-not-is_square
+returns-then-not-is_square c =
+    let a = c.args in
+    let no = sym c.is_square.ensures ∙ c.if-not-is_square.true in
+    sym (sym c.loop-k.invariant ∙ squares_next a.size.width a.size.rows a.list.now c.loop-k.k (omega arith) ∙ rw no)
+
+pub loop-k-preserved : goal.loop-k-preserved
+loop-k-preserved c =
+    let a = c.args in
+    let yes = sym c.is_square.ensures ∙ c.if-not-is_square.false in
+    sym (squares_next a.size.width a.size.rows a.list.now c.loop-k.k (omega arith) ∙ rw yes) ∙ c.loop-k.invariant
 
 pub returns : goal.returns
 returns c =
     let a = c.args in
-    let test : ℕ → Bool = λ v. is_square a.size.width a.size.rows (corner_of v) in
-    all_from_yields_List test _ _ _ c.all.ensures.ran (YieldsList-from_slice a.list.now cc) (λ x b q k. search (rules, tests))
-    ∙ each_square a.size.width a.size.rows a.list.now
+    sym (sym c.loop-k.invariant ∙ rw (drop_of_length-le a.list.now {i = c.loop-k.k} (omega arith)) (squares_none a.size.width a.size.rows))
