@@ -13,7 +13,7 @@ use crate::route::way_of;
 use crate::slope::Slope;
 use crate::trace::drawn_bare;
 use picture::place::{lies_plain, rows_of};
-use picture::{Kind, Pen, Vertex};
+use picture::{Kind, Memories, Pen, Vertex};
 
 mod anywhere;
 mod course;
@@ -96,16 +96,16 @@ pub fn step_count(a: Vertex, b: Vertex) -> u16
 }
 
 // Draws the segment from the earlier point a to the new endpoint b. Answers how many pixels passed.
-pub fn segment(pen: Pen, style: Style, a: Vertex, b: Vertex, im: &mut [u16], zm: &mut [u16]) -> u64
-    ensures { Draws pen (λ rows. segment_offers pen rows style a b) im zm 0 result }
+pub fn segment(pen: Pen, style: Style, a: Vertex, b: Vertex, m: &mut Memories) -> u64
+    ensures { Draws pen (λ rows. segment_offers pen rows style a b) m 0 result }
 {
-    let rows = rows_of(pen.frame, im.len(), zm.len());
+    let rows = rows_of(pen.frame, m.i.len(), m.z.len());
     let inside = has_ends(pen, rows, a, b);
     let bare = is_open(pen, style.mode) & is_bare(pen, style.mode);
     let slope = Slope::between(a, b);
     if bare & (inside | lies_plain(pen.frame)) {
         let way = way_of(pen.frame, inside);
-        return drawn_bare(pen, style, rows, way, slope, im, zm);
+        return drawn_bare(pen, style, rows, way, slope, m);
     }
-    drawn_anywhere(pen, style, slope, im, zm)
+    drawn_anywhere(pen, style, slope, m)
 }

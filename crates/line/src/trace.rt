@@ -2,7 +2,8 @@
 // window and memory where both ends are inside. The one loop is compiled once for each way and mode, which are types, so that what a step does is little.
 ghost use Rattle.std.specs.Prelude.{◌≡◌, ◌<◌, ◌≤◌, true, length, if◌then◌else◌, nat_le};
 ghost use Rattle.picture.specs.Picture.{is_deep, picture, step_at};
-ghost use Rattle.picture.specs.Lent.{Draws, rows_over};
+ghost use Rattle.picture.specs.Place.{rows_of};
+ghost use Rattle.picture.specs.Lent.{Draws, DrawsApart, rows_over};
 ghost use Rattle.line.specs.declared.Mode.{Mode};
 ghost use Rattle.line.specs.declared.Mode.TheVariants.{Zero, One, Two};
 ghost use Rattle.line.specs.Segment.{kind_of, step_offers, segment_offers};
@@ -15,7 +16,7 @@ use crate::route::{Asking, InRows, InShares, InTiles, Path, Route, Way, route_of
 use crate::slope::Slope;
 use crate::walk::Step;
 use crate::{Mode, Style};
-use picture::Pen;
+use picture::{Memories, Pen};
 
 // A mode as a type.
 trait Lined {
@@ -87,8 +88,8 @@ fn put_spot<P: Path, M: Lined>(
     im: &mut [u16],
     zm: &mut [u16],
 ) -> u64
-    requires { Traces pen (rows_over pen.frame im zm) style M.MODE P.WAY route × Reaches style (is_deep (kind_of style.mode)) route.slope route.slope.a route.slope.b step }
-    ensures { (Draws pen (λ rows. step_offers pen rows style style.mode route.slope.a route.slope.b step.k) im zm 0 result) × (result ≤ 1) }
+    requires { Traces pen (rows_of pen.frame (length im.old) (length zm.old)) style M.MODE P.WAY route × Reaches style (is_deep (kind_of style.mode)) route.slope route.slope.a route.slope.b step }
+    ensures { (DrawsApart pen (λ rows. step_offers pen rows style style.mode route.slope.a route.slope.b step.k) im zm 0 result) × (result ≤ 1) }
 {
     let at = route.spot_of(step);
     if route.is_here(pen, P::WAY, at) {
@@ -101,7 +102,7 @@ fn put_spot<P: Path, M: Lined>(
     0
 }
 
-// Draws a segment from its first step on.
+// Draws a segment from its first step on. The loop takes the two memories each by itself: of a struct, LLVM would read where they lie again at each step.
 fn trace<P: Path, M: Lined>(
     pen: Pen,
     style: Style,
@@ -110,8 +111,8 @@ fn trace<P: Path, M: Lined>(
     im: &mut [u16],
     zm: &mut [u16],
 ) -> u64
-    requires { Traces pen (rows_over pen.frame im zm) style M.MODE P.WAY route × Begins style route first }
-    ensures { Draws pen (λ rows. segment_offers pen rows style route.slope.a route.slope.b) im zm 0 result }
+    requires { Traces pen (rows_of pen.frame (length im.old) (length zm.old)) style M.MODE P.WAY route × Begins style route first }
+    ensures { DrawsApart pen (λ rows. segment_offers pen rows style route.slope.a route.slope.b) im zm 0 result }
 {
     let last = route.slope.n as u64;
     let mut step = first;
@@ -126,21 +127,14 @@ fn trace<P: Path, M: Lined>(
 }
 
 // Draws a segment in a way, by its mode.
-fn traced<P: Path>(
-    pen: Pen,
-    style: Style,
-    route: Route,
-    first: Step,
-    im: &mut [u16],
-    zm: &mut [u16],
-) -> u64
-    requires { Sets pen (rows_over pen.frame im zm) style P.WAY route first }
-    ensures { Draws pen (λ rows. segment_offers pen rows style route.slope.a route.slope.b) im zm 0 result }
+fn traced<P: Path>(pen: Pen, style: Style, route: Route, first: Step, m: &mut Memories) -> u64
+    requires { Sets pen (rows_over pen.frame m.old) style P.WAY route first }
+    ensures { Draws pen (λ rows. segment_offers pen rows style route.slope.a route.slope.b) m 0 result }
 {
     match style.mode {
-        Mode::Zero => trace::<P, Grounded>(pen, style, route, first, im, zm),
-        Mode::One => trace::<P, Dashed>(pen, style, route, first, im, zm),
-        Mode::Two => trace::<P, Shaded>(pen, style, route, first, im, zm),
+        Mode::Zero => trace::<P, Grounded>(pen, style, route, first, m.i, m.z),
+        Mode::One => trace::<P, Dashed>(pen, style, route, first, m.i, m.z),
+        Mode::Two => trace::<P, Shaded>(pen, style, route, first, m.i, m.z),
     }
 }
 
@@ -151,18 +145,17 @@ pub(crate) fn drawn_bare(
     rows: usize,
     way: Way,
     slope: Slope,
-    im: &mut [u16],
-    zm: &mut [u16],
+    m: &mut Memories,
 ) -> u64
-    requires { (rows ≡ rows_over pen.frame im zm) × Goes pen rows style way slope.a slope.b }
-    ensures { Draws pen (λ rows. segment_offers pen rows style slope.a slope.b) im zm 0 result }
+    requires { (rows ≡ rows_over pen.frame m.old) × Goes pen rows style way slope.a slope.b }
+    ensures { Draws pen (λ rows. segment_offers pen rows style slope.a slope.b) m 0 result }
 {
     let route = route_of(pen.frame, rows, way, style.mode.is_deep(), slope);
     let first = route.near.begin(style.is_joined());
     match way {
-        Way::Rows => traced::<InRows>(pen, style, route, first, im, zm),
-        Way::Tiles => traced::<InTiles>(pen, style, route, first, im, zm),
-        Way::Shares => traced::<InShares>(pen, style, route, first, im, zm),
-        Way::Asked => traced::<Asking>(pen, style, route, first, im, zm),
+        Way::Rows => traced::<InRows>(pen, style, route, first, m),
+        Way::Tiles => traced::<InTiles>(pen, style, route, first, m),
+        Way::Shares => traced::<InShares>(pen, style, route, first, m),
+        Way::Asked => traced::<Asking>(pen, style, route, first, m),
     }
 }

@@ -35,6 +35,16 @@ abbrev pub Draws : Pen → (ℕ → List Offer) → Lent → ℕ → ℕ → Typ
 Draws pen offers m from to =
     Kept m × (held m.exit.now to ≡ drawn pen (offers (rows_over pen.frame m.entry.now)) (held m.entry.now from))
 
+-- one of the two memories, lent by itself, twice: as a call finds it and as it leaves it
+abbrev pub Apart : Type 0
+Apart = Both (MutBor (List ℕ)) (MutBor (List ℕ))
+
+-- the same of the two memories, each lent by itself: the loops over pixels take them so
+abbrev pub DrawsApart : Pen → (ℕ → List Offer) → Apart → Apart → ℕ → ℕ → Type 0
+DrawsApart pen offers im zm from to =
+    picture im.exit.now zm.exit.now to
+    ≡ drawn pen (offers (rows_of pen.frame (length im.entry.now) (length zm.entry.now))) (picture im.entry.now zm.entry.now from)
+
 -- what is to be stored where so many rows are in use was stored, uncounted
 abbrev pub Fills : Pen → (ℕ → List Store) → Lent → Type 0
 Fills pen stores m =

@@ -1,8 +1,6 @@
 -- What the code of a row leans on. No promise of a public call cites anything here.
 use Rattle.std.specs.Prelude.{◌≡◌, ℕ, zero, suc, ◌+◌, ◌-◌, ◌*◌, ◌/◌, ◌%◌, ◌^◌, ◌<◌, ◌≤◌, Bool, true, false, cond, ◌||◌, ◌⊎◌, List, [], Option, Some, None, map, sum, nat_lt, slice_index, slice_set}
 use Rattle.std.specs.List.{range_with_len}
-use Rattle.std.specs.Borrow.{MutBor}
-use denote.Triple.Both.{Both}
 use mathlib.Core.List.{foldl}
 use Rattle.picture.specs.declared.Carried.{Carried}
 use Rattle.picture.specs.declared.Run.{Run}
@@ -17,11 +15,8 @@ use Rattle.std.specs.declared.cmp.Ordering.TheVariants.{Less, Equal, Greater}
 use Rattle.picture.specs.Place.{Layout, plain, tiled, share, layout_of, lies_plain, lies_tiled, place_of, rows_of, mine, in_memory}
 use Rattle.picture.specs.Offer.{Offer, offer, lets_through}
 use Rattle.picture.specs.Draw.{spans, shown, carried_one, carried_to, steady_of, span_offers, nearer_pen}
+use Rattle.picture.specs.Lent.{Apart}
 use Rattle.picture.specs.Picture.{is_deep, compared_of, is_edge, Picture, picture, step_at, drawn}
-
--- one of the memories, lent by itself, twice: as a call finds it and as it leaves it
-abbrev pub Lent : Type 0
-Lent = Both (MutBor (List ℕ)) (MutBor (List ℕ))
 
 -- nothing but a nearer depth decides, and both numbers are stored whole
 pub record Plain (pen : Pen) (kind : Kind) : Type 0 where
@@ -56,23 +51,18 @@ unfoldable pub run_over : (ℕ → ℕ) → Carried → Carried → ℕ → Pict
 run_over place i z zero p = p
 run_over place i z (suc n) p = nearer_at (place n) (carried_to i n) (carried_to z n) (run_over place i z n p)
 
--- some offers were drawn over two lent memories, and the count of passed pixels went from one number to another
-abbrev pub DrawsOver : Pen → List Offer → Lent → Lent → ℕ → ℕ → Type 0
-DrawsOver pen os im zm from to =
-    picture im.exit.now zm.exit.now to ≡ drawn pen os (picture im.entry.now zm.entry.now from)
-
 -- an offer of any sort was drawn at a place of two lent memories, and the count of passed pixels went from one number to another
-abbrev pub Puts : Pen → Kind → ℕ → ℕ → ℕ → Lent → Lent → ℕ → ℕ → Type 0
+abbrev pub Puts : Pen → Kind → ℕ → ℕ → ℕ → Apart → Apart → ℕ → ℕ → Type 0
 Puts pen kind at i z im zm from to =
     picture im.exit.now zm.exit.now to ≡ step_at pen kind at i z (picture im.entry.now zm.entry.now from)
 
 -- the same of an offer that only a nearer depth decides
-abbrev pub PutsNearer : ℕ → ℕ → ℕ → Lent → Lent → ℕ → ℕ → Type 0
+abbrev pub PutsNearer : ℕ → ℕ → ℕ → Apart → Apart → ℕ → ℕ → Type 0
 PutsNearer at i z im zm from to =
     picture im.exit.now zm.exit.now to ≡ nearer_at at i z (picture im.entry.now zm.entry.now from)
 
 -- so many offers of that sort were drawn over two lent memories, and the count of passed pixels went from one number to another
-abbrev pub Runs : (ℕ → ℕ) → Carried → Carried → ℕ → Lent → Lent → ℕ → ℕ → Type 0
+abbrev pub Runs : (ℕ → ℕ) → Carried → Carried → ℕ → Apart → Apart → ℕ → ℕ → Type 0
 Runs place i z count im zm from to =
     picture im.exit.now zm.exit.now to ≡ run_over place i z count (picture im.entry.now zm.entry.now from)
 

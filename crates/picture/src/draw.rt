@@ -1,10 +1,10 @@
 // What figures are drawn with: a pixel, and a run of pixels of one row.
 ghost use Rattle.std.specs.Prelude.{◌≡◌, ◌+◌, ◌<◌, ◌≤◌, min, length};
 ghost use Rattle.picture.specs.Draw.{placed, shown, span_offers};
-ghost use Rattle.picture.specs.Loops.{DrawsOver, InWhole, InShares, OwnColumns, own_offers};
+ghost use Rattle.picture.specs.Loops.{InWhole, InShares, OwnColumns, own_offers};
 ghost use Rattle.picture.specs.Place.{place_of, rows_of};
 ghost use Rattle.picture.specs.Offer.{keep, offer};
-ghost use Rattle.picture.specs.Lent.{Draws, Kept, held, rows_over};
+ghost use Rattle.picture.specs.Lent.{Draws, DrawsApart, Kept, held, rows_over};
 
 use crate::carry::whole;
 use crate::pixel::{is_offered, is_shown, put_at};
@@ -43,7 +43,7 @@ fn draw_one(
     n: u64,
 ) -> u64
     requires { (at ≡ place_of pen.frame v.x v.y) × (at < length im.old) × (at < length zm.old) × (n ≤ 65535) }
-    ensures { (DrawsOver pen (shown pen (offer kind v.x v.y v.i v.z)) im zm n result) × (result ≤ n + 1) }
+    ensures { (DrawsApart pen (λ _. shown pen (offer kind v.x v.y v.i v.z)) im zm n result) × (result ≤ n + 1) }
 {
     if !kind.is_masked() | is_shown(pen, v.x, v.y) {
         return put_at(pen, kind, at, v.i, v.z, im, zm, n);
@@ -55,7 +55,7 @@ fn draw_one(
 // memories each by itself: of a struct, LLVM would read where they lie again in each turn.
 fn fill(pen: Pen, kind: Kind, s: Stretch, im: &mut [u16], zm: &mut [u16]) -> u64
     requires { InWhole pen.frame s.lo s.hi s.y (rows_of pen.frame (length im.old) (length zm.old)) }
-    ensures { DrawsOver pen (span_offers pen (rows_of pen.frame (length im.old) (length zm.old)) kind s.lo s.hi s.y s.i s.z) im zm 0 result }
+    ensures { DrawsApart pen (λ rows. span_offers pen rows kind s.lo s.hi s.y s.i s.z) im zm 0 result }
 {
     let tiled = lies_tiled(pen.frame);
     let base = place(pen.frame, 0, s.y);
@@ -88,7 +88,7 @@ fn fill_own(
     zm: &mut [u16],
 ) -> u64
     requires { OwnColumns pen.frame ways own.x own.count y (rows_of pen.frame (length im.old) (length zm.old)) }
-    ensures { DrawsOver pen (own_offers pen kind ways own.x own.count y own.i own.z) im zm 0 result }
+    ensures { DrawsApart pen (λ _. own_offers pen kind ways own.x own.count y own.i own.z) im zm 0 result }
 {
     let base = place(pen.frame, own.x, y);
     let mut i = own.i;
