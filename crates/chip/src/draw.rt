@@ -6,6 +6,7 @@ ghost use Rattle.chip.specs.Chip.{style_of, whole_offers, is_cut, figure_offers}
 ghost use Rattle.picture.specs.Lent.{Draws};
 
 use line::{Mode, Style, segment};
+use picture::Memories;
 use registers::shape::Completed;
 use registers::{Registers, SECTIONING};
 use triangle::draw::triangle;
@@ -32,13 +33,13 @@ fn style_of(r: Registers) -> Style
 }
 
 // Draws what a word completed, cut or not. Answers how many pixels passed.
-fn draw_whole(r: Registers, figure: Completed, im: &mut [u16], zm: &mut [u16]) -> u64
-    ensures { Draws (pen_of r) (λ rows. whole_offers rows r figure) im zm 0 result }
+fn draw_whole(r: Registers, figure: Completed, m: &mut Memories) -> u64
+    ensures { Draws (pen_of r) (λ rows. whole_offers rows r figure) m 0 result }
 {
     match figure {
         Completed::Nothing => 0,
-        Completed::Triangle(a, b, c) => triangle(r.pen(), r.modes.pmode == 1, a, b, c, im, zm),
-        Completed::Segment(a, b) => segment(r.pen(), style_of(r), a, b, im, zm),
+        Completed::Triangle(a, b, c) => triangle(r.pen(), r.modes.pmode == 1, a, b, c, m),
+        Completed::Segment(a, b) => segment(r.pen(), style_of(r), a, b, m),
     }
 }
 
@@ -56,11 +57,11 @@ fn is_cut(r: Registers, figure: Completed) -> bool
 }
 
 // Draws what a word completed, unless it is cut. Answers how many pixels passed.
-pub fn draw(r: Registers, figure: Completed, im: &mut [u16], zm: &mut [u16]) -> u64
-    ensures { Draws (pen_of r) (λ rows. figure_offers rows r figure) im zm 0 result }
+pub fn draw(r: Registers, figure: Completed, m: &mut Memories) -> u64
+    ensures { Draws (pen_of r) (λ rows. figure_offers rows r figure) m 0 result }
 {
     if is_cut(r, figure) {
         return 0;
     }
-    draw_whole(r, figure, im, zm)
+    draw_whole(r, figure, m)
 }

@@ -4,12 +4,14 @@ ghost use Rattle.ground.specs.Refusal.{told};
 ghost use Rattle.refusals.specs.Bounds.{in_bounds};
 ghost use Rattle.refusals.specs.Refusal.{refusal_of};
 ghost use Rattle.registers.specs.Word.{decode};
-ghost use Rattle.machine.specs.Lent.{found, left};
+ghost use Rattle.picture.specs.Lent.{Kept};
+ghost use Rattle.machine.specs.Lent.{found, left, held_in};
 ghost use Rattle.chip.specs.Promises.{Takes, passed_in, registers_in};
 
 use crate::draw::draw;
 use crate::transfer::load;
 use ground::Refusal;
+use picture::Memories;
 use refusals::{checked, judged};
 use registers::Registers;
 use registers::word::{Word, decoded};
@@ -32,16 +34,16 @@ fn quiet(registers: Registers) -> Answer
 }
 
 // Takes a word that nothing refuses.
-fn take(r: Registers, word: Word, im: &mut [u16], zm: &mut [u16]) -> Answer
-    requires { refusal_of (length im.old) (length zm.old) r word ≡ 0 }
-    ensures { Takes r word (found im zm) 0 result.passed result.registers (left im zm) }
+fn take(r: Registers, word: Word, m: &mut Memories) -> Answer
+    requires { refusal_of (length m.old.i.now) (length m.old.z.now) r word ≡ 0 }
+    ensures { (Kept m) × (Takes r word (held_in m.old) 0 result.passed result.registers (held_in m.new)) }
 {
     match word {
         Word::Init(d) => quiet(r.init(d)),
         Word::Aux(n) => quiet(r.aux(n)),
         Word::Parm(v) => quiet(r.parm(v)),
         Word::At(c, n) => {
-            let passed = draw(r, r.completed_by(c, n), im, zm);
+            let passed = draw(r, r.completed_by(c, n), m);
             Answer {
                 passed,
                 registers: r.coordinate(c, n),
@@ -49,7 +51,7 @@ fn take(r: Registers, word: Word, im: &mut [u16], zm: &mut [u16]) -> Answer
         }
         Word::Img(d) => quiet(r.img(d)),
         Word::Ptrn(v) => {
-            load(r, v, im, zm);
+            load(r, v, m);
             quiet(r.transferred())
         }
         // These are refused, so that none of them comes here.
@@ -57,7 +59,8 @@ fn take(r: Registers, word: Word, im: &mut [u16], zm: &mut [u16]) -> Answer
     }
 }
 
-// Takes a word, or refuses it and leaves registers and memories as they were.
+// Takes a word, or refuses it and leaves registers and memories as they were. It is lent two slices, which calls for C hand on as they got them, and lends both
+// on in one struct, as `run` and `run_tiled` do.
 pub fn step(
     r: Registers,
     command: u8,
@@ -69,7 +72,8 @@ pub fn step(
 {
     let word = decoded(command, data);
     checked(r, word, im.len(), zm.len())?;
-    Ok(take(r, word, im, zm))
+    let mut m = Memories { i: im, z: zm };
+    Ok(take(r, word, &mut m))
 }
 
 // The same of a decoded word, for a caller that knows that the record breaks no bound and that the memories are of one length: neither is asked
@@ -78,12 +82,11 @@ pub fn step(
 pub(crate) fn step_kept(
     r: Registers,
     word: Word,
-    im: &mut [u16],
-    zm: &mut [u16],
+    m: &mut Memories,
 ) -> Result<Answer, Refusal>
-    requires { (in_bounds r ≡ true) × (length im.old ≡ length zm.old) }
-    ensures { Takes r word (found im zm) (told result) (passed_in result) (registers_in r result) (left im zm) }
+    requires { (in_bounds r ≡ true) × (length m.old.i.now ≡ length m.old.z.now) }
+    ensures { (Kept m) × (Takes r word (held_in m.old) (told result) (passed_in result) (registers_in r result) (held_in m.new)) }
 {
     judged(r, word)?;
-    Ok(take(r, word, im, zm))
+    Ok(take(r, word, m))
 }

@@ -8,16 +8,17 @@ ghost use Rattle.picture.specs.Lent.{Fills};
 ghost use Rattle.machine.specs.Machine.{memories};
 
 use ground::Refusal;
+use picture::Memories;
 use picture::transfer::{fetch, store};
 use refusals::read_checked;
 use registers::Registers;
 
 // Stores PTRN's number at the region's pixel.
-pub(crate) fn load(r: Registers, value: u16, im: &mut [u16], zm: &mut [u16])
-    ensures { Fills (pen_of r) (λ rows. picture_stores rows r value) im zm }
+pub(crate) fn load(r: Registers, value: u16, m: &mut Memories)
+    ensures { Fills (pen_of r) (λ rows. picture_stores rows r value) m }
 {
     let deep = r.is_deep_picture();
-    store(r.pen(), deep, r.region.x, r.region.y, value, im, zm);
+    store(r.pen(), deep, r.region.x, r.region.y, value, m);
 }
 
 // The number at the region's pixel.
@@ -35,7 +36,8 @@ pub struct Reading {
     pub registers: Registers,
 }
 
-// Reads the region's pixel and moves the region on, or refuses and leaves the registers as they were.
+// Reads the region's pixel and moves the region on, or refuses and leaves the registers as they were. Calls for C lend the two memories for reading alone and
+// hand them on, and of such two no `Memories` can be made, so that they stay two slices here.
 #[tactic(auto, unfolding(crate::specs::Read::reading))]
 pub fn read(r: Registers, im: &[u16], zm: &[u16]) -> Result<Reading, Refusal>
     ensures { read_told r result ≡ reading r (memories im.now zm.now) }
