@@ -11,8 +11,8 @@ use Rattle.picture.specs.Picture.{Picture, picture, drawn}
 use Rattle.picture.specs.Store.{Store, filled}
 
 -- the two lent memories twice: as a call finds them and as it leaves them
-abbrev pub Lent : Type 0
-Lent = Both (MutBor Memories) (MutBor Memories)
+abbrev pub Together : Type 0
+Together = Both (MutBor Memories) (MutBor Memories)
 
 -- the rows in use of two lent memories
 abbrev pub rows_over : Frame → Memories → ℕ
@@ -27,25 +27,25 @@ abbrev pub Same : Memories → Memories → Type 0
 Same m n = (n.i.ghost_name ≡ m.i.ghost_name) × (n.z.ghost_name ≡ m.z.ghost_name)
 
 -- a call leaves the very memories that it was lent
-abbrev pub Kept : Lent → Type 0
+abbrev pub Kept : Together → Type 0
 Kept m = Same m.entry.now m.exit.now
 
 -- what is offered where so many rows are in use was drawn, and the count of passed pixels went from one number to another
-abbrev pub Draws : Pen → (ℕ → List Offer) → Lent → ℕ → ℕ → Type 0
+abbrev pub Draws : Pen → (ℕ → List Offer) → Together → ℕ → ℕ → Type 0
 Draws pen offers m from to =
     Kept m × (held m.exit.now to ≡ drawn pen (offers (rows_over pen.frame m.entry.now)) (held m.entry.now from))
 
 -- one of the two memories, lent by itself, twice: as a call finds it and as it leaves it
-abbrev pub Apart : Type 0
-Apart = Both (MutBor (List ℕ)) (MutBor (List ℕ))
+abbrev pub Lent : Type 0
+Lent = Both (MutBor (List ℕ)) (MutBor (List ℕ))
 
 -- the same of the two memories, each lent by itself: the loops over pixels take them so
-abbrev pub DrawsApart : Pen → (ℕ → List Offer) → Apart → Apart → ℕ → ℕ → Type 0
+abbrev pub DrawsApart : Pen → (ℕ → List Offer) → Lent → Lent → ℕ → ℕ → Type 0
 DrawsApart pen offers im zm from to =
     picture im.exit.now zm.exit.now to
     ≡ drawn pen (offers (rows_of pen.frame (length im.entry.now) (length zm.entry.now))) (picture im.entry.now zm.entry.now from)
 
 -- what is to be stored where so many rows are in use was stored, uncounted
-abbrev pub Fills : Pen → (ℕ → List Store) → Lent → Type 0
+abbrev pub Fills : Pen → (ℕ → List Store) → Together → Type 0
 Fills pen stores m =
     Kept m × (held m.exit.now 0 ≡ filled pen (stores (rows_over pen.frame m.entry.now)) (held m.entry.now 0))

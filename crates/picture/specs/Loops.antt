@@ -15,7 +15,7 @@ use Rattle.std.specs.declared.cmp.Ordering.TheVariants.{Less, Equal, Greater}
 use Rattle.picture.specs.Place.{Layout, plain, tiled, share, layout_of, lies_plain, lies_tiled, place_of, rows_of, mine, in_memory}
 use Rattle.picture.specs.Offer.{Offer, offer, lets_through}
 use Rattle.picture.specs.Draw.{spans, shown, carried_one, carried_to, steady_of, span_offers, nearer_pen}
-use Rattle.picture.specs.Lent.{Apart}
+use Rattle.picture.specs.Lent.{Lent}
 use Rattle.picture.specs.Picture.{is_deep, compared_of, is_edge, Picture, picture, step_at, drawn}
 
 -- nothing but a nearer depth decides, and both numbers are stored whole
@@ -52,17 +52,17 @@ run_over place i z zero p = p
 run_over place i z (suc n) p = nearer_at (place n) (carried_to i n) (carried_to z n) (run_over place i z n p)
 
 -- an offer of any sort was drawn at a place of two lent memories, and the count of passed pixels went from one number to another
-abbrev pub Puts : Pen → Kind → ℕ → ℕ → ℕ → Apart → Apart → ℕ → ℕ → Type 0
+abbrev pub Puts : Pen → Kind → ℕ → ℕ → ℕ → Lent → Lent → ℕ → ℕ → Type 0
 Puts pen kind at i z im zm from to =
     picture im.exit.now zm.exit.now to ≡ step_at pen kind at i z (picture im.entry.now zm.entry.now from)
 
 -- the same of an offer that only a nearer depth decides
-abbrev pub PutsNearer : ℕ → ℕ → ℕ → Apart → Apart → ℕ → ℕ → Type 0
+abbrev pub PutsNearer : ℕ → ℕ → ℕ → Lent → Lent → ℕ → ℕ → Type 0
 PutsNearer at i z im zm from to =
     picture im.exit.now zm.exit.now to ≡ nearer_at at i z (picture im.entry.now zm.entry.now from)
 
 -- so many offers of that sort were drawn over two lent memories, and the count of passed pixels went from one number to another
-abbrev pub Runs : (ℕ → ℕ) → Carried → Carried → ℕ → Apart → Apart → ℕ → ℕ → Type 0
+abbrev pub Runs : (ℕ → ℕ) → Carried → Carried → ℕ → Lent → Lent → ℕ → ℕ → Type 0
 Runs place i z count im zm from to =
     picture im.exit.now zm.exit.now to ≡ run_over place i z count (picture im.entry.now zm.entry.now from)
 
