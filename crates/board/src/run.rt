@@ -11,6 +11,7 @@ use crate::step::{Taken, step};
 use crate::unit::is_even;
 use crate::{Board, reset};
 use ground::Refusal;
+use registers::word::parts;
 use stream::read::{checked, held, word};
 
 // How a run ended: the number that refused the number of units, a word or the stream, 0 for none; the index of that word, or how many words there are; the
@@ -25,6 +26,7 @@ pub struct Ended {
 }
 
 // The word at place k of a stream, taken.
+#[tactic(auto, using(stream::proofs::Round::word_fits), unfolding(registers::specs::Word::word_of))]
 fn step_at(
     board: Board,
     bytes: &[u8],
@@ -40,21 +42,8 @@ fn step_at(
 ) -> Result<Taken, Refusal>
     ensures { TakesOn board (word_of (word_at bytes.now k)) (found_in i0 z0 i1 z1 i2 z2 i3 z3) (reply_of board result) (left_in i0 z0 i1 z1 i2 z2 i3 z3) }
 {
-    let w = word(bytes, k);
-    let command = (w / 65536) as u8;
-    step(
-        board,
-        command,
-        (w % 65536) as u16,
-        i0,
-        z0,
-        i1,
-        z1,
-        i2,
-        z2,
-        i3,
-        z3,
-    )
+    let (command, data) = parts(word(bytes, k));
+    step(board, command, data, i0, z0, i1, z1, i2, z2, i3, z3)
 }
 
 // The words of a stream, one after the other, until one is refused.

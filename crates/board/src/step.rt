@@ -7,7 +7,8 @@ ghost use Rattle.board.specs.Bank.{found_in, left_in};
 
 use crate::Board;
 use crate::door::{command_of, data_of};
-use crate::unit::{is_even, part_of, passed};
+use crate::unit::{is_even, part_of};
+use chip::step::passed;
 use ground::Refusal;
 
 // The answer to a word: the number that refuses it, 0 for accepted; how many pixels passed in all units; and the next board.

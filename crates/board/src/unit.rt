@@ -75,13 +75,3 @@ pub(crate) fn part_of(
     let mine = r.in_layout(layout_of(units, u));
     step(mine, command, data, im, zm)
 }
-
-// How many pixels passed in a unit.
-pub(crate) fn passed(answer: Result<Answer, Refusal>) -> u64
-    ensures { result ≡ passed_in answer }
-{
-    match answer {
-        Ok(answer) => answer.passed,
-        Err(_) => 0,
-    }
-}

@@ -13,7 +13,13 @@ pub fn completed(r: Registers, word: Word) -> Completed
 {
     match word {
         Word::At(c, n) => r.completed_by(c, n),
-        Word::Init(_) | Word::Aux(_) | Word::Parm(_) | Word::Img(_) => Completed::Nothing,
-        Word::Ptrn(_) | Word::Reserved | Word::Unmodelled | Word::Unknown => Completed::Nothing,
+        Word::Init(_)
+        | Word::Aux(_)
+        | Word::Parm(_)
+        | Word::Img(_)
+        | Word::Ptrn(_)
+        | Word::Reserved
+        | Word::Unmodelled
+        | Word::Unknown => Completed::Nothing,
     }
 }

@@ -15,7 +15,7 @@ use crate::step::{Answer, step_kept};
 use ground::Refusal;
 use picture::Memories;
 use registers::Registers;
-use registers::word::decoded;
+use registers::word::word_of;
 use stream::read::{checked, held, word};
 
 // How a run ended: what refused a word or the stream, if anything did; the index of that word, or how many words there are; the sum of the
@@ -29,7 +29,7 @@ pub struct Ran {
 }
 
 // The word at place k of a stream, taken.
-#[tactic(auto, using(stream::proofs::Round::word_fits), unfolding(registers::specs::Word::word_of))]
+#[tactic(auto, using(stream::proofs::Round::word_fits))]
 fn step_at(
     r: Registers,
     bytes: &[u8],
@@ -37,17 +37,15 @@ fn step_at(
     m: &mut Memories,
 ) -> Result<Answer, Refusal>
     requires { (in_bounds r ≡ true) × (length m.old.i.now ≡ length m.old.z.now) }
-    ensures { (Kept m) × (Takes r (word_of (word_at bytes.now k)) (held_in m.old) (told result) (passed_in result) (registers_in r result) (held_in m.new)) }
+    ensures { Kept m × Takes r (word_of (word_at bytes.now k)) (held_in m.old) (told result) (passed_in result) (registers_in r result) (held_in m.new) }
 {
-    let w = word(bytes, k);
-    let taken = decoded((w / 65536) as u8, (w % 65536) as u16);
-    step_kept(r, taken, m)
+    step_kept(r, word_of(word(bytes, k)), m)
 }
 
 // The words of a stream, one after the other, until one is refused. Bounds and lengths hold from reset on, so that no word asks about them.
 fn run_words(start: Registers, bytes: &[u8], m: &mut Memories) -> Ran
     requires { (in_bounds start ≡ true) × (length m.old.i.now ≡ length m.old.z.now) }
-    ensures { (Kept m) × (ran (told result.outcome) result.index result.sum result.registers (held_in m.new) ≡ words_from start bytes.now (held_in m.old)) }
+    ensures { Kept m × ran (told result.outcome) result.index result.sum result.registers (held_in m.new) ≡ words_from start bytes.now (held_in m.old) }
 {
     let count = held(bytes);
     let mut r = start;
@@ -91,7 +89,7 @@ fn refused(start: Registers, refusal: Refusal) -> Ran
 // Runs a packed stream from a record: checks it and the memories, then takes word after word until one is refused.
 fn run_from(start: Registers, bytes: &[u8], m: &mut Memories) -> Ran
     requires { in_bounds start ≡ true }
-    ensures { (Kept m) × (RunsFrom start bytes.now (held_in m.old) (told result.outcome) result.index result.sum result.registers (held_in m.new)) }
+    ensures { Kept m × RunsFrom start bytes.now (held_in m.old) (told result.outcome) result.index result.sum result.registers (held_in m.new) }
 {
     if let Err(refusal) = checked(bytes) {
         return refused(start, refusal);

@@ -23,6 +23,16 @@ pub struct Answer {
     pub registers: Registers,
 }
 
+// How many pixels passed by an answer; none where the word was refused.
+pub fn passed(answer: Result<Answer, Refusal>) -> u64
+    ensures { result ≡ passed_in answer }
+{
+    match answer {
+        Ok(answer) => answer.passed,
+        Err(_) => 0,
+    }
+}
+
 // An answer of no pixels.
 fn quiet(registers: Registers) -> Answer
     ensures { result ≡ record { passed = 0; registers = registers } }
@@ -36,7 +46,7 @@ fn quiet(registers: Registers) -> Answer
 // Takes a word that nothing refuses.
 fn take(r: Registers, word: Word, m: &mut Memories) -> Answer
     requires { refusal_of (length m.old.i.now) (length m.old.z.now) r word ≡ 0 }
-    ensures { (Kept m) × (Takes r word (held_in m.old) 0 result.passed result.registers (held_in m.new)) }
+    ensures { Kept m × Takes r word (held_in m.old) 0 result.passed result.registers (held_in m.new) }
 {
     match word {
         Word::Init(d) => quiet(r.init(d)),
@@ -85,7 +95,7 @@ pub(crate) fn step_kept(
     m: &mut Memories,
 ) -> Result<Answer, Refusal>
     requires { (in_bounds r ≡ true) × (length m.old.i.now ≡ length m.old.z.now) }
-    ensures { (Kept m) × (Takes r word (held_in m.old) (told result) (passed_in result) (registers_in r result) (held_in m.new)) }
+    ensures { Kept m × Takes r word (held_in m.old) (told result) (passed_in result) (registers_in r result) (held_in m.new) }
 {
     judged(r, word)?;
     Ok(take(r, word, m))

@@ -11,6 +11,7 @@ ghost use Rattle.machine.specs.Lent.{found, left};
 use chip::step::step;
 use ground::{Refusal, number_of};
 use registers::Registers;
+use registers::word::parts;
 
 // How far a recording has come, which is also the answer of each call: the number that refused a word or the end, 0 for none; how many words
 // were run, and the sum of their counts, both modulo 2^64; the bits of a word that has not come whole, and how many they are; 1 once the
@@ -133,7 +134,8 @@ fn run_word(s: Intake, w: u32, im: &mut [u16], zm: &mut [u16]) -> Intake
     requires w_bound { w < 2 ^ 20 }
     ensures { so_far result (left im zm) ≡ word_in (so_far s (found im zm)) w }
 {
-    match step(s.registers, (w / 65536) as u8, (w % 65536) as u16, im, zm) {
+    let (command, data) = parts(w);
+    match step(s.registers, command, data, im, zm) {
         Ok(answer) => Intake {
             index: s.index.wrapping_add(1),
             sum: s.sum.wrapping_add(answer.passed),

@@ -10,6 +10,7 @@ ghost use Rattle.mending.specs.Sort.{Judged, put_waiting, Waits, word_in, next_w
 use chip::step::{Answer, step};
 use ground::Refusal;
 use registers::Registers;
+use registers::word::parts;
 use stream::read::{held, word};
 use stream::write::pack;
 
@@ -18,13 +19,8 @@ fn tried(r: Registers, word: u32) -> Result<Answer, Refusal>
     requires { word < 1048576 }
     ensures { Judged r word (told result) (registers_in r result) }
 {
-    step(
-        r,
-        (word / 65536) as u8,
-        (word % 65536) as u16,
-        &mut [],
-        &mut [],
-    )
+    let (command, data) = parts(word);
+    step(r, command, data, &mut [], &mut [])
 }
 
 // How many words are kept.

@@ -6,12 +6,12 @@ use Prim.Native.Nat.{ℕ, ◌+◌, ◌*◌, ◌-◌, ◌≤◌, ◌<◌, min}
 use native.Mathlib.Nat.{add_assoc}
 use native.Mathlib.Numerals.{add-one}
 use native.Mathlib.Omega.{arith}
-use borrow.Author.Tests.{lt-ltb, ltb-true}
+use borrow.Author.Tests.{lt-ltb, ltb-true, ltb-false}
 use lib.Dec.{ltb}
 use Rattle.ground.proofs.Truth.{both, same_test}
 use Rattle.squares.specs.Squares.{any_below, any_in}
 use Rattle.squares.specs.Change.{unlike, run_differs, differs}
-use Rattle.squares.proofs.Any.{any_here, any_found, fails, in_here, in_found}
+use Rattle.squares.proofs.Any.{any_here, any_found, fails, in_here, in_found, one_fails}
 
 -- ---- a run of places
 
@@ -56,6 +56,10 @@ module _ (old new : List ℕ) (width rows : ℕ) where
         fails _ (λ e.
         let f = in_found (differs old new width rows) side x y e in
         omega (arith, (differs_parts (x + f.0) (y + f.1) f.4).1))
+
+    -- so has a square whose corner is outside
+    pub outside_alike : ltb x width && ltb y rows ≡ false → any_in (differs old new width rows) side x y ≡ false
+    outside_alike e = one_fails (ltb x width) (ltb y rows) e (λ t. right_of (ltb-false x width t)) (λ t. above (ltb-false y rows t))
 
   module _ (x y : ℕ) where
     -- the part of row j of a square of side 8 that is inside the picture has a difference

@@ -37,10 +37,9 @@ pub(crate) fn square_differs(pictures: &Pictures, square: Corner) -> bool
     ensures { result ≡ any_in (differs pictures.now.old.now pictures.now.new.now pictures.now.size.width pictures.now.size.rows) 8 square.x square.y }
 {
     let Pictures { old, new, size } = *pictures;
-    let columns = 8usize.min(size.width - square.x);
-    let height = 8usize.min(size.rows - square.y);
-    for j in 0..height {
-        if row_differs(old, new, (square.y + j) * size.width + square.x, columns) {
+    let inside = size.clip(square);
+    for j in 0..inside.rows {
+        if row_differs(old, new, (square.y + j) * size.width + square.x, inside.width) {
             return true;
         }
     }

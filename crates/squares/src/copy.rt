@@ -43,14 +43,12 @@ fn copy_square(new: &[u16], size: Size, square: Corner, view: &mut [u16])
     requires { (length new.now ≡ size.width * size.rows) × (length view.old ≡ size.width * size.rows) }
     ensures { view.new ≡ copy_square size.width new.now view.old square }
 {
-    let Corner { x, y } = square;
-    if size.width <= x || size.rows <= y {
+    if !size.has(square) {
         return;
     }
-    let columns = 8usize.min(size.width - x);
-    let height = 8usize.min(size.rows - y);
-    for j in 0..height {
-        copy_run(new, (y + j) * size.width + x, columns, view);
+    let inside = size.clip(square);
+    for j in 0..inside.rows {
+        copy_run(new, (square.y + j) * size.width + square.x, inside.width, view);
     }
 }
 

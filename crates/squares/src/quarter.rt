@@ -16,8 +16,7 @@ pub(crate) fn quarter(pictures: &Pictures, square: Corner, side: usize, found: &
     requires room { Room (differs pictures.now.old.now pictures.now.new.now pictures.now.size.width pictures.now.size.rows) side square found.old }
     ensures { AddsSquares (differs pictures.now.old.now pictures.now.new.now pictures.now.size.width pictures.now.size.rows) side square found.old found.new }
 {
-    let Corner { x, y } = square;
-    if pictures.size.width <= x || pictures.size.rows <= y {
+    if !pictures.size.has(square) {
         return;
     }
     if side <= 8 {
@@ -26,6 +25,7 @@ pub(crate) fn quarter(pictures: &Pictures, square: Corner, side: usize, found: &
         }
         return;
     }
+    let Corner { x, y } = square;
     let half = side / 2;
     quarter(pictures, square, half, found);
     quarter(pictures, Corner { x: x + half, y }, half, found);

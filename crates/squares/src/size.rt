@@ -1,5 +1,5 @@
 // How large a picture is, and how a square is told.
-ghost use Rattle.std.specs.Prelude.{◌≡◌, ◌<◌};
+ghost use Rattle.std.specs.Prelude.{◌≡◌, ◌+◌, ◌-◌, ◌≤◌, ◌<◌, ◌&&◌, ltb, min};
 ghost use Rattle.ground.specs.Refusal.{told};
 ghost use Rattle.squares.specs.Squares.{number_of, corner_of};
 ghost use Rattle.squares.specs.Calls.{checked, is_square};
@@ -27,11 +27,30 @@ impl Size {
         Err(Refusal::NotAllowed)
     }
 
+    // Whether a square's corner is inside a picture of this size.
+    pub(crate) fn has(self, square: Corner) -> bool
+        ensures { result ≡ (ltb square.x self.width && ltb square.y self.rows) }
+    {
+        (square.x < self.width) & (square.y < self.rows)
+    }
+
+    // How many columns and rows of a square of side 8, whose corner is inside, are inside.
+    pub(crate) fn clip(self, square: Corner) -> Size
+        requires { (square.x < self.width) × (square.y < self.rows) }
+        ensures columns { (result.width ≡ min 8 (self.width - square.x)) × (square.x + result.width ≤ self.width) }
+        ensures rows { (result.rows ≡ min 8 (self.rows - square.y)) × (square.y + result.rows ≤ self.rows) }
+    {
+        Size {
+            width: 8usize.min(self.width - square.x),
+            rows: 8usize.min(self.rows - square.y),
+        }
+    }
+
     // Whether a square is such as is listed for a picture of this size.
     pub(crate) fn lists(self, square: Corner) -> bool
         ensures { result ≡ is_square self.width self.rows square }
     {
-        (square.x % 8 == 0) & (square.y % 8 == 0) & (square.x < self.width) & (square.y < self.rows)
+        (square.x % 8 == 0) & (square.y % 8 == 0) & self.has(square)
     }
 }
 

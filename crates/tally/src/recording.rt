@@ -13,7 +13,7 @@ use chip::figure::completed;
 use chip::step::{Answer, step};
 use ground::Refusal;
 use registers::Registers;
-use registers::word::decoded;
+use registers::word::{decoded, parts};
 use stream::read::{checked, held, word};
 
 // What comes of an accepted word: what `step` answers to it, and what it is counted as.
@@ -41,6 +41,7 @@ fn take(
 }
 
 // The word at place k of a stream, taken and counted.
+#[tactic(auto, using(stream::proofs::Round::word_fits), unfolding(registers::specs::Word::word_of))]
 fn take_at(
     r: Registers,
     bytes: &[u8],
@@ -50,8 +51,8 @@ fn take_at(
 ) -> Result<Turn, Refusal>
     ensures { Counted r (word_of (word_at bytes.now k)) im zm result }
 {
-    let w = word(bytes, k);
-    take(r, (w / 65536) as u8, (w % 65536) as u16, im, zm)
+    let (command, data) = parts(word(bytes, k));
+    take(r, command, data, im, zm)
 }
 
 // The words of a stream, one after the other, until one is refused.

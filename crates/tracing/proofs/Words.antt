@@ -131,8 +131,6 @@ takes_from {bytes} a {i} {z} {j} {y} {t} {i'} {z'} e f k =
     subst (λ (l : List ℕ). TakesTraced bytes (standing a i l) t i' z') f (subst (λ (l : List ℕ). TakesTraced bytes (standing a l y) t i' z') e k)
 
 -- the word that a question was asked of is the next one
-pub hits_word : (bytes : List ℕ) (index x y : ℕ) (r : Registers) (i z : List ℕ) {w count : ℕ} {v : Word} → w ≡ word_at bytes index → v ≡ decode (w / 65536) (w % 65536)
+pub hits_word : (bytes : List ℕ) (index x y : ℕ) (r : Registers) (i z : List ℕ) {w count : ℕ} {v : Word} → w ≡ word_at bytes index → v ≡ word_of w
     → count ≡ hits_of x y r v i z → count ≡ hits_of x y r (word_of (word_at bytes index)) i z
-unfolding word_of
-hits_word bytes index x y r i z word is e =
-    e ∙ ap (λ (v : Word). hits_of x y r v i z) is ∙ ap (λ (n : ℕ). hits_of x y r (decode (n / 65536) (n % 65536)) i z) word
+hits_word bytes index x y r i z word is e = e ∙ ap (λ (v : Word). hits_of x y r v i z) (is ∙ ap word_of word)

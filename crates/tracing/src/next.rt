@@ -1,17 +1,16 @@
 // One word of a recording, taken and traced.
 ghost use Rattle.std.specs.Prelude.{◌≡◌, ◌<◌, false};
 ghost use Rattle.ground.specs.Refusal.{told};
-ghost use Rattle.chip.specs.Promises.{passed_in};
 ghost use Rattle.tracing.specs.Trace.{standing, is_over, moved, TakesTraced, line_at};
 ghost use Rattle.tracing.specs.Lent.{Turned};
 
 use crate::Turn;
 use crate::meaning::meaning;
 use chip::run::Ran;
-use chip::step::{Answer, step};
+use chip::step::{Answer, passed, step};
 use ground::{Refusal, number_of};
 use listing::trace::{Traced, trace_line};
-use registers::word::decoded;
+use registers::word::{decoded, parts};
 use stream::read::{held, word};
 
 // A word that was taken: what is traced of it, and the run after it.
@@ -27,16 +26,6 @@ pub(crate) fn is_over(a: Ran, bytes: &[u8]) -> bool
     ensures { result ≡ is_over bytes.now (told a.outcome) a.index }
 {
     number_of(a.outcome) != 0 || held(bytes) as u64 <= a.index
-}
-
-// How many pixels passed by an answer.
-fn passed_by(answer: Result<Answer, Refusal>) -> u64
-    ensures { result ≡ passed_in answer }
-{
-    match answer {
-        Ok(a) => a.passed,
-        Err(_) => 0,
-    }
 }
 
 // The run after an answer.
@@ -60,13 +49,13 @@ fn move_on(a: Ran, answer: Result<Answer, Refusal>) -> Ran
 }
 
 // Takes the next word.
+#[tactic(auto, using(stream::proofs::Round::word_fits))]
 pub(crate) fn take(a: Ran, bytes: &[u8], im: &mut [u16], zm: &mut [u16]) -> Taken
     requires { is_over bytes.now (told a.outcome) a.index ≡ false }
     ensures { TakesTraced bytes.now (standing a im.old zm.old) result im.new zm.new }
 {
     let w = word(bytes, a.index as usize);
-    let command = (w / 65536) as u8;
-    let operand = (w % 65536) as u16;
+    let (command, operand) = parts(w);
     let meaning = meaning(a.registers, decoded(command, operand));
     let answer = step(a.registers, command, operand, im, zm);
     Taken {
@@ -75,7 +64,7 @@ pub(crate) fn take(a: Ran, bytes: &[u8], im: &mut [u16], zm: &mut [u16]) -> Take
             word: w,
             meaning,
             refusal: number_of(answer),
-            passed: passed_by(answer),
+            passed: passed(answer),
         },
         run: move_on(a, answer),
     }

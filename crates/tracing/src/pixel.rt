@@ -14,7 +14,7 @@ use picture::Frame;
 use picture::place::rows_of;
 use picture::transfer::fetch;
 use registers::shape::Completed;
-use registers::word::{Word, decoded};
+use registers::word::{Word, word_of};
 use registers::{Registers, Window};
 use stream::read::word;
 
@@ -101,6 +101,7 @@ fn lay(t: Traced, count: u64, before: Numbers, after: Numbers, out: &mut [u8], a
 
 // Takes the next word and, if it has a pixel at (x, y), lays its line with the numbers there at a place of `out`; does nothing where nothing is
 // left.
+#[tactic(auto, using(stream::proofs::Round::word_fits))]
 pub fn watch(
     x: u16,
     y: u16,
@@ -119,7 +120,7 @@ pub fn watch(
     let pixel = Pixel { x, y };
     let frame = a.registers.frame;
     let w = word(bytes, a.index as usize);
-    let next_word = decoded((w / 65536) as u8, (w % 65536) as u16);
+    let next_word = word_of(w);
     let before = pixel.numbers(frame, im, zm);
     let count = pixel.hits(a.registers, next_word, im, zm);
     let t = take(a, bytes, im, zm);

@@ -7,10 +7,10 @@ use Rattle.instalments.proofs.run_word.Goals as goal
 
 pub returns-in-Ok : goal.returns-in-Ok
 unfolding word_of
-returns-in-Ok c = word_accepted _ _ c.requires.refusal_value c.in-Ok.ensures refl
+returns-in-Ok c = word_accepted _ _ c.requires.refusal_value (rw (c.parts-command.ensures.0, c.parts-command.ensures.1) at c.in-Ok.ensures) refl
 
 pub returns-in-Err : goal.returns-in-Err
 unfolding word_of
 returns-in-Err c =
     rw c.into.ensures
-    (word_refused _ _ c.requires.refusal_value c.in-Err.ensures (omega (arith, c.well_formed)) (λ z. omega (arith, number_positive c.in-Err.refusal, z)))
+    (word_refused _ _ c.requires.refusal_value (rw (c.parts-command.ensures.0, c.parts-command.ensures.1) at c.in-Err.ensures) (omega (arith, c.well_formed)) (λ z. omega (arith, number_positive c.in-Err.refusal, z)))

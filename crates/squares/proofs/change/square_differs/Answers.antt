@@ -18,21 +18,21 @@ returns-then-row_differs c =
     let p = c.args.pictures.now in
     let s = c.args.square in
     let row = row_differs p.old.now p.new.now p.size.width p.size.rows s.x s.y in
-    let here : row c.loop-j.j ≡ true = rw c.min-columns.ensures at (sym c.row_differs.ensures ∙ c.if-row_differs.true) in
+    let here : row c.loop-j.j ≡ true = rw c.clip-inside.ensures.columns.0 at (sym c.row_differs.ensures ∙ c.if-row_differs.true) in
     sym (clipped p.old.now p.new.now p.size.width p.size.rows s.x s.y
-    ∙ any_here (min 8 (p.size.rows - s.y)) row c.loop-j.j (omega (arith, c.min-height.ensures)) here)
+    ∙ any_here (min 8 (p.size.rows - s.y)) row c.loop-j.j (omega (arith, c.clip-inside.ensures.rows.0)) here)
 
 pub loop-j-preserved : goal.loop-j-preserved
 loop-j-preserved c =
     let p = c.args.pictures.now in
     let s = c.args.square in
     let row = row_differs p.old.now p.new.now p.size.width p.size.rows s.x s.y in
-    let none : row c.loop-j.j ≡ false = rw c.min-columns.ensures at (sym c.row_differs.ensures ∙ c.if-row_differs.false) in
+    let none : row c.loop-j.j ≡ false = rw c.clip-inside.ensures.columns.0 at (sym c.row_differs.ensures ∙ c.if-row_differs.false) in
     any_next c.loop-j.j row c.loop-j.invariant none
 
 pub returns : goal.returns
 returns c =
     let p = c.args.pictures.now in
     let s = c.args.square in
-    let e : c.loop-j.j ≡ min 8 (p.size.rows - s.y) = omega (arith, c.min-height.ensures) in
+    let e : c.loop-j.j ≡ min 8 (p.size.rows - s.y) = omega (arith, c.clip-inside.ensures.rows.0) in
     sym (clipped p.old.now p.new.now p.size.width p.size.rows s.x s.y ∙ rw e at c.loop-j.invariant)

@@ -7,4 +7,4 @@ use Rattle.squares.proofs.Rows.{inside}
 use Rattle.squares.proofs.copy.copy_square.Given as goal
 
 abbrev pub invariant-loop-j : goal.invariant-loop-j
-invariant-loop-j l = (length l.view ≡ length l.initial.view) × (l.view ≡ overlay (inside l.size.width l.x l.y l.columns l.j) l.new 0 l.initial.view)
+invariant-loop-j l = (length l.view ≡ length l.initial.view) × (l.view ≡ overlay (inside l.size.width l.square.x l.square.y l.inside.width l.j) l.new 0 l.initial.view)

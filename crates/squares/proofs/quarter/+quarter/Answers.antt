@@ -4,26 +4,22 @@ use Rattle.std.proofs.Common.{ℕ, ◌<◌, Bool, List, sym, ◌∙◌, arith}
 use Rattle.squares.specs.Squares.{corner}
 use Rattle.squares.specs.Change.{differs}
 use Rattle.squares.specs.Room.{Side, Room}
-use Rattle.squares.proofs.Clip.{right_of, above}
+use Rattle.squares.proofs.Clip.{outside_alike}
 use Rattle.squares.proofs.Split.{half_side, Splitting, adds_none, adds_unlisted, adds_itself, room_itself, room_lower_left, room_lower_right, room_upper_left, room_upper_right, adds_quarters}
-use Rattle.squares.proofs.quarter.+quarter.Goals.{then-pictures-x-via-then-pictures-x, then-pictures-x-via-else-pictures-x+then-pictures-y}
 use Rattle.squares.proofs.quarter.+quarter.Goals as goal
 
 -- a square of a side above 8 is split
 splitting : {marked : ℕ → ℕ → Bool} {side x y : ℕ} {found : List ℕ} → 8 < side → Side side → Room marked side (corner x y) found → Splitting marked side x y found
 splitting large splits room = record { large = large; splits = splits; room = room }
 
-pub returns-then-pictures-x : goal.returns-then-pictures-x
-returns-then-pictures-x t c =
+pub returns-then-not-has : goal.returns-then-not-has
+returns-then-not-has t c =
     let p = c.args.pictures.now in
     let s = c.args.square in
     let size = p.size in
     let marked = differs p.old.now p.new.now size.width size.rows in
-    let none = adds_none marked c.args.side s.x s.y c.args.found.now in
-    elim c.then-pictures-x.branch [
-      | then-pictures-x-via-then-pictures-x w ↦ none (right_of p.old.now p.new.now size.width size.rows s.x s.y c.args.side w.if-pictures-x.true)
-      | then-pictures-x-via-else-pictures-x+then-pictures-y w ↦ none (above p.old.now p.new.now size.width size.rows s.x s.y c.args.side w.if-pictures-y.true)
-    ]
+    adds_none marked c.args.side s.x s.y c.args.found.now
+    (outside_alike p.old.now p.new.now size.width size.rows s.x s.y c.args.side (sym c.has.ensures ∙ c.if-not-has.true))
 
 pub push-requires : goal.push-requires
 push-requires t c =
