@@ -30,12 +30,7 @@ pub struct Ran {
 
 // The word at place k of a stream, taken.
 #[tactic(auto, using(stream::proofs::Round::word_fits))]
-fn step_at(
-    r: Registers,
-    bytes: &[u8],
-    k: usize,
-    m: &mut Memories,
-) -> Result<Answer, Refusal>
+fn step_at(r: Registers, bytes: &[u8], k: usize, m: &mut Memories) -> Result<Answer, Refusal>
     requires { (in_bounds r ≡ true) × (length m.old.i.now ≡ length m.old.z.now) }
     ensures { Kept m × Takes r (word_of (word_at bytes.now k)) (held_in m.old) (told result) (passed_in result) (registers_in r result) (held_in m.new) }
 {

@@ -88,12 +88,8 @@ pub fn step(
 
 // The same of a decoded word, for a caller that knows that the record breaks no bound and that the memories are of one length: neither is asked
 // again. Both stand in the contracts from here up to the loop over the words: a type for such a record would be unpacked and made again at each
-// word, and the lengths are those of two slices that C lends.
-pub(crate) fn step_kept(
-    r: Registers,
-    word: Word,
-    m: &mut Memories,
-) -> Result<Answer, Refusal>
+// word, and `Memories` holds any two slices that are lent, unlike ones too.
+pub(crate) fn step_kept(r: Registers, word: Word, m: &mut Memories) -> Result<Answer, Refusal>
     requires { (in_bounds r ≡ true) × (length m.old.i.now ≡ length m.old.z.now) }
     ensures { Kept m × Takes r word (held_in m.old) (told result) (passed_in result) (registers_in r result) (held_in m.new) }
 {

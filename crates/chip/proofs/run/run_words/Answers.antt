@@ -1,6 +1,6 @@
 -- `run::run_words` meets its contract. Its loop keeps that the whole run is the run of the words that are left, from where k words came to, and that
 -- the record breaks no bound. Assumes nothing.
-use Rattle.std.proofs.Common.{◌≡◌, refl, sym, ◌∙◌, arith}
+use Rattle.std.proofs.Common.{◌≡◌, refl, ◌∙◌, arith}
 use Rattle.ground.proofs.Numbers.{number_positive}
 use Rattle.chip.proofs.Streams.{reached_start, reached_more, reached_kept, reached_alike, reached_halt, reached_end}
 use Rattle.chip.proofs.run.run_words.Goals as goal
