@@ -8,7 +8,7 @@ ghost use Rattle.bench.specs.Bench.{pen_of, style_of, vertex_of, DrawsTriangle, 
 use ground::Refusal;
 use line::{Mode, Style};
 use picture::limits::LARGEST_BORDER;
-use picture::{Frame, Pen, Vertex};
+use picture::{Frame, Memories, Pen, Vertex};
 
 // The pen of the benchmark: depth test on, both enables, all planes, the widest window.
 fn pen_of(line: u16, layout: u16) -> Pen
@@ -61,7 +61,8 @@ pub extern "C" fn dextolumen_bench_triangle(
     let a = vertex_of(ax, ay, ai, az);
     let b = vertex_of(bx, by, bi, bz);
     let c = vertex_of(cx, cy, ci, cz);
-    triangle::draw::triangle(pen_of(line, layout), constant, a, b, c, im, zm)
+    let mut m = Memories { i: im, z: zm };
+    triangle::draw::triangle(pen_of(line, layout), constant, a, b, c, &mut m)
 }
 
 // Draws a segment.
@@ -96,7 +97,8 @@ pub extern "C" fn dextolumen_bench_segment(
         steps: 0,
         joined: false,
     };
-    line::segment(pen_of(line, layout), style, a, b, im, zm)
+    let mut m = Memories { i: im, z: zm };
+    line::segment(pen_of(line, layout), style, a, b, &mut m)
 }
 
 // The length that a call on packed streams tells.

@@ -1,6 +1,7 @@
 -- What a call makes of the two memories that it is lent: said of these once, for the contracts.
-use Rattle.std.specs.Prelude.{◌≡◌, ℕ, Result, Ok, Err}
-use Rattle.picture.specs.Lent.{Lent, rows_over}
+use Rattle.std.specs.Prelude.{◌≡◌, ℕ, Result, Ok, Err, length}
+use Rattle.picture.specs.Place.{rows_of}
+use Rattle.picture.specs.Lent.{Lent}
 use Rattle.registers.specs.declared.Registers.{Registers}
 use Rattle.registers.specs.declared.word.Word.{Word}
 use Rattle.registers.specs.declared.shape.Completed.{Completed}
@@ -19,7 +20,7 @@ use Rattle.tally.specs.Overdraw.{word_tally}
 -- how many pixels a figure offers was told, and both memories stay
 abbrev pub Offered : Registers → Completed → Lent → Lent → ℕ → Type 0
 Offered r figure im zm n =
-    (n ≡ offered_of (figure_offers (rows_over r.frame im.entry zm.entry) r figure)) × (im.exit.now ≡ im.entry.now) × (zm.exit.now ≡ zm.entry.now)
+    (n ≡ offered_of (figure_offers (rows_of r.frame (length im.entry.now) (length zm.entry.now)) r figure)) × (im.exit.now ≡ im.entry.now) × (zm.exit.now ≡ zm.entry.now)
 
 -- what `step` answered to a word that was counted
 abbrev pub answer_in : Result Turn Refusal → Result Answer Refusal

@@ -8,7 +8,7 @@ ghost use Rattle.tally.specs.Overdraw.{figure_tally, muted_of};
 use crate::{Count, Tally};
 use chip::draw::draw;
 use line::Mode;
-use picture::Kind;
+use picture::{Kind, Memories};
 use registers::Registers;
 use registers::shape::Completed;
 
@@ -25,7 +25,8 @@ fn muted(mut r: Registers) -> Registers
 pub(crate) fn offered_by(r: Registers, figure: Completed, im: &mut [u16], zm: &mut [u16]) -> u64
     ensures { Offered r figure im zm result }
 {
-    draw(muted(r), figure, im, zm)
+    let mut m = Memories { i: im, z: zm };
+    draw(muted(r), figure, &mut m)
 }
 
 // The kind of a triangle, by PMODE's word. (`triangle` chooses so for itself: a call for both would be one more that a low crate offers.)

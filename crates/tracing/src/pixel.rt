@@ -10,9 +10,9 @@ use crate::next::{is_over, take};
 use chip::draw::draw;
 use chip::run::Ran;
 use listing::trace::{Numbers, Traced, watch_line};
-use picture::Frame;
 use picture::place::rows_of;
 use picture::transfer::fetch;
+use picture::{Frame, Memories};
 use registers::shape::Completed;
 use registers::word::{Word, word_of};
 use registers::{Registers, Window};
@@ -51,7 +51,8 @@ impl Pixel {
     fn passes(self, r: Registers, figure: Completed, im: &mut [u16], zm: &mut [u16]) -> u64
         ensures { Counts (passes_at self.x self.y r figure) im zm result }
     {
-        draw(self.aim(r), figure, im, zm)
+        let mut m = Memories { i: im, z: zm };
+        draw(self.aim(r), figure, &mut m)
     }
 
     // How many pixels PTRN has there: its own, or none.
