@@ -46,7 +46,8 @@ fn step_at(
     step(board, command, data, i0, z0, i1, z1, i2, z2, i3, z3)
 }
 
-// The words of a stream, one after the other, until one is refused.
+// The words of a stream, one after the other, until one is refused. (`chip` and `tally` have this loop over what a word changes there. A generic one would
+// need a trait of that, with its law: here a board and eight memories that C lends, there a record and two, or counts. Each impl would be longer than the loop.)
 fn run_words(
     start: Board,
     bytes: &[u8],

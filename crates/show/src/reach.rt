@@ -10,7 +10,7 @@ use chip::figure::completed;
 use picture::place::rows_of;
 use registers::Registers;
 use registers::shape::Completed;
-use registers::word::{Word, decoded};
+use registers::word::{Word, word_of};
 use stream::read::word;
 
 // The rows up to a figure's topmost vertex.
@@ -93,11 +93,11 @@ fn taken(places: usize, s: Came, word: Word) -> Came
 }
 
 // The word at place k of a stream, taken.
+#[tactic(auto, using(stream::proofs::Round::word_fits))]
 fn taken_at(places: usize, s: Came, bytes: &[u8], k: usize) -> Came
     ensures { result ≡ onward places s (word_of (word_at bytes.now k)) }
 {
-    let w = word(bytes, k);
-    taken(places, s, decoded((w / 65536) as u8, (w % 65536) as u16))
+    taken(places, s, word_of(word(bytes, k)))
 }
 
 // The highest figure of a stream's first words of which rows are missed, over memories of so many places.

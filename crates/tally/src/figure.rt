@@ -41,6 +41,7 @@ fn triangle_kind(pmode: u16) -> Kind
 }
 
 // A count, as one of the kind of the figure that was completed.
+#[tactic(auto, using(crate::proofs::Figures::kind_same), unfolding(crate::specs::Overdraw::figure_tally))]
 fn tally_of(r: Registers, figure: Completed, c: Count) -> Tally
     ensures { result ≡ figure_tally r figure c }
 {

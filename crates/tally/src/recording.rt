@@ -55,7 +55,7 @@ fn take_at(
     take(r, command, data, im, zm)
 }
 
-// The words of a stream, one after the other, until one is refused.
+// The words of a stream, one after the other, until one is refused. (A loop of its own, as `board`'s `run_words` says.)
 fn words_counted(bytes: &[u8], im: &mut [u16], zm: &mut [u16]) -> Entry
     requires { length bytes.now ≤ 8192 }
     ensures { entered result ≡ entry_from bytes.now (found im zm) }
@@ -94,6 +94,7 @@ fn uncounted(why: Stop) -> Entry
 }
 
 // A recording's entry in the report: run on a fresh picture of the drawing program's size, unless it is too long.
+#[tactic(auto, using(ground::proofs::Numbers::number_positive, crate::proofs::Entries::entry_long, crate::proofs::Entries::entry_flawed, crate::proofs::Entries::entry_run), unfolding(crate::specs::Overdraw::entered))]
 pub fn enter(bytes: &[u8]) -> Entry
     ensures { entered result ≡ entry_of bytes.now }
 {
