@@ -37,7 +37,8 @@ fn step_at(r: Registers, bytes: &[u8], k: usize, m: &mut Memories) -> Result<Ans
     step_kept(r, word_of(word(bytes, k)), m)
 }
 
-// The words of a stream, one after the other, until one is refused. Bounds and lengths hold from reset on, so that no word asks about them.
+// The words of a stream, one after the other, until one is refused. Bounds and lengths hold from reset on, so that no word asks about them. (A loop of its own, as
+// `board`'s `run_words` says.)
 fn run_words(start: Registers, bytes: &[u8], m: &mut Memories) -> Ran
     requires { (in_bounds start ≡ true) × (length m.old.i.now ≡ length m.old.z.now) }
     ensures { Kept m × ran (told result.outcome) result.index result.sum result.registers (held_in m.new) ≡ words_from start bytes.now (held_in m.old) }
@@ -104,7 +105,7 @@ pub fn run(bytes: &[u8], im: &mut [u16], zm: &mut [u16]) -> Ran
     run_from(Registers::reset(), bytes, &mut m)
 }
 
-// Runs a packed stream from reset, over memories of tiles.
+// Runs a packed stream from reset, over memories of tiles. (Two calls by name, as C has them: `recording` hands both on.)
 #[tactic(auto, using(refusals::proofs::Kept::reset_kept_as))]
 pub fn run_tiled(bytes: &[u8], im: &mut [u16], zm: &mut [u16]) -> Ran
     ensures { RunsFrom (reset_as 1) bytes.now (found im zm) (told result.outcome) result.index result.sum result.registers (left im zm) }

@@ -70,7 +70,8 @@ fn take(r: Registers, word: Word, m: &mut Memories) -> Answer
 }
 
 // Takes a word, or refuses it and leaves registers and memories as they were. It is lent two slices, which calls for C hand on as they got them, and lends both
-// on in one struct, as `run` and `run_tiled` do.
+// on in one struct, as `run` and `run_tiled` do. Command and data
+// come as two numbers too: C sends them so, and `decode` takes them so.
 pub fn step(
     r: Registers,
     command: u8,

@@ -48,7 +48,12 @@ fn copy_square(new: &[u16], size: Size, square: Corner, view: &mut [u16])
     }
     let inside = size.clip(square);
     for j in 0..inside.rows {
-        copy_run(new, (square.y + j) * size.width + square.x, inside.width, view);
+        copy_run(
+            new,
+            (square.y + j) * size.width + square.x,
+            inside.width,
+            view,
+        );
     }
 }
 
