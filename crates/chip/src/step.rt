@@ -87,8 +87,8 @@ pub fn step(
 }
 
 // The same of a decoded word, for a caller that knows that the record breaks no bound and that the memories are of one length: neither is asked
-// again. Both stand in the contracts from here up to the loop over the words: a type for such a record would be unpacked and made again at each
-// word, and `Memories` holds any two slices that are lent, unlike ones too.
+// again. Both stand in the contracts from here up to the loop over the words: a type for such a record would be no plainer, since each word makes the next record
+// and would have to prove it anew there, and `Memories` holds any two slices that are lent, unlike ones too.
 pub(crate) fn step_kept(
     r: Registers,
     word: Word,

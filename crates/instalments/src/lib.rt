@@ -158,7 +158,7 @@ fn take_all(s: Intake, bytes: &[u8], im: &mut [u16], zm: &mut [u16]) -> Intake
     let mut next = s;
     let mut held = s.held;
     let mut count = s.count;
-    // by places: a slice's iterator answers an `Option` of a reference (`stream`'s `bits_of`)
+    // It counts places, as `stream`'s `bits_of` does and for the same reason.
     for k in 0..bytes.len() {
         held = held * 256 + bytes[k] as u32;
         count += 8;

@@ -60,8 +60,8 @@ impl From<Mode> for Kind {
 }
 
 impl Mode {
-    // Whether lines of this mode have depths: what the contract says is the definition that kinds have. `Kind`'s method is not for other crates, and a call of it
-    // would stand in the place of one comparison, no plainer.
+    // Whether lines of this mode have depths: what the contract says is the definition that kinds have. A call of `Kind`'s method would stand in the place
+    // of one comparison, no plainer.
     pub(crate) fn is_deep(self) -> bool
         ensures { result ≡ is_deep (kind_of self) }
     {

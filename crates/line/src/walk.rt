@@ -52,7 +52,7 @@ fn carried(n: u16, first: u16, second: u16) -> Carried
     }
 }
 
-// The same where lines have depths. Others have no use for it, and are spared the division; an Option would be asked at each step.
+// The same where lines have depths. Others have no use for it, and are spared the division; an Option would be no plainer, since each step would ask it for the number again.
 fn carried_deep(deep: bool, n: u16, first: u16, second: u16) -> Carried
     ensures { deep ≡ true → Tells n first second result }
 {

@@ -76,8 +76,8 @@ fn fill(pen: Pen, kind: Kind, s: Stretch, im: &mut [u16], zm: &mut [u16]) -> u64
     n
 }
 
-// The pixels of a row in use that a unit has: each so many columns on, and side by side. In one loop with rows and tiles, each of them would ask
-// about tiles besides.
+// The pixels of a row in use that a unit has: each so many columns on, and side by side. One loop with rows and tiles would be no plainer: columns and places go on
+// by different steps here.
 fn fill_own(
     pen: Pen,
     kind: Kind,

@@ -20,7 +20,7 @@ pub struct Frame {
     pub layout: u16,
 }
 
-// What the modes say of drawing. The window's borders belong to it.
+// What the modes say of drawing. The window's borders belong to it. (The last three are settings: beside none of them stands a value that it decides about.)
 #[derive(Clone, Copy)]
 pub struct Pen {
     pub frame: Frame,
@@ -92,7 +92,8 @@ struct Share {
     z: Carried,
 }
 
-// Pixels that lie side by side: the place of the first, how many, and their numbers.
+// Pixels that lie side by side: the place of the first, how many, and their numbers. (That they lie in both memories, `Fits`, stands in the contracts: a run does not
+// hold the memories.)
 #[derive(Clone, Copy)]
 struct Run {
     base: usize,

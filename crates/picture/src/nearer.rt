@@ -41,7 +41,7 @@ fn put_chosen(at: usize, ki: u64, kz: u64, im: &mut [u16], zm: &mut [u16], n: u1
     pick(near, n + 1, n)
 }
 
-// Pixels that lie side by side.
+// Pixels that lie side by side. The loops of this file and of `steady` take the two memories each by itself, as those of `draw` do and for the same reason.
 pub(crate) fn draw_run(run: Run, im: &mut [u16], zm: &mut [u16]) -> u64
     requires { Fits run (length im.old) (length zm.old) }
     ensures { Runs (λ j. run.base + j) run.i run.z run.count im zm 0 result }
@@ -119,7 +119,7 @@ fn draw_tiled(base: usize, s: Stretch, im: &mut [u16], zm: &mut [u16]) -> u64
     passed
 }
 
-// The same, and the loop is compiled once more for numbers to which nothing is added.
+// The same, and the loop is compiled once more for numbers to which nothing is added: a constant triangle's, of which docs/SPEED.md tells ("Tiles").
 fn draw_tiles(base: usize, s: Stretch, im: &mut [u16], zm: &mut [u16]) -> u64
     requires { FitsTiles base s.lo s.hi (length im.old) (length zm.old) }
     ensures { Runs (λ j. base + along_tiles (s.lo + j)) s.i s.z (s.hi - s.lo) im zm 0 result }

@@ -176,7 +176,7 @@ pub(crate) fn along(tiled: bool, x: u16) -> usize
     if tiled { along_tiles(x) } else { x as usize }
 }
 
-// The place of pixel (x, y). (A pixel is two numbers in all calls, as document 01 and the definitions have it: `place_of frame x y`, `offered pen rows kind x y`.)
+// The place of pixel (x, y). (A pixel is two numbers in the calls about places, as document 01 and the definitions have it: `place_of frame x y`, `offered pen rows kind x y`.)
 pub fn place(frame: Frame, x: u16, y: u16) -> usize
     ensures { (result ≡ place_of frame x y) × (result ≤ 4294967295) }
 {

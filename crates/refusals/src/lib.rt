@@ -39,7 +39,7 @@ fn init_checked(allowed: bool) -> Result<(), Refusal>
     }
 }
 
-// What most words are asked first: whether no INIT was accepted yet, and whether a parameter is awaited.
+// What most words are asked first: whether no INIT was accepted yet, and whether a parameter is awaited. (Two answers by themselves, beside no value.)
 #[derive(Clone, Copy)]
 struct Stage {
     cold: bool,

@@ -6,7 +6,7 @@ ghost use Rattle.squares.specs.Change.{run_differs, differs};
 use crate::pictures::Pictures;
 use crate::size::Corner;
 
-// Whether one of n places from `at` on differs. (No test ends the loop early, as one would in a comparison of slices: eight places are then compared at once.)
+// Whether one of n places from `at` on differs. (No test ends the loop early, as one would in a comparison of slices: so LLVM compares eight places at once.)
 fn run_differs(old: &[u16], new: &[u16], at: usize, n: usize) -> bool
     requires n_in_bounds { at + n ≤ length old.now }
     requires n_in_bounds_2 { at + n ≤ length new.now }

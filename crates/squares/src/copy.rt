@@ -26,8 +26,8 @@ pub(crate) fn are_squares(list: &[u32], size: Size) -> bool
     true
 }
 
-// The n places from `at` on take the new picture's numbers. (A loop: `copy_from_slice` is compiled to a call of memmove here, which an archive for C would then want of
-// its host beside memcpy and memset.)
+// The n places from `at` on take the new picture's numbers. (A loop, as in `write`; besides, `copy_from_slice` is compiled to a call of memmove here, which an archive
+// for C would then want of its host beside memcpy and memset.)
 fn copy_run(new: &[u16], at: usize, n: usize, view: &mut [u16])
     requires len { length new.now ≡ length view.old }
     requires n_in_bounds { at + n ≤ length view.old }

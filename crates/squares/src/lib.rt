@@ -21,8 +21,8 @@ use crate::quarter::quarter;
 use crate::size::{Corner, Size};
 use ground::{Refusal, encoded};
 
-// Numbers, over the front of `out`. (A loop, as in `copy::copy_run`: std's copy asks by addresses whether memories overlap, and the code of an archive is
-// compiled for processors with addresses of another size too.)
+// Numbers, over the front of `out`. (A loop: std's copy asks by addresses whether memories overlap, which web/build refuses; it compiles the code of an
+// archive for a processor with addresses of another size.)
 fn write(squares: &[u32], out: &mut [u32])
     requires { length squares.now ≤ length out.old }
     ensures { out.new ≡ over squares.now out.old }

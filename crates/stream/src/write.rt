@@ -94,6 +94,7 @@ fn put_last(v: u32, out: &mut [u8], k: usize)
 }
 
 // The bytes of all whole groups of four words, over the front of `out`. All packing that takes time is this loop: at most three words are left over.
+// (That there is room stands in three contracts from here on: it is a fact of the two slices that are lent, which a type would lend again.)
 fn pack_groups(words: &[u32], out: &mut [u8])
     requires { (length words.now * 5 + 1) / 2 ≤ length out.old }
     ensures { out.new ≡ over (take (10 * (length words.now / 4)) (pack_of words.now)) out.old }
