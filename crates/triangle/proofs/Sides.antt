@@ -4,7 +4,7 @@ use Rattle.std.proofs.Common.{◌≡◌, ℕ, ◌+◌, ◌-◌, ◌*◌, ◌/◌
 use native.Mathlib.Nat.{min-le_left, add-div_right, div-eq_of_lt, mod-add-mod}
 use Rattle.picture.specs.declared.Vertex.{Vertex}
 use Rattle.triangle.specs.declared.Side.{Side}
-use Rattle.triangle.specs.declared.Span.{Span}
+use Rattle.triangle.specs.declared.Limits.{Limits}
 use Rattle.triangle.specs.Edge.{plus_of, minus_of, closed}
 use Rattle.triangle.specs.Loops.{short, Keeps, Stands, Bounds, Cuts}
 use Rattle.triangle.proofs.Plane.{product_fits, plus_from, minus_from, up_plus, up_minus, first_in, first_out, end_in, end_out, max_le, max_le_r, lt_min, lt_min_r, le_of_not, lt_of_not}
@@ -144,7 +144,7 @@ module _ (a b : Vertex) (y : ℕ) (s : Side) (k : Stands a b y s) (tall : s.heig
 
 module _ (a b : Vertex) (y : ℕ) where
   -- the bound of an edge that falls cuts a span from the left
-  pub cut_left : (s₀ : Span) (r : ℕ) → b.y < a.y → s₀.hi ≤ 65536 → Bounds a b y r → Cuts a b y s₀ (record { lo = max s₀.lo r; hi = s₀.hi })
+  pub cut_left : (s₀ : Limits) (r : ℕ) → b.y < a.y → s₀.hi ≤ 65536 → Bounds a b y r → Cuts a b y s₀ (record { lo = max s₀.lo r; hi = s₀.hi })
   cut_left s₀ r e wide n =
       let f = n.falls e in
       record {
@@ -154,7 +154,7 @@ module _ (a b : Vertex) (y : ℕ) where
       }
 
   -- the bound of one that does not fall cuts a span from the right
-  pub cut_right : (s₀ : Span) (r : ℕ) → a.y ≤ b.y → s₀.hi ≤ 65536 → Bounds a b y r → Cuts a b y s₀ (record { lo = s₀.lo; hi = min s₀.hi r })
+  pub cut_right : (s₀ : Limits) (r : ℕ) → a.y ≤ b.y → s₀.hi ≤ 65536 → Bounds a b y r → Cuts a b y s₀ (record { lo = s₀.lo; hi = min s₀.hi r })
   cut_right s₀ r e wide n =
       let f = n.rises e in
       record {

@@ -9,7 +9,7 @@ use Rattle.picture.specs.Place.{lies_tiled, rows_of}
 use Rattle.triangle.specs.declared.Corners.{Corners}
 use Rattle.triangle.specs.declared.Numbers.{Numbers}
 use Rattle.triangle.specs.declared.Edges.{Edges}
-use Rattle.triangle.specs.declared.Span.{Span}
+use Rattle.triangle.specs.declared.Limits.{Limits}
 use Rattle.triangle.specs.declared.Height.{Height}
 use Rattle.triangle.specs.declared.Side.{Side}
 use Rattle.triangle.specs.declared.Sum.{Sum}
@@ -108,22 +108,22 @@ pub record Bounds (a b : Vertex) (y r : ℕ) : Type 0 where
   pub rises : a.y ≤ b.y → (x : ℕ) → x < 65536 → (x < r → Keeps a b x y) × (Keeps a b x y → x < r)
 
 -- r is what the edge keeps of s
-pub record Cuts (a b : Vertex) (y : ℕ) (s r : Span) : Type 0 where
+pub record Cuts (a b : Vertex) (y : ℕ) (s r : Limits) : Type 0 where
   pub shrinks : r.hi ≤ s.hi
   pub inner : (x : ℕ) → r.lo ≤ x → x < r.hi → (s.lo ≤ x) × (x < s.hi) × (Keeps a b x y)
   pub outer : (x : ℕ) → s.lo ≤ x → x < s.hi → Keeps a b x y → (r.lo ≤ x) × (x < r.hi)
 
 -- r is what the three edges keep of s
-pub record CutsAll (t : Corners) (y : ℕ) (s r : Span) : Type 0 where
+pub record CutsAll (t : Corners) (y : ℕ) (s r : Limits) : Type 0 where
   pub shrinks : r.hi ≤ s.hi
   pub inner : (x : ℕ) → r.lo ≤ x → x < r.hi → (s.lo ≤ x) × (x < s.hi) × (covers t x y ≡ true)
   pub outer : (x : ℕ) → s.lo ≤ x → x < s.hi → covers t x y ≡ true → (r.lo ≤ x) × (x < r.hi)
 
--- s is the row's covered pixels within the columns of the window and the memory
-pub record Spanned (pen : Pen) (t : Corners) (y : ℕ) (s : Span) : Type 0 where
-  pub wide : s.hi ≤ pen.frame.line
-  pub columns : (x : ℕ) → s.lo ≤ x → x < s.hi → (pen.left ≤ x) × (x ≤ pen.right) × (covers t x y ≡ true)
-  pub rest : (x : ℕ) → x < pen.frame.line → pen.left ≤ x → x ≤ pen.right → covers t x y ≡ true → (s.lo ≤ x) × (x < s.hi)
+-- the columns from lo up to and without hi are the row's covered pixels within the columns of the window and the memory
+pub record Spanned (pen : Pen) (t : Corners) (y lo hi : ℕ) : Type 0 where
+  pub wide : hi ≤ pen.frame.line
+  pub columns : (x : ℕ) → lo ≤ x → x < hi → (pen.left ≤ x) × (x ≤ pen.right) × (covers t x y ≡ true)
+  pub rest : (x : ℕ) → x < pen.frame.line → pen.left ≤ x → x ≤ pen.right → covers t x y ≡ true → (lo ≤ x) × (x < hi)
 
 -- ---- the rows of a triangle
 
@@ -307,7 +307,7 @@ Shaded constant t Divided = (constant ≡ false) × Large t
 pub record Told (pen : Pen) (constant : Bool) (t : Corners) (y : ℕ) (s : Stretch) : Type 0 where
   pub row : s.y ≡ y
   pub some : s.lo < s.hi
-  pub spanned : Spanned pen t y (record { lo = s.lo; hi = s.hi })
+  pub spanned : Spanned pen t y s.lo s.hi
   pub so : (j : ℕ) → s.lo + j < s.hi → (carried_to s.i j ≡ (pixel_at constant t (s.lo + j) y).i) × (carried_to s.z j ≡ (pixel_at constant t (s.lo + j) y).z)
 
 -- a way of drawing a row that serves it: as one stretch, or each pixel by itself

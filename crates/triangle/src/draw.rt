@@ -16,7 +16,7 @@ use picture::{Carried, Kind, Memories, Pen, Stretch, Vertex};
 
 // A row of a constant triangle.
 fn flat_run(pen: Pen, corners: Corners, span: Span, y: u16) -> Stretch
-    requires { (Spanned pen corners y span) × (span.lo < span.hi) }
+    requires { Spanned pen corners y span.lo span.hi }
     ensures { Told pen true corners y result }
 {
     Stretch {
@@ -37,7 +37,7 @@ fn carried_run(
     span: Span,
     y: u16,
 ) -> Stretch
-    requires { (Carries facet.corners slopes) × (Rises facet.corners y rising) × (Spanned pen facet.corners y span) × (span.lo < span.hi) }
+    requires { (Carries facet.corners slopes) × (Rises facet.corners y rising) × (Spanned pen facet.corners y span.lo span.hi) }
     ensures { Told pen false facet.corners y result }
 {
     Stretch {
@@ -64,7 +64,7 @@ fn run_of(
     span: Span,
     y: u16,
 ) -> Option<Stretch>
-    requires { (Shaded brush.constant facet.corners shades) × (Rises facet.corners y rising) × (Spanned brush.pen facet.corners y span) × (span.lo < span.hi) }
+    requires { (Shaded brush.constant facet.corners shades) × (Rises facet.corners y rising) × (Spanned brush.pen facet.corners y span.lo span.hi) }
     ensures { Serves brush.pen brush.constant facet.corners y result }
 {
     match shades {
@@ -115,7 +115,7 @@ fn divided_pixel(pen: Pen, facet: Facet, x: u16, y: u16, m: &mut Memories) -> u6
 // A row of a Gouraud triangle that is too large for carried numbers (doubled area above 2^31): two divisions a pixel. No word that the chip
 // accepts completes one.
 fn divided_row(pen: Pen, facet: Facet, span: Span, y: u16, m: &mut Memories) -> u64
-    requires { (Spanned pen facet.corners y span) × (InRows pen y) × (span.lo < span.hi) × (Large facet.corners) }
+    requires { (Spanned pen facet.corners y span.lo span.hi) × (InRows pen y) × (Large facet.corners) }
     ensures { Draws pen (λ rows. row_offers pen rows false facet.corners y) m 0 result }
 {
     let mut passed: u64 = 0;
@@ -137,14 +137,13 @@ fn draw_row(
     requires { Drawable brush.pen brush.constant facet.corners shades rising y }
     ensures { Draws brush.pen (λ rows. row_offers brush.pen rows brush.constant facet.corners y) m 0 result }
 {
-    let span = rising.flanks.spanned(brush.pen, facet.corners, y);
-    if span.lo < span.hi {
-        return match run_of(brush, facet, shades, rising, span, y) {
+    match rising.flanks.spanned(brush.pen, facet.corners, y) {
+        Some(span) => match run_of(brush, facet, shades, rising, span, y) {
             Some(run) => run_row(brush, facet.corners, run, m),
             None => divided_row(brush.pen, facet, span, y, m),
-        };
+        },
+        None => 0,
     }
-    0
 }
 
 // How the numbers of a triangle come to its pixels, by what a pixel to the right adds to the sums of I and Z.
@@ -207,9 +206,8 @@ fn flat_row(pen: Pen, corners: Corners, flanks: Flanks, y: u16, m: &mut Memories
     requires { (Steady pen) × (Crossed corners y) × (Flanked corners y flanks) × (InRows pen y) }
     ensures { Draws pen (λ rows. row_offers pen rows true corners y) m 0 result }
 {
-    let span = flanks.spanned(pen, corners, y);
-    if span.lo < span.hi {
-        return span_steady(
+    match flanks.spanned(pen, corners, y) {
+        Some(span) => span_steady(
             pen.frame,
             span.lo as u16,
             span.hi as u16,
@@ -217,9 +215,9 @@ fn flat_row(pen: Pen, corners: Corners, flanks: Flanks, y: u16, m: &mut Memories
             corners.last.i,
             corners.last.z,
             m,
-        );
+        ),
+        None => 0,
     }
-    0
 }
 
 // The rows from `first` up to and without `top` of such a triangle. They carry no sums, so they have a loop of their own.

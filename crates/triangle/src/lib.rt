@@ -1,5 +1,5 @@
 // Triangles: which pixels three corners cover, with which numbers, and how they are drawn. specs/Edge.antt, Number.antt and Offers.antt
-// are document 01's "Triangle"; specs/Loops.antt is what the code leans on.
+// are document 01's "Triangle"; specs/Loops.antt and Spans.antt are what the code leans on.
 #![tactic(auto)]
 
 mod cover;
@@ -7,7 +7,7 @@ pub mod draw;
 mod number;
 mod row;
 
-ghost use Rattle.std.specs.Prelude.{◌≡◌};
+ghost use Rattle.std.specs.Prelude.{◌≡◌, ◌<◌};
 ghost use Rattle.picture.specs.Draw.{is_plain};
 ghost use Rattle.triangle.specs.Offers.{kind_of};
 ghost use Rattle.triangle.specs.Loops.{Sized};
@@ -72,12 +72,20 @@ pub(crate) struct Edges {
     pub(crate) ca: Edge,
 }
 
-// The columns of a row from lo up to and without hi. That they are its covered ones stands where they are passed (`Spanned`): it is said of a pen, of corners and
-// of a row, and a field of this struct could name none of them.
+// What edges leave of a row: the columns from lo up to and without hi, and none where hi is not above lo.
+#[derive(Clone, Copy)]
+pub(crate) struct Limits {
+    pub(crate) lo: u64,
+    pub(crate) hi: u64,
+}
+
+// The columns of a row from lo up to and without hi, one and more. That they are its covered ones stands where they are passed (`Spanned`): it is said of a pen, of
+// corners and of a row, and a field of this struct could name none of them.
 #[derive(Clone, Copy)]
 pub(crate) struct Span {
     pub(crate) lo: u64,
     pub(crate) hi: u64,
+    ghost some: { lo < hi },
 }
 
 // An edge's height, and 2^48 over it and a little more.

@@ -5,9 +5,10 @@ ghost use Rattle.std.specs.Prelude.{◌≡◌, ◌+◌, ◌*◌, ◌/◌, ◌<�
 ghost use Rattle.triangle.specs.Edge.{closed};
 ghost use Rattle.triangle.specs.Loops.{short, Measures, Stands, Bounds, raised_of, Crosses, Cuts, CutsAll, Spanned};
 ghost use Rattle.triangle.specs.Loops.{Crossed, turn_of, taken_of, Flanked};
+ghost use Rattle.triangle.specs.Spans.{Finds};
 
 use crate::cover::{edge_at, is_closed, over};
-use crate::{Corners, Flanks, HALF, Height, Side, Span};
+use crate::{Corners, Flanks, HALF, Height, Limits, Side, Span};
 use picture::{CARRIED_ONE, Pen, Vertex};
 
 // What an edge must exceed the other side by.
@@ -92,21 +93,21 @@ impl Side {
         65536
     }
 
-    // What the edge from a to b keeps of a span of row y.
-    fn cut(self, a: Vertex, b: Vertex, y: u16, span: Span) -> Span
-        requires { (Stands a b y self) × (span.hi ≤ 65536) }
-        ensures { Cuts a b y span result }
+    // What the edge from a to b keeps of columns of row y.
+    fn cut(self, a: Vertex, b: Vertex, y: u16, columns: Limits) -> Limits
+        requires { (Stands a b y self) × (columns.hi ≤ 65536) }
+        ensures { Cuts a b y columns result }
     {
         let limit = self.bound(a, b, y);
         if b.y < a.y {
-            return Span {
-                lo: span.lo.max(limit),
-                ..span
+            return Limits {
+                lo: columns.lo.max(limit),
+                ..columns
             };
         }
-        Span {
-            hi: span.hi.min(limit),
-            ..span
+        Limits {
+            hi: columns.hi.min(limit),
+            ..columns
         }
     }
 }
@@ -162,30 +163,42 @@ impl Flanks {
         }
     }
 
-    // What all three edges keep of a span of row y.
-    fn cut_thrice(self, corners: Corners, y: u16, span: Span) -> Span
-        requires { (Flanked corners y self) × (y ≡ turn_of corners) × (span.hi ≤ 65536) }
-        ensures { CutsAll corners y span result }
+    // What all three edges keep of columns of row y.
+    fn cut_thrice(self, corners: Corners, y: u16, columns: Limits) -> Limits
+        requires { (Flanked corners y self) × (y ≡ turn_of corners) × (columns.hi ≤ 65536) }
+        ensures { CutsAll corners y columns result }
     {
-        let first = self.left.cut(corners.c, corners.a, y, span);
+        let first = self.left.cut(corners.c, corners.a, y, columns);
         let second = self.right.cut(corners.a, corners.b, y, first);
         self.third.cut(corners.b, corners.c, y, second)
     }
 
-    // The covered columns of row y within the window and the memory. Of a row in which no edge ends two edges tell them: the third leaves nothing outside that
-    // both keep.
-    pub(crate) fn spanned(self, pen: Pen, corners: Corners, y: u16) -> Span
+    // Where the covered columns of row y within the window and the memory begin and end. Of a row in which no edge ends two edges tell it: the third leaves nothing
+    // outside that both keep.
+    fn limits(self, pen: Pen, corners: Corners, y: u16) -> Limits
         requires { (Crossed corners y) × (Flanked corners y self) }
-        ensures { Spanned pen corners y result }
+        ensures { Spanned pen corners y result.lo result.hi }
     {
         let lo = pen.left as u64;
         let hi = (pen.frame.line as u64).min(pen.right as u64 + 1);
         if y == self.turn {
-            return self.cut_thrice(corners, y, Span { lo, hi });
+            return self.cut_thrice(corners, y, Limits { lo, hi });
         }
-        Span {
+        Limits {
             lo: lo.max(self.left.crossing()),
             hi: hi.min(self.right.crossing()),
         }
+    }
+
+    // The covered columns of row y within the window and the memory, or none.
+    pub(crate) fn spanned(self, pen: Pen, corners: Corners, y: u16) -> Option<Span>
+        requires { (Crossed corners y) × (Flanked corners y self) }
+        ensures { Finds pen corners y result }
+    {
+        let Limits { lo, hi } = self.limits(pen, corners, y);
+        if lo < hi {
+            return Some(Span { lo, hi });
+        }
+        None
     }
 }

@@ -13,7 +13,7 @@ begin-requires c =
     let k = c.requires in
     column_begins t a.facet.area a.facet.sized a.slopes k.0 c.at_column.result
     (column_told t a.facet.sized.turned k.0.fits t.a.i t.b.i t.c.i (omega arith) (omega arith) (omega arith) a.y a.rising.i k.1.i a.span.lo
-    (k.2.columns a.span.lo (omega arith) k.3).2 c.at_column.result c.at_column.ensures).1
+    (k.2.columns a.span.lo (omega arith) a.span.some).2 c.at_column.result c.at_column.ensures).1
 
 pub begin-requires-2 : goal.begin-requires-2
 begin-requires-2 c =
@@ -22,7 +22,7 @@ begin-requires-2 c =
     let k = c.requires in
     column_begins t a.facet.area a.facet.sized a.slopes k.0 c.at_column-2.result
     (column_told t a.facet.sized.turned k.0.fits t.a.z t.b.z t.c.z (omega arith) (omega arith) (omega arith) a.y a.rising.z k.1.z a.span.lo
-    (k.2.columns a.span.lo (omega arith) k.3).2 c.at_column-2.result c.at_column-2.ensures).1
+    (k.2.columns a.span.lo (omega arith) a.span.some).2 c.at_column-2.result c.at_column-2.ensures).1
 
 pub returns : goal.returns
 unfolding pixel_at
@@ -34,10 +34,10 @@ returns c =
     let w = c.requires.1 in
     let k = c.requires.2 in
     let cov : (j : ℕ) → a.span.lo + j < a.span.hi → covers t (a.span.lo + j) a.y ≡ true = λ j l. (k.columns (a.span.lo + j) (omega arith) l).2 in
-    let here : covers t a.span.lo a.y ≡ true = (k.columns a.span.lo (omega arith) c.requires.3).2 in
+    let here : covers t a.span.lo a.y ≡ true = (k.columns a.span.lo (omega arith) a.span.some).2 in
     record {
       row = refl;
-      some = c.requires.3;
+      some = a.span.some;
       spanned = k;
       so =
           λ j l. (

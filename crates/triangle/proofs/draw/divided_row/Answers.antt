@@ -13,10 +13,10 @@ loop-x-init c =
     let k = c.requires.0 in
     record {
       since = le_refl _;
-      until = omega (arith, c.requires.2);
+      until = omega (arith, a.span.some);
       few = omega (arith, k.wide);
       same = (refl, refl);
-      so_far_lem = reached_start (λ x h. row_quiet a.pen (rows_of a.pen.frame (length a.m.now.i.now) (length a.m.now.z.now)) false a.facet.corners a.y a.span k x (omega (arith, k.wide, c.requires.2)) (λ u v. omega arith));
+      so_far_lem = reached_start (λ x h. row_quiet a.pen (rows_of a.pen.frame (length a.m.now.i.now) (length a.m.now.z.now)) false a.facet.corners a.y a.span.lo a.span.hi k x (omega (arith, k.wide, a.span.some)) (λ u v. omega arith));
     }
 
 pub overflow_add-passed : goal.overflow_add-passed
@@ -53,5 +53,5 @@ returns c =
     let k = c.requires.0 in (
       l.invariant.same,
       reached_end a.pen.frame.line l.invariant.so_far_lem (omega (arith, l.invariant.until, k.wide))
-          (λ x h m. row_quiet a.pen (rows_of a.pen.frame (length a.m.now.i.now) (length a.m.now.z.now)) false a.facet.corners a.y a.span k x m (λ u v. omega (arith, c.loop-x-test.false))),
+          (λ x h m. row_quiet a.pen (rows_of a.pen.frame (length a.m.now.i.now) (length a.m.now.z.now)) false a.facet.corners a.y a.span.lo a.span.hi k x m (λ u v. omega (arith, c.loop-x-test.false))),
     )

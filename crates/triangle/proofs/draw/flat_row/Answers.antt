@@ -11,27 +11,27 @@ use Rattle.triangle.specs.Offers.{pixel_at}
 use Rattle.triangle.proofs.Rows.{row_span, row_empty}
 use Rattle.triangle.proofs.draw.flat_row.Goals as goal
 
-pub returns-then-span : goal.returns-then-span
+pub returns-in-Some : goal.returns-in-Some
 unfolding pixel_at
-returns-then-span c =
+returns-in-Some c =
     let a = c.args in
     let rows = rows_of a.pen.frame (length a.m.now.i.now) (length a.m.now.z.now) in
     let p = picture a.m.now.i.now a.m.now.z.now 0 in
-    let k = c.spanned-span in
+    let s = c.in-Some.span in
     let i = steady_of a.corners.last.i in
     let z = steady_of a.corners.last.z in (
       c.span_steady.ensures.0,
       rw c.requires.0.rows at c.span_steady.ensures.1
-          ∙ sym (plain_span a.pen Constant c.requires.0.plain rows k.result.lo k.result.hi a.y i z p)
+          ∙ sym (plain_span a.pen Constant c.requires.0.plain rows s.lo s.hi a.y i z p)
           ∙ ap (λ (os : List Offer). drawn a.pen os p)
-          (row_span a.pen rows true a.corners a.y k.result k.ensures c.requires.3 c.if-span.true i z
+          (row_span a.pen rows true a.corners a.y s.lo s.hi c.in-Some.ensures c.requires.3 s.some i z
           (λ j l. (steady_at a.corners.last.i j (omega arith), steady_at a.corners.last.z j (omega arith)))),
     )
 
-pub returns : goal.returns
-returns c =
+pub returns-in-None : goal.returns-in-None
+returns-in-None c =
     let a = c.args in (
       (refl, refl),
-      row_empty a.pen (rows_of a.pen.frame (length a.m.now.i.now) (length a.m.now.z.now)) true a.corners a.y _
-          c.spanned-span.ensures (omega (arith, c.if-span.false)) (picture a.m.now.i.now a.m.now.z.now 0),
+      row_empty a.pen (rows_of a.pen.frame (length a.m.now.i.now) (length a.m.now.z.now)) true a.corners a.y 0 0
+          c.in-None.ensures (omega arith) (picture a.m.now.i.now a.m.now.z.now 0),
     )

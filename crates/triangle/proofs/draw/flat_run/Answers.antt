@@ -10,7 +10,7 @@ returns c =
     let last = c.args.corners.last in
     record {
       row = refl;
-      some = c.requires.1;
-      spanned = c.requires.0;
+      some = c.args.span.some;
+      spanned = c.requires;
       so = λ j l. (rw c.steady.ensures (steady_at last.i j (omega arith)), rw c.steady-2.ensures (steady_at last.z j (omega arith)));
     }

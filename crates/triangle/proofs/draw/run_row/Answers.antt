@@ -21,7 +21,7 @@ returns-then-brush c =
       c.span_nearer.ensures.0,
       c.span_nearer.ensures.1
           ∙ sym (plain_span b.pen (kind_of b.constant) (sym b.fast ∙ c.if-brush.true) rows a.run.lo a.run.hi a.run.y a.run.i a.run.z p)
-          ∙ ap (λ (os : List Offer). drawn b.pen os p) (row_span b.pen rows b.constant a.corners a.run.y (record { lo = a.run.lo; hi = a.run.hi }) k.spanned c.requires.1 k.some a.run.i a.run.z k.so),
+          ∙ ap (λ (os : List Offer). drawn b.pen os p) (row_span b.pen rows b.constant a.corners a.run.y a.run.lo a.run.hi k.spanned c.requires.1 k.some a.run.i a.run.z k.so),
     )
 
 pub returns : goal.returns
@@ -34,5 +34,5 @@ returns c =
       c.span.ensures.0,
       c.span.ensures.1
           ∙ ap (λ (kind : Kind). drawn b.pen (span_offers b.pen rows kind a.run.lo a.run.hi a.run.y a.run.i a.run.z) p) c.kind_of.ensures
-          ∙ ap (λ (os : List Offer). drawn b.pen os p) (row_span b.pen rows b.constant a.corners a.run.y (record { lo = a.run.lo; hi = a.run.hi }) k.spanned c.requires.1 k.some a.run.i a.run.z k.so),
+          ∙ ap (λ (os : List Offer). drawn b.pen os p) (row_span b.pen rows b.constant a.corners a.run.y a.run.lo a.run.hi k.spanned c.requires.1 k.some a.run.i a.run.z k.so),
     )

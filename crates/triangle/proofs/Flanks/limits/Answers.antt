@@ -1,7 +1,7 @@
--- `Flanks::spanned` meets its contract: two columns tell the row, or three cuts in a row in which an edge ends. Assumes nothing.
+-- `Flanks::limits` meets its contract: two columns tell the row, or three cuts in a row in which an edge ends. Assumes nothing.
 use Rattle.std.proofs.Common.{arith}
 use Rattle.triangle.proofs.Flanking.{flank_crosses, flank_tells, tells_spanned}
-use Rattle.triangle.proofs.Flanks.spanned.Goals as goal
+use Rattle.triangle.proofs.Flanks.limits.Goals as goal
 
 pub crossing-requires : goal.crossing-requires
 crossing-requires c =
