@@ -42,8 +42,8 @@ fn step_at(
 }
 
 // The words of a stream, one after the other, until one is refused. Bounds and lengths hold from reset on, so that no word asks about them. (A loop of its own, as
-// `board`'s `run_words` says. The two memories become one struct at each word: of one that comes from outside the loop, LLVM reads where they lie again in each step
-// of a line, which are 4 to 9 % more instructions.)
+// `board`'s `run_words` says. The two memories become one struct at each word: where one comes from outside the loop, lines that are drawn by `drawn_anywhere` have 4
+// to 9 % more instructions, since LLVM reads again at each step where the memories lie.)
 fn run_words(start: Registers, bytes: &[u8], im: &mut [u16], zm: &mut [u16]) -> Ran
     requires { (in_bounds start ≡ true) × (length im.old ≡ length zm.old) }
     ensures { ran (told result.outcome) result.index result.sum result.registers (left im zm) ≡ words_from start bytes.now (found im zm) }
