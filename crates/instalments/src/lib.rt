@@ -15,8 +15,7 @@ use registers::word::parts;
 
 // How far a recording has come, which is also the answer of each call: the number that refused a word or the end, 0 for none; how many words
 // were run, and the sum of their counts, both modulo 2^64; the bits of a word that has not come whole, and how many they are; 1 once the
-// end was told with no word refused before it, else 0; and the registers. C has the
-// struct, so that all of them are numbers.
+// end was told with no word refused before it, else 0; and the registers. C has the struct, so that all of them are numbers.
 #[repr(C)]
 #[derive(Clone, Copy)]
 pub struct Intake {

@@ -33,7 +33,7 @@ pub(crate) const ALL_BITS: u16 = 65535;
 // The bits of a line's pattern, by which its steps are counted.
 pub const PATTERN_LENGTH: u16 = 32;
 
-// In place of an AUX number: nothing is awaited; IMG's parameters are, for a region to memory; with one more, from memory.
+// What stands in place of an AUX number where nothing is awaited, and where IMG's parameters are, for a region to memory; one more stands for a region from memory.
 pub const NOTHING: u16 = 13;
 
 pub(crate) const LOAD: u16 = 14;

@@ -40,8 +40,8 @@ fn put_four(x: u32, out: &mut [u8], k: usize)
     out[k + 3] = d;
 }
 
-// The eight bytes of a number, the lowest first, stored at place k. It stands by itself so that the compiler makes one store of them. (Four bytes and eight by name,
-// and no loop over N of them for both: these prove by themselves, and the loop wants an invariant and a law of its own.)
+// The eight bytes of a number, the lowest first, stored at place k. It stands by itself so that the compiler makes one store of them. (No one function over N
+// bytes: a loop, its invariant and a law in place of twelve stores are no plainer.)
 fn put_lowest(x: u64, out: &mut [u8], k: usize)
     requires { k + 8 ≤ length out.old }
     ensures { out.new ≡ sets out.old k (to_le_bytes w64 x) }

@@ -72,7 +72,8 @@ pub(crate) struct Edges {
     pub(crate) ca: Edge,
 }
 
-// What edges leave of a row: the columns from lo up to and without hi, and none where hi is not above lo.
+// What edges leave of a row: the columns from lo up to and without hi, and none where hi is not above lo, so that an edge cuts without asking. A `Span` is one that
+// was asked.
 #[derive(Clone, Copy)]
 pub(crate) struct Limits {
     pub(crate) lo: u64,

@@ -159,7 +159,8 @@ impl Facet {
         }
     }
 
-    // What one pixel to the right adds to a scaled sum of the corner numbers, modulo 2^64.
+    // What one pixel to the right adds to a scaled sum of the corner numbers, modulo 2^64. (`drift` has its shape, and another quotient with another bound: one
+    // function of both would take the quotient as a closure, no plainer.)
     fn pace(self, factor: u64, numbers: Numbers, right: u64) -> u64
         requires { (2 * self.area ≤ 65536) × (factor * (2 * self.area) ≤ carried_one + 2 * self.area) × (Leans self.corners numbers.a numbers.b numbers.c right) }
         ensures { Paces self.corners factor numbers.a numbers.b numbers.c result }
