@@ -62,10 +62,7 @@ fn next(r: Registers, word: Word) -> Registers
 fn risen(above: Option<Above>) -> usize
     ensures { result ≡ risen above }
 {
-    match above {
-        Some(above) => above.height,
-        None => 0,
-    }
+    above.map_or(0, |above| above.height)
 }
 
 // The higher of the highest figure so far and one more.

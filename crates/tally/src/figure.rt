@@ -21,7 +21,8 @@ fn muted(mut r: Registers) -> Registers
     r
 }
 
-// How many pixels a figure offers. With those registers all of them pass, and none is stored.
+// How many pixels a figure offers. With those registers all of them pass, and none is stored. (The memories are lent one by one, as chip's `step`
+// takes them beside it.)
 pub(crate) fn offered_by(r: Registers, figure: Completed, im: &mut [u16], zm: &mut [u16]) -> u64
     ensures { Offered r figure im zm result }
 {
@@ -29,7 +30,8 @@ pub(crate) fn offered_by(r: Registers, figure: Completed, im: &mut [u16], zm: &m
     draw(muted(r), figure, &mut m)
 }
 
-// The kind of a triangle, by PMODE's word. (`triangle` chooses so for itself: a call for both would be one more that a low crate offers.)
+// The kind of a triangle, by PMODE's word. (`triangle` has this choice in its drawing, by a bool: called from here, it would be a public call with a promise and an edit of its
+// own, for one test.)
 fn triangle_kind(pmode: u16) -> Kind
     ensures { result ≡ kind_of (pmode == 1) }
 {

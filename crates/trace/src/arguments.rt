@@ -34,11 +34,7 @@ pub(crate) fn asked(count: usize, first: &[u8], second: &[u8]) -> Result<Option<
     if count != 3 {
         return Err(Usage::Unclear);
     }
-    let Some(x) = coordinate(first) else {
-        return Err(Usage::Unclear);
-    };
-    let Some(y) = coordinate(second) else {
-        return Err(Usage::Unclear);
-    };
+    let x = coordinate(first).ok_or(Usage::Unclear)?;
+    let y = coordinate(second).ok_or(Usage::Unclear)?;
     Ok(Some(Pixel { x, y }))
 }
