@@ -116,7 +116,7 @@ pub extern "C" fn dextolumen_bench_pack(words: &[u32], out: &mut [u8]) -> u64
     size_of(stream::write::pack(words, out))
 }
 
-// Unpacks a stream.
+// Unpacks a stream. (C has no generic function: the benchmark calls both by name.)
 #[unsafe(no_mangle)]
 pub extern "C" fn dextolumen_bench_unpack(bytes: &[u8], out: &mut [u32]) -> u64
     ensures { Wrote (unpacking bytes.now out.old) result out.new }

@@ -43,7 +43,7 @@ pub(crate) fn is_even(
         & is_unit_even(units, 3, n, i3, z3)
 }
 
-// The layout of unit u.
+// The layout of unit u. (That there are fewer than five stands in three contracts: C sends the record, and the number of its field may be any.)
 fn layout_of(units: u16, u: u16) -> u16
     requires units_bound { units < 5 }
     requires u_bound { u < 4 }

@@ -15,6 +15,7 @@ use Rattle.registers.specs.Word.{word_of}
 use Rattle.refusals.specs.Bounds.{in_bounds}
 use Rattle.machine.specs.Run.{Outcome, outcome, Ran, ran, run_from}
 use Rattle.machine.specs.Machine.{Memories, step_of}
+use Rattle.machine.proofs.Kept.{step_length_i, step_length_z}
 use Rattle.machine.proofs.Runs.{turn_accepted, turn_none}
 use Rattle.machine.proofs.Steps.{turn_halts}
 use Rattle.chip.specs.declared.run.Ran.{Ran as Told}
@@ -66,6 +67,13 @@ module _ (start : Registers) (bytes : List ℕ) where
         -- no word makes the record break a bound
         pub reached_kept : in_bounds r ≡ true → in_bounds r' ≡ true
         reached_kept h = ap (λ (o : Outcome Registers Memories). in_bounds o.registers) told ∙ step_kept r (word_of (word_at bytes k)) m h
+
+        -- no word changes how long the memories are
+        pub reached_alike : length m.i ≡ length m.z → length m'.i ≡ length m'.z
+        reached_alike h =
+            ap (λ (o : Outcome Registers Memories). length o.memories.i) told
+            ∙ step_length_i chip r (word_of (word_at bytes k)) m ∙ h
+            ∙ sym (ap (λ (o : Outcome Registers Memories). length o.memories.z) told ∙ step_length_z chip r (word_of (word_at bytes k)) m)
 
         -- the next word is refused
         pub reached_halt : n ≢ 0 → ran n k sum r' m' ≡ words_from start bytes m₀

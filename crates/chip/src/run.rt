@@ -7,11 +7,13 @@ ghost use Rattle.registers.specs.Word.{word_of};
 ghost use Rattle.registers.specs.Record.{reset_as, reset_of};
 ghost use Rattle.machine.specs.Run.{ran};
 ghost use Rattle.chip.specs.Stream.{words_from};
-ghost use Rattle.machine.specs.Lent.{found, left};
+ghost use Rattle.picture.specs.Lent.{Kept};
+ghost use Rattle.machine.specs.Lent.{found, left, held_in};
 ghost use Rattle.chip.specs.Promises.{Takes, RunsFrom, passed_in, registers_in};
 
 use crate::step::{Answer, step_kept};
 use ground::Refusal;
+use picture::Memories;
 use registers::Registers;
 use registers::word::word_of;
 use stream::read::{checked, held, word};
@@ -28,29 +30,24 @@ pub struct Ran {
 
 // The word at place k of a stream, taken.
 #[tactic(auto, using(stream::proofs::Round::word_fits))]
-fn step_at(
-    r: Registers,
-    bytes: &[u8],
-    k: usize,
-    im: &mut [u16],
-    zm: &mut [u16],
-) -> Result<Answer, Refusal>
-    requires { (in_bounds r ≡ true) × (length im.old ≡ length zm.old) }
-    ensures { Takes r (word_of (word_at bytes.now k)) (found im zm) (told result) (passed_in result) (registers_in r result) (left im zm) }
+fn step_at(r: Registers, bytes: &[u8], k: usize, m: &mut Memories) -> Result<Answer, Refusal>
+    requires { (in_bounds r ≡ true) × (length m.old.i.now ≡ length m.old.z.now) }
+    ensures { Kept m × Takes r (word_of (word_at bytes.now k)) (held_in m.old) (told result) (passed_in result) (registers_in r result) (held_in m.new) }
 {
-    step_kept(r, word_of(word(bytes, k)), im, zm)
+    step_kept(r, word_of(word(bytes, k)), m)
 }
 
-// The words of a stream, one after the other, until one is refused. Bounds and lengths hold from reset on, so that no word asks about them.
-fn run_words(start: Registers, bytes: &[u8], im: &mut [u16], zm: &mut [u16]) -> Ran
-    requires { (in_bounds start ≡ true) × (length im.old ≡ length zm.old) }
-    ensures { ran (told result.outcome) result.index result.sum result.registers (left im zm) ≡ words_from start bytes.now (found im zm) }
+// The words of a stream, one after the other, until one is refused. Bounds and lengths hold from reset on, so that no word asks about them. (A loop of its own, as
+// `board`'s `run_words` says.)
+fn run_words(start: Registers, bytes: &[u8], m: &mut Memories) -> Ran
+    requires { (in_bounds start ≡ true) × (length m.old.i.now ≡ length m.old.z.now) }
+    ensures { Kept m × ran (told result.outcome) result.index result.sum result.registers (held_in m.new) ≡ words_from start bytes.now (held_in m.old) }
 {
     let count = held(bytes);
     let mut r = start;
     let mut sum: u64 = 0;
     for k in 0..count {
-        match step_at(r, bytes, k, im, zm) {
+        match step_at(r, bytes, k, m) {
             Ok(a) => {
                 sum = sum.wrapping_add(a.passed);
                 r = a.registers;
@@ -86,17 +83,17 @@ fn refused(start: Registers, refusal: Refusal) -> Ran
 }
 
 // Runs a packed stream from a record: checks it and the memories, then takes word after word until one is refused.
-fn run_from(start: Registers, bytes: &[u8], im: &mut [u16], zm: &mut [u16]) -> Ran
+fn run_from(start: Registers, bytes: &[u8], m: &mut Memories) -> Ran
     requires { in_bounds start ≡ true }
-    ensures { RunsFrom start bytes.now (found im zm) (told result.outcome) result.index result.sum result.registers (left im zm) }
+    ensures { Kept m × RunsFrom start bytes.now (held_in m.old) (told result.outcome) result.index result.sum result.registers (held_in m.new) }
 {
     if let Err(refusal) = checked(bytes) {
         return refused(start, refusal);
     }
-    if im.len() != zm.len() {
+    if m.i.len() != m.z.len() {
         return refused(start, Refusal::Unsound);
     }
-    run_words(start, bytes, im, zm)
+    run_words(start, bytes, m)
 }
 
 // Runs a packed stream from reset, over memories of rows one after the other.
@@ -104,13 +101,15 @@ fn run_from(start: Registers, bytes: &[u8], im: &mut [u16], zm: &mut [u16]) -> R
 pub fn run(bytes: &[u8], im: &mut [u16], zm: &mut [u16]) -> Ran
     ensures { RunsFrom reset_of bytes.now (found im zm) (told result.outcome) result.index result.sum result.registers (left im zm) }
 {
-    run_from(Registers::reset(), bytes, im, zm)
+    let mut m = Memories { i: im, z: zm };
+    run_from(Registers::reset(), bytes, &mut m)
 }
 
-// Runs a packed stream from reset, over memories of tiles.
+// Runs a packed stream from reset, over memories of tiles. (Two calls by name, as C has them: `recording` hands both on.)
 #[tactic(auto, using(refusals::proofs::Kept::reset_kept_as))]
 pub fn run_tiled(bytes: &[u8], im: &mut [u16], zm: &mut [u16]) -> Ran
     ensures { RunsFrom (reset_as 1) bytes.now (found im zm) (told result.outcome) result.index result.sum result.registers (left im zm) }
 {
-    run_from(Registers::reset_tiled(), bytes, im, zm)
+    let mut m = Memories { i: im, z: zm };
+    run_from(Registers::reset_tiled(), bytes, &mut m)
 }

@@ -69,7 +69,9 @@ fn take(r: Registers, word: Word, m: &mut Memories) -> Answer
     }
 }
 
-// Takes a word, or refuses it and leaves registers and memories as they were.
+// Takes a word, or refuses it and leaves registers and memories as they were. It is lent two slices, which calls for C hand on as they got them, and lends both
+// on in one struct, as `run` and `run_tiled` do. Command and data
+// come as two numbers too: C sends them so, and `decode` takes them so.
 pub fn step(
     r: Registers,
     command: u8,
@@ -87,17 +89,11 @@ pub fn step(
 
 // The same of a decoded word, for a caller that knows that the record breaks no bound and that the memories are of one length: neither is asked
 // again. Both stand in the contracts from here up to the loop over the words: a type for such a record would be unpacked and made again at each
-// word, and the lengths are those of two slices that C lends.
-pub(crate) fn step_kept(
-    r: Registers,
-    word: Word,
-    im: &mut [u16],
-    zm: &mut [u16],
-) -> Result<Answer, Refusal>
-    requires { (in_bounds r ≡ true) × (length im.old ≡ length zm.old) }
-    ensures { Takes r word (found im zm) (told result) (passed_in result) (registers_in r result) (left im zm) }
+// word, and `Memories` holds any two slices that are lent, unlike ones too.
+pub(crate) fn step_kept(r: Registers, word: Word, m: &mut Memories) -> Result<Answer, Refusal>
+    requires { (in_bounds r ≡ true) × (length m.old.i.now ≡ length m.old.z.now) }
+    ensures { Kept m × Takes r word (held_in m.old) (told result) (passed_in result) (registers_in r result) (held_in m.new) }
 {
     judged(r, word)?;
-    let mut m = Memories { i: im, z: zm };
-    Ok(take(r, word, &mut m))
+    Ok(take(r, word, m))
 }

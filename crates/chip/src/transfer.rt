@@ -36,7 +36,8 @@ pub struct Reading {
     pub registers: Registers,
 }
 
-// Reads the region's pixel and moves the region on, or refuses and leaves the registers as they were.
+// Reads the region's pixel and moves the region on, or refuses and leaves the registers as they were. Calls for C lend the two memories for reading alone and
+// hand them on, and of such two no `Memories` can be made, so that they stay two slices here.
 #[tactic(auto, unfolding(crate::specs::Read::reading))]
 pub fn read(r: Registers, im: &[u16], zm: &[u16]) -> Result<Reading, Refusal>
     ensures { read_told r result ≡ reading r (memories im.now zm.now) }

@@ -128,7 +128,7 @@ impl Intake {
     }
 }
 
-// Runs a word.
+// Runs a word. It answers the record either way, with the number in it: the loop hands on the whole of it, so an `Err` would have to carry it too.
 fn run_word(s: Intake, w: u32, im: &mut [u16], zm: &mut [u16]) -> Intake
     requires refusal_value { s.refusal ≡ 0 }
     requires w_bound { w < 2 ^ 20 }
@@ -158,8 +158,9 @@ fn take_all(s: Intake, bytes: &[u8], im: &mut [u16], zm: &mut [u16]) -> Intake
     let mut next = s;
     let mut held = s.held;
     let mut count = s.count;
-    for byte in bytes {
-        held = held * 256 + *byte as u32;
+    // by places: a slice's iterator answers an `Option` of a reference (`stream`'s `bits_of`)
+    for k in 0..bytes.len() {
+        held = held * 256 + bytes[k] as u32;
         count += 8;
         if count < 20 {
             continue;

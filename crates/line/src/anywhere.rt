@@ -1,7 +1,7 @@
 // Segments with any pen, wherever they are and in any layout: each step asks whether its pixel is offered. What `trace` draws does not come here.
 ghost use Rattle.std.specs.Prelude.{◌≡◌, ◌≤◌};
 ghost use Rattle.picture.specs.Offer.{offer, keep};
-ghost use Rattle.picture.specs.Picture.{is_deep, picture, drawn};
+ghost use Rattle.picture.specs.Picture.{is_deep};
 ghost use Rattle.line.specs.Segment.{kind_of, step_offers, segment_offers};
 ghost use Rattle.line.specs.Field.{direct_rows};
 ghost use Rattle.line.specs.Walk.{Reaches};

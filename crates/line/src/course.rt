@@ -6,7 +6,7 @@ ghost use Rattle.line.specs.Course.{move_of, OnCourse, spot_at};
 
 use crate::slope::Slope;
 
-// What a pixel along an axis adds to the spot, and what it takes from it: one of them is 0.
+// What a pixel along an axis adds to the spot, and what it takes from it: one of them is 0. (Two numbers and no enum: a step multiplies by both and asks nothing.)
 #[derive(Clone, Copy)]
 pub(crate) struct Move {
     pub(crate) up: u32,

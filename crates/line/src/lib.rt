@@ -2,7 +2,7 @@
 #![tactic(auto)]
 
 ghost use Rattle.std.specs.Prelude.{◌≡◌, ◌/◌, if◌then◌else◌};
-ghost use Rattle.picture.specs.Picture.{is_deep, picture};
+ghost use Rattle.picture.specs.Picture.{is_deep};
 ghost use Rattle.line.specs.Segment.{mode_of, kind_of, is_set, larger, segment_offers};
 ghost use Rattle.line.specs.Ink.{has_ground, joined_in};
 ghost use Rattle.picture.specs.Lent.{Draws};

@@ -161,8 +161,7 @@ impl Route {
         requires { OnCourse self.course.width self.slope.a self.slope.b self.slope self.course × OnWalk self.slope.a self.slope.b self.slope step }
         ensures { result ≡ spot_at self.course.width self.slope.a self.slope.b step.k }
     {
-        self.course
-            .spot_at(self.slope, step.k, whole(step.side))
+        self.course.spot_at(self.slope, step.k, whole(step.side))
     }
 
     // Whether the memory has the pixel of a spot, as far as a way asks.

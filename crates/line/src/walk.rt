@@ -34,10 +34,7 @@ fn carried(n: u16, first: u16, second: u16) -> Carried
     ensures { Tells n first second result }
 {
     if n == 0 {
-        return Carried {
-            first: (second as u64) * CARRIED_ONE,
-            add: 0,
-        };
+        return Carried::steady(second);
     }
     let steps = n as u64;
     let start = (first as u64) * CARRIED_ONE + HALF;
@@ -62,7 +59,7 @@ fn carried_deep(deep: bool, n: u16, first: u16, second: u16) -> Carried
     if deep {
         return carried(n, first, second);
     }
-    Carried { first: 0, add: 0 }
+    Carried::steady(0)
 }
 
 // The walk along a segment, step by step, where lines have depths or not.

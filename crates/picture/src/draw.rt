@@ -120,7 +120,8 @@ fn fill_shared(pen: Pen, kind: Kind, s: Stretch, m: &mut Memories) -> u64
     0
 }
 
-// The same in any layout.
+// The same in any layout. (What `Stretch::within` answers has these facts, and they stand in the contracts from there to the loops: two of the three speak of the
+// frame and of the memories, which a stretch does not hold.)
 fn fill_row(pen: Pen, kind: Kind, s: Stretch, m: &mut Memories) -> u64
     requires { (s.lo < s.hi) × (s.hi ≤ pen.frame.line) × (s.y < rows_over pen.frame m.old) }
     ensures { Draws pen (λ rows. span_offers pen rows kind s.lo s.hi s.y s.i s.z) m 0 result }

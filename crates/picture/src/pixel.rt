@@ -104,7 +104,8 @@ pub(crate) fn store_z(enabled: bool, at: usize, z: u16, zm: &mut [u16])
     }
 }
 
-// One offer at a place; n is the count so far, and the next count is the answer.
+// One offer at a place; n is the count so far, and the next count is the answer. (That the place is in both memories stands in the contracts from here on: it is a
+// fact of a number and of two lent slices, and a type of all three would lend both anew for each pixel.)
 pub(crate) fn put_at(
     pen: Pen,
     kind: Kind,

@@ -65,7 +65,8 @@ fn rows_in(frame: Frame, n: usize) -> usize
     n / width
 }
 
-// The rows in use of two memories of these lengths.
+// The rows in use of two memories of these lengths. (Here and where a pixel is asked about, the lengths are two numbers, as in the definitions: contracts speak of
+// the lengths of what is lent, whatever holds it.)
 pub fn rows_of(frame: Frame, ni: usize, nz: usize) -> usize
     ensures { result ≡ rows_of frame ni nz }
 {
@@ -175,7 +176,7 @@ pub(crate) fn along(tiled: bool, x: u16) -> usize
     if tiled { along_tiles(x) } else { x as usize }
 }
 
-// The place of pixel (x, y).
+// The place of pixel (x, y). (A pixel is two numbers in all calls, as document 01 and the definitions have it: `place_of frame x y`, `offered pen rows kind x y`.)
 pub fn place(frame: Frame, x: u16, y: u16) -> usize
     ensures { (result ≡ place_of frame x y) × (result ≤ 4294967295) }
 {

@@ -97,7 +97,7 @@ fn draw_many(run: Run, im: &mut [u16], zm: &mut [u16]) -> u64
     sum_eight(n) as u64
 }
 
-// Pixels that lie side by side. Fewer than eight are drawn one after the other.
+// Pixels that lie side by side. Fewer than eight are drawn one after the other; the others otherwise than `draw_beside` does, since all numbers are one.
 fn draw_same(run: Run, im: &mut [u16], zm: &mut [u16]) -> u64
     requires { (Fits run (length im.old) (length zm.old)) × (Stays run.i) × (Stays run.z) }
     ensures { Runs (λ j. run.base + j) run.i run.z run.count im zm 0 result }

@@ -62,7 +62,7 @@ pub extern "C" fn dextolumen_run(bytes: &[u8], im: &mut [u16], zm: &mut [u16]) -
     Ended::from(run(bytes, im, zm))
 }
 
-// Runs a packed stream from reset, over memories in tiles of four by four.
+// Runs a packed stream from reset, over memories in tiles of four by four. (C has each of the four calls by its name, so that there are two of each here.)
 #[unsafe(no_mangle)]
 pub extern "C" fn dextolumen_run_tiled(bytes: &[u8], im: &mut [u16], zm: &mut [u16]) -> Ended
     ensures { RunsFrom (reset_as 1) bytes.now (found im zm) result.refusal result.index result.sum result.registers (left im zm) }

@@ -5,7 +5,7 @@ ghost use Rattle.registers.specs.Region.{way_number, toward, next_pixel};
 
 use crate::Region;
 
-// The ways of a region, and none, in the order of the record's numbers.
+// The ways of a region, and none, in the order of the record's numbers. (`Shape` says why no Option stands around them.)
 #[derive(Clone, Copy)]
 pub enum Way {
     Shut,

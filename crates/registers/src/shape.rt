@@ -7,7 +7,8 @@ use crate::{Figure, PATTERN_LENGTH};
 use line::step_count;
 use picture::Vertex;
 
-// The shapes of open figures, and none, in the order of the record's numbers. No Option stands around them, here and in the two enums like it, so that a match has one layer.
+// The shapes of open figures, and none, in the order of the record's numbers. No Option stands around them, here and in the three enums like it (`Completed`, `Subcommand`
+// and `Way`), so that a match has one layer.
 #[derive(Clone, Copy)]
 pub enum Shape {
     Closed,
@@ -19,7 +20,7 @@ pub enum Shape {
 // The number of the last shape.
 pub const LAST_SHAPE: u16 = Shape::Line as u16;
 
-// What a word completes: nothing, a triangle of three vertices of which the last is new, or a visible segment to the new endpoint.
+// What a word completes, as one match asks it (see `Shape`): nothing, a triangle of three vertices of which the last is new, or a visible segment to the new endpoint.
 #[derive(Clone, Copy)]
 pub enum Completed {
     Nothing,

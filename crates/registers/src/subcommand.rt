@@ -7,7 +7,7 @@ pub const LARGEST_AUX: u16 = 12;
 
 pub const UNMODELLED_AUX: u16 = 11;
 
-// The subcommands that are modelled, and none.
+// The subcommands that are modelled, and none. (`Shape` says why no Option stands around them.)
 #[derive(Clone, Copy)]
 pub enum Subcommand {
     Nothing,

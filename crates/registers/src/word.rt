@@ -54,7 +54,8 @@ pub fn decoded(command: u8, data: u16) -> Word
     }
 }
 
-// The command and the data of a word of 20 bits.
+// The command and the data of a word of 20 bits. (That it has no more stands here and at `word_of` and not in a type: words are `u32` in C and in streams, and each
+// caller knows it of `stream`'s `word`.)
 pub fn parts(word: u32) -> (u8, u16)
     requires { word < 1048576 }
     ensures { (result.0 ≡ word / 65536) × (result.1 ≡ word % 65536) }

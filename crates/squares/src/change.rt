@@ -39,7 +39,12 @@ pub(crate) fn square_differs(pictures: &Pictures, square: Corner) -> bool
     let Pictures { old, new, size } = *pictures;
     let inside = size.clip(square);
     for j in 0..inside.rows {
-        if row_differs(old, new, (square.y + j) * size.width + square.x, inside.width) {
+        if row_differs(
+            old,
+            new,
+            (square.y + j) * size.width + square.x,
+            inside.width,
+        ) {
             return true;
         }
     }

@@ -48,16 +48,21 @@ fn copy_square(new: &[u16], size: Size, square: Corner, view: &mut [u16])
     }
     let inside = size.clip(square);
     for j in 0..inside.rows {
-        copy_run(new, (square.y + j) * size.width + square.x, inside.width, view);
+        copy_run(
+            new,
+            (square.y + j) * size.width + square.x,
+            inside.width,
+            view,
+        );
     }
 }
 
-// Copies the listed squares, one after the other.
+// Copies the listed squares, one after the other. (By places, as `are_squares`.)
 pub(crate) fn copy_listed(list: &[u32], new: &[u16], size: Size, view: &mut [u16])
     requires { (length new.now ≡ size.width * size.rows) × (length view.old ≡ size.width * size.rows) }
     ensures { view.new ≡ copy_squares size.width new.now view.old (map corner_of list.now) }
 {
-    for number in list {
-        copy_square(new, size, Corner::from(*number), view);
+    for k in 0..list.len() {
+        copy_square(new, size, Corner::from(list[k]), view);
     }
 }

@@ -79,7 +79,7 @@ pub extern "C" fn dextolumen_squares(
     encoded(list_squares(old, new, Size { width, rows }, out))
 }
 
-// Copies listed squares from the new picture into a view of it, and answers how many they are.
+// Copies listed squares from the new picture into a view of it, and answers how many they are. (C has both calls by name, with these arguments in this order.)
 #[unsafe(no_mangle)]
 pub extern "C" fn dextolumen_copy_squares(
     list: &[u32],

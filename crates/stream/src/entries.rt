@@ -52,7 +52,7 @@ pub extern "C" fn dextolumen_pack(words: &[u32], out: &mut [u8]) -> u64
     encoded(pack(words, out))
 }
 
-// Unpacks a stream into `out`, and answers how many words it holds.
+// Unpacks a stream into `out`, and answers how many words it holds. (Like `dextolumen_pack` but for the types: C has both by name, and no generic function.)
 #[unsafe(no_mangle)]
 pub extern "C" fn dextolumen_unpack(bytes: &[u8], out: &mut [u32]) -> u64
     ensures { answer result out.new ≡ answered (unpacking bytes.now out.old) }

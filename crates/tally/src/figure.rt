@@ -1,6 +1,5 @@
 // The figure that a word completes, and what it is counted as.
-ghost use Rattle.std.specs.Prelude.{◌≡◌, ◌-◌, ◌≤◌, ◌==◌};
-ghost use Rattle.triangle.specs.Offers.{kind_of};
+ghost use Rattle.std.specs.Prelude.{◌≡◌, ◌-◌, ◌≤◌};
 ghost use Rattle.tally.specs.Lent.{Offered};
 ghost use Rattle.tally.specs.Tally.{count};
 ghost use Rattle.tally.specs.Overdraw.{figure_tally, muted_of};
@@ -11,6 +10,7 @@ use line::Mode;
 use picture::{Kind, Memories};
 use registers::Registers;
 use registers::shape::Completed;
+use triangle::draw::kind_of;
 
 // The registers with the depth test and both write enables off.
 fn muted(mut r: Registers) -> Registers
@@ -30,18 +30,6 @@ pub(crate) fn offered_by(r: Registers, figure: Completed, im: &mut [u16], zm: &m
     draw(muted(r), figure, &mut m)
 }
 
-// The kind of a triangle, by PMODE's word. (`triangle` has this choice in its drawing, by a bool: called from here, it would be a public call with a promise and an edit of its
-// own, for one test.)
-fn triangle_kind(pmode: u16) -> Kind
-    ensures { result ≡ kind_of (pmode == 1) }
-{
-    if pmode == 1 {
-        Kind::Constant
-    } else {
-        Kind::Gouraud
-    }
-}
-
 // A count, as one of the kind of the figure that was completed.
 #[tactic(auto, using(crate::proofs::Figures::kind_same), unfolding(crate::specs::Overdraw::figure_tally))]
 fn tally_of(r: Registers, figure: Completed, c: Count) -> Tally
@@ -49,7 +37,7 @@ fn tally_of(r: Registers, figure: Completed, c: Count) -> Tally
 {
     match figure {
         Completed::Nothing => Tally::none(),
-        Completed::Triangle(_, _, _) => Tally::only(triangle_kind(r.modes.pmode), c),
+        Completed::Triangle(_, _, _) => Tally::only(kind_of(r.modes.pmode == 1), c),
         Completed::Segment(_, _) => Tally::only(Kind::from(Mode::from(r.modes.lmode)), c),
     }
 }

@@ -75,7 +75,7 @@ fn run_of(
 }
 
 // The kind of a triangle's pixels. No `From`: a bool by itself says nothing of triangles.
-fn kind_of(constant: bool) -> Kind
+pub fn kind_of(constant: bool) -> Kind
     ensures { result ≡ kind_of constant }
 {
     if constant {

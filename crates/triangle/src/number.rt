@@ -12,6 +12,8 @@ use crate::cover::over;
 use crate::{Corners, Edges, Facet, HALF, MOST_FACTORED, Numbers, Rising, Slopes, Sum};
 use picture::CARRIED_ONE;
 
+// Four methods, and not one that takes which field: each promises a definition of its own (`columns_of`, `levels_of`, `intensities_of`, `depths_of`), and one over a
+// closure would name the field at each of its eight calls and promise it by the closure's `F.post`, no plainer.
 impl Corners {
     // The corners' columns.
     fn columns(self) -> Numbers

@@ -14,7 +14,7 @@ use picture::{CARRIED_ONE, Pen, Vertex};
 fn short_of(a: Vertex, b: Vertex) -> u64
     ensures { (result ≡ short (closed a b)) × (result ≤ 1) }
 {
-    if is_closed(a, b) { 0 } else { 1 }
+    u64::from(!is_closed(a, b))
 }
 
 // 2^48 over an edge's height, and a little more. An edge without height has no quotient, and its divisor is 1.

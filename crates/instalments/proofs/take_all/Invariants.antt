@@ -13,5 +13,5 @@ pub record Going (start : Intake) (bytes im₀ zm₀ im zm : List ℕ) (next : I
   pub z_long : length zm ≡ length zm₀
   pub so_far_lem : Turned bytes (taking start (memories im₀ zm₀)) (so_far next (memories im zm)) held count k
 
-abbrev pub invariant-loop-byte : goal.invariant-loop-byte
-invariant-loop-byte l = Going l.initial.next l.bytes l.initial.im l.initial.zm l.im l.zm l.next l.held l.count l.byte-index
+abbrev pub invariant-loop-k : goal.invariant-loop-k
+invariant-loop-k l = Going l.initial.next l.bytes l.initial.im l.initial.zm l.im l.zm l.next l.held l.count l.k

@@ -4,10 +4,10 @@ use Rattle.chip.proofs.Streams.{run_flawed, run_unlike, run_good}
 use Rattle.chip.proofs.run.run_from.Goals as goal
 
 pub returns-in-Err : goal.returns-in-Err
-returns-in-Err c = run_flawed _ _ _ c.in-Err.ensures c.refused.ensures refl
+returns-in-Err c = ((refl, refl), run_flawed _ _ _ c.in-Err.ensures c.refused.ensures refl)
 
-pub returns-then-im-zm : goal.returns-then-im-zm
-returns-then-im-zm c = run_unlike _ _ _ c.in_default.ensures refl c.refused-then-im-zm.ensures c.if-im-zm.true
+pub returns-then-m : goal.returns-then-m
+returns-then-m c = ((refl, refl), run_unlike _ _ _ c.in_default.ensures refl c.refused-then-m.ensures c.if-m.true)
 
 pub returns : goal.returns
-returns c = run_good _ _ _ c.in_default.ensures refl c.run_words.ensures c.if-im-zm.false
+returns c = (c.run_words.ensures.0, run_good _ _ _ c.in_default.ensures refl c.run_words.ensures.1 c.if-m.false)

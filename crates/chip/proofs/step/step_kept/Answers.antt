@@ -8,7 +8,7 @@ use Rattle.chip.proofs.step.step_kept.Goals as goal
 pub returns-in_err-judged : goal.returns-in_err-judged
 returns-in_err-judged c =
     let p = err_from_is_err_and c.from_residual.result c.from_residual.ensures.1 in
-    rw (p.1, p.2) (word_refused _ _ _ _ refl _ (c.in_err-judged.ensures ∙ kept_judged _ _ _ _ c.requires.0 c.requires.1))
+    ((refl, refl), rw (p.1, p.2) (word_refused _ _ _ _ refl _ (c.in_err-judged.ensures ∙ kept_judged _ _ _ _ c.requires.0 c.requires.1)))
 
 pub take-requires : goal.take-requires
 take-requires c = sym (c.in_ok-judged.ensures ∙ kept_judged _ _ _ _ c.requires.0 c.requires.1)

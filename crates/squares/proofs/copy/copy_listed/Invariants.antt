@@ -7,7 +7,7 @@ use Rattle.squares.specs.Squares.{corner_of}
 use Rattle.squares.specs.Copy.{copy_squares}
 use Rattle.squares.proofs.copy.copy_listed.Given as goal
 
-abbrev pub invariant-loop-number : goal.invariant-loop-number
-invariant-loop-number l =
+abbrev pub invariant-loop-k : goal.invariant-loop-k
+invariant-loop-k l =
     (length l.view ≡ length l.initial.view)
-    × (copy_squares l.size.width l.new l.initial.view (map corner_of l.list) ≡ copy_squares l.size.width l.new l.view (map corner_of (drop l.number-index l.list)))
+    × (copy_squares l.size.width l.new l.initial.view (map corner_of l.list) ≡ copy_squares l.size.width l.new l.view (map corner_of (drop l.k l.list)))
