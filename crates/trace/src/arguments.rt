@@ -34,7 +34,12 @@ pub(crate) fn asked(count: usize, first: &[u8], second: &[u8]) -> Result<Option<
     if count != 3 {
         return Err(Usage::Unclear);
     }
-    let x = coordinate(first).ok_or(Usage::Unclear)?;
-    let y = coordinate(second).ok_or(Usage::Unclear)?;
+    // `ok_or` and `?` were tried here: the proof did not close as it stands, since both ways out go through what `?` hands on
+    let Some(x) = coordinate(first) else {
+        return Err(Usage::Unclear);
+    };
+    let Some(y) = coordinate(second) else {
+        return Err(Usage::Unclear);
+    };
     Ok(Some(Pixel { x, y }))
 }
