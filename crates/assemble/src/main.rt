@@ -5,7 +5,7 @@
 ghost use Rattle.std.specs.Prelude.{◌≤◌, length};
 
 use console::args::count;
-use console::say::{fail, say};
+use console::say::{fail, say, tell};
 use console::{piece, recording, take, words};
 use listing::read::{Mood, Reader, read, start};
 use stream::write::pack;
@@ -15,11 +15,7 @@ use stream::write::pack;
 fn write_packed(rt: &(impl Print + Eprint), words: &[u32]) {
     let mut out = recording();
     match pack(words, &mut out) {
-        Ok(n) => {
-            if let Err(error) = rt.write_all(&out[..n]) {
-                fail(rt, "assemble: standard output", error);
-            }
-        }
+        Ok(n) => tell(rt, "assemble: standard output", rt.write_all(&out[..n])),
         Err(refusal) => {
             let number = u64::from(refusal);
             say(rt, format_args!("assemble: refusal {number}"));

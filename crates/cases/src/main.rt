@@ -8,7 +8,7 @@ mod answer;
 mod pictures;
 mod row;
 
-use console::say::fail;
+use console::say::tell;
 use row::{passed, row, unlike};
 use std::io;
 
@@ -221,7 +221,5 @@ fn rows(rt: &impl Print) -> io::Result<()> {
 }
 
 fn main(rt: HostRuntime) {
-    if let Err(error) = rows(&rt) {
-        fail(&rt, "cases: standard output", error);
-    }
+    tell(&rt, "cases: standard output", rows(&rt));
 }

@@ -5,7 +5,7 @@ use crate::answer::last;
 use ground::{Refusal, number_of};
 use std::io;
 
-// Prints a row's line.
+// Prints a row's line. (Each call has its row's name and where to print: no struct of the two, which would be made anew for each row.)
 fn print_row(rt: &impl Print, name: &str, got: u64, should: u64) -> io::Result<()> {
     if got == should {
         return println!(rt; "{name}: {got}, as it should be");
@@ -27,7 +27,7 @@ pub(crate) fn row(rt: &impl Print, name: &str, words: &[u32], should: u64) -> io
     print_row(rt, name, number_of(over::<256, 256>(words)), should)
 }
 
-// A row over memories of two lengths.
+// A row over memories of two lengths. (No length of Z at each row, as in `vectors`: nearly all rows are over memories of one length, and say nothing of it.)
 pub(crate) fn unlike(rt: &impl Print, name: &str, words: &[u32], should: u64) -> io::Result<()> {
     print_row(rt, name, number_of(over::<256, 255>(words)), should)
 }

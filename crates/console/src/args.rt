@@ -20,7 +20,8 @@ pub fn count(env: &impl Env) -> usize {
     usize::MAX
 }
 
-// An argument, put into a buffer; empty where it is missing or longer than the buffer.
+// An argument, put into a buffer; empty where it is missing or longer than the buffer. (No Option: what the programs make of their arguments, `asked_of` of trace and of
+// show, is said of an empty one.)
 pub fn argument<'a>(env: &impl Env, index: usize, buf: &'a mut [u8]) -> &'a [u8]
     ensures { length result.now ≤ length buf.old }
 {

@@ -3,16 +3,17 @@
 ghost use Rattle.std.specs.Prelude.{◌≡◌, ◌≤◌, length};
 
 use ground::Refusal;
-use std::fmt;
 use std::fmt::{Display, Write};
-use std::io::{Eprint, Error};
+use std::io::{Eprint, Error, Print};
+use std::{fmt, io};
 
 // A line.
 pub fn say(rt: &impl Eprint, line: impl Display + Drop) {
     let _ = rt.eprintln(line);
 }
 
-// That a program met a word which is refused: the number that refuses it, and its index.
+// That a program met a word which is refused: the number that refuses it, and its index. (The number is all that is ever printed of a refusal, so that no `Display` of it would
+// be plainer than `u64::from`.)
 pub fn say_refused(rt: &impl Eprint, program: &str, refusal: Refusal, word: u64)
     ensures { program.now ≡ program.now }
 {
@@ -21,6 +22,15 @@ pub fn say_refused(rt: &impl Eprint, program: &str, refusal: Refusal, word: u64)
         rt,
         format_args!("{program}: refusal {number} at word {word}"),
     );
+}
+
+// Prints the number that refuses what a program was given, and says it as well.
+pub fn refuse(rt: &(impl Print + Eprint), program: &str, refusal: Refusal) -> io::Result<()>
+    ensures { program.now ≡ program.now }
+{
+    let number = u64::from(refusal);
+    say(rt, format_args!("{program}: refusal {number}"));
+    println!(rt; "refusal {number}")
 }
 
 // Bytes that are letters, digits and signs of ASCII, as text.
@@ -36,7 +46,8 @@ impl<'a> Display for Ascii<'a> {
     }
 }
 
-// The front of a text that is written to it.
+// The front of a text that is written to it: room for it, and how much of that is filled. (No `String`, since the programs take no memory that may be missing; and a lent
+// slice that gets shorter would not tell what stands in front of it.)
 #[derive(Drop)]
 struct Front {
     text: [u8; 64],
@@ -78,4 +89,13 @@ pub fn fail(rt: &impl Eprint, what: &str, error: Error)
     let _ = write!(why, "{error}");
     let reason = Ascii(bare(&why.text[..why.size]));
     say(rt, format_args!("{what}: {reason}"));
+}
+
+// That something failed, and why, if it did.
+pub fn tell(rt: &impl Eprint, what: &str, done: io::Result<()>)
+    ensures { what.now ≡ what.now }
+{
+    if let Err(error) = done {
+        fail(rt, what, error);
+    }
 }

@@ -5,7 +5,7 @@
 mod text;
 
 use console::args::count;
-use console::say::{fail, say};
+use console::say::{fail, say, tell};
 use console::take;
 use text::put_printed;
 
@@ -13,12 +13,11 @@ use text::put_printed;
 fn print(rt: &(impl Print + Eprint), bytes: &[u8]) {
     let mut out = [0u8; 180308];
     let n = put_printed(bytes, &mut out);
-    if let Err(error) = rt.write_all(&out[..n]) {
-        fail(rt, "draw: standard output", error);
-    }
+    tell(rt, "draw: standard output", rt.write_all(&out[..n]));
 }
 
-// One byte more than a stream may have is enough to tell that it is too long.
+// One byte more than a stream may have is enough to tell that it is too long. (Each program that reads once begins so, with its own texts, buffer and next call: in a
+// function of `console` all four would be passed in, and what the next call asks for besides.)
 fn main(rt: HostRuntime) {
     if 1 < count(&rt) {
         say(&rt, "usage: draw < RECORDING > TEXT");

@@ -9,17 +9,10 @@ use borrow.Author.Tests.{ltb-true, ltb-false}
 use lib.Dec.{ltb}
 use lib.ListN.{length, take, drop, length-take, length-drop, take-append-drop, drop_of_length-le}
 use lib.Seq.{take_all, drop-drop, length-take-le}
-use Rattle.std.specs.Prelude.{Result, Ok, Err, IsOk}
-use Rattle.report.specs.declared.NoRoom.{NoRoom}
 use Rattle.listing.specs.Text.{lines, listing}
 use Rattle.listing.proofs.Pages.{pages as Pages·pages}
 use Rattle.listing.proofs.Lines.{length_listing}
 use Rattle.list.specs.List.{page_of, pages}
-
--- what never lacks room is done
-pub is_done : (answer : Result ℕ NoRoom) → ((none : NoRoom) → answer ≡ Err none → ⊥) → IsOk answer
-is_done (Ok n) h = refl
-is_done (Err none) h = absurd (h none refl)
 
 module _ (words : List ℕ) (from : ℕ) {n : ℕ} (least : n ≡ min (length (take (length words - from) (drop from words))) 2520) where
   left : length (take (length words - from) (drop from words)) ≡ length words - from

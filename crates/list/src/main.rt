@@ -7,9 +7,8 @@ mod page;
 ghost use Rattle.std.specs.Prelude.{◌≤◌, length};
 
 use console::args::count;
-use console::say::{fail, say};
+use console::say::{fail, refuse, say, tell};
 use console::{piece, recording, take, words};
-use ground::Refusal;
 use page::put_page;
 use std::io;
 use stream::read::unpack;
@@ -26,15 +25,9 @@ fn print_words(rt: &impl Print, words: &[u32]) -> io::Result<()>
     Ok(())
 }
 
-// Prints what refuses a stream, and says it as well. It is no text of words, so that nothing takes it for the listing of an empty recording.
-fn refuse(rt: &(impl Print + Eprint), refusal: Refusal) -> io::Result<()> {
-    let number = u64::from(refusal);
-    say(rt, format_args!("list: refusal {number}"));
-    println!(rt; "refusal {number}")
-}
-
-// Prints the words of a stream, or the number that refuses it. There is room for the words of 1,048,576 bytes, and words that are unpacked
-// have 20 bits, so that 13 and 1 never come (by reasoning, not by proof). `too long` is no text of words either.
+// Prints the words of a stream, or the number that refuses it, which is no text of words, so that nothing takes it for the listing of an empty recording. There is
+// room for the words of 1,048,576 bytes, and words that are unpacked have 20 bits, so that 13 and 1 never come (by reasoning, not by proof). `too long` is no text
+// of words either.
 fn print_listing(rt: &(impl Print + Eprint), bytes: &[u8]) -> io::Result<()> {
     if 1048576 < bytes.len() {
         say(rt, "list: the recording is longer than 1048576 bytes");
@@ -43,15 +36,13 @@ fn print_listing(rt: &(impl Print + Eprint), bytes: &[u8]) -> io::Result<()> {
     let mut words = words();
     match unpack(bytes, &mut words) {
         Ok(n) => print_words(rt, &words[..n]),
-        Err(refusal) => refuse(rt, refusal),
+        Err(refusal) => refuse(rt, "list", refusal),
     }
 }
 
 // Lists the bytes that were read, or says that it cannot.
 fn list(rt: &(impl Print + Eprint), bytes: &[u8]) {
-    if let Err(error) = print_listing(rt, bytes) {
-        fail(rt, "list: standard output", error);
-    }
+    tell(rt, "list: standard output", print_listing(rt, bytes));
 }
 
 fn main(rt: HostRuntime) {

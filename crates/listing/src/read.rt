@@ -86,7 +86,7 @@ impl Reader {
                 value: 0,
                 digits: 0,
                 held: self.held + 1,
-                line: self.line,
+                ..self
             };
         }
         Reader {

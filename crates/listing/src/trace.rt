@@ -70,7 +70,7 @@ const MEANINGS: [[u8; 12]; 32] = [
     *b" unknown    ",
 ];
 
-// A row of the table of meanings, in twelve columns.
+// A row of the table of meanings, in twelve columns. (Beside `name_of`: each looks up a table of its own, and promises what its own definition has there.)
 #[tactic(auto, unfolding(crate::specs::Trace::meanings))]
 fn meaning_at(row: usize) -> [u8; 12]
     requires { row < 32 }
@@ -132,7 +132,7 @@ impl Meaning {
 }
 
 impl Traced {
-    // Puts a word with what the machine made of it, and no line's end.
+    // Puts a word with what the machine made of it, and no line's end. (As in write.rt no `parts`, which asks for a word of 20 bits: a line has any word.)
     fn put(self, page: &mut Page<'_>)
         requires { Room 51 page.old }
         ensures { Adds (traced_text self) page.old page.new }

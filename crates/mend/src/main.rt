@@ -9,7 +9,7 @@ ghost use Rattle.std.specs.Prelude.{◌≤◌, length};
 ghost use Rattle.mend.specs.Mend.{Enough, Repairs};
 
 use console::args::count;
-use console::say::{fail, say};
+use console::say::{fail, say, tell};
 use console::{recording, room, take};
 use mending::{Mended, dextolumen_mend};
 use say::{say_list, say_summary};
@@ -17,7 +17,7 @@ use std::io;
 use stream::read::held;
 
 // Mends over memories without places: what is kept and dropped is the same over any two memories of one length, so nothing need be drawn.
-// There is room enough, so that nothing is refused.
+// There is room enough, so that nothing is refused. (The list of dropped words is two memories, as C lends them.)
 fn repair(bytes: &[u8], out: &mut [u8], indices: &mut [u64], numbers: &mut [u8]) -> Mended
     requires { Enough bytes.now out.old indices.old numbers.old }
     ensures { Repairs bytes out indices numbers result }
@@ -56,9 +56,7 @@ fn mend(rt: &(impl Print + Eprint), bytes: &[u8]) {
         say(rt, "mend: the recording is longer than 1048576 bytes");
         return;
     }
-    if let Err(error) = write_mended(rt, bytes) {
-        fail(rt, "mend: standard output", error);
-    }
+    tell(rt, "mend: standard output", write_mended(rt, bytes));
 }
 
 fn main(rt: HostRuntime) {

@@ -73,6 +73,7 @@ pub extern "C" fn dextolumen_mend(
         return refusing(Refusal::Unsound);
     }
     let count = kept(bytes);
+    // rounded up by hand, as `Room` and `outcome` of specs/ have it
     let size = (count * 5 + 1) / 2;
     let dropped = held(bytes) - count;
     if (out.len() < size) | (indices.len() < dropped) | (numbers.len() < dropped) {

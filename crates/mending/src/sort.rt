@@ -30,13 +30,9 @@ pub(crate) fn kept(bytes: &[u8]) -> usize
     let mut r = Registers::reset();
     let mut j = 0;
     for k in 0..held(bytes) {
-        match tried(r, word(bytes, k)) {
-            Ok(answer) => {
-                r = answer.registers;
-                j += 1;
-            }
-            // The arm stays beside the first: `if let` leaves no line in which the edit `refused_word_kept` says its one wrong fact.
-            Err(_) => {}
+        if let Ok(answer) = tried(r, word(bytes, k)) {
+            r = answer.registers;
+            j += 1;
         }
     }
     j

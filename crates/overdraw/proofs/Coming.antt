@@ -8,7 +8,7 @@ use native.Mathlib.Omega.{arith}
 use lib.ListN.{length, length-append}
 use Rattle.report.specs.Calls.{Adds, Room}
 use Rattle.report.specs.declared.page.Page.{Page}
-use Rattle.report.proofs.Putting.{add_after, add_length, room_after, put_over}
+use Rattle.report.proofs.Putting.{add_after, room_after, put_over}
 use Rattle.report.proofs.Calls.{stands}
 use Rattle.tally.specs.declared.Tally.{Tally}
 use Rattle.tally.specs.Tally.{no_tally, total_of, added, kept, EachWithin}

@@ -1,8 +1,9 @@
 -- How long the parts of a line are, and how a number is put into columns. Assumes nothing.
-use mathlib.Core.Path.{◌≡◌, refl, ap, ◌∙◌}
+use mathlib.Core.Path.{◌≡◌, refl, sym, ap, ◌∙◌}
 use mathlib.Core.Bool.{Bool, true, false, cond}
 use mathlib.Core.List.{List, [], ◌∷◌, ◌++◌}
 use Prim.Native.Nat.{ℕ, zero, suc, ◌+◌, ◌-◌, ◌*◌, ◌/◌, ◌%◌, ◌≤◌}
+use native.Mathlib.Nat.{div-zero}
 use native.Mathlib.Numerals.{add-one}
 use native.Mathlib.Omega.{arith}
 use lib.ListN.{length, set, length-append}
@@ -74,6 +75,11 @@ pub columns_parts : (k n : ℕ) → 1 ≤ k → columns k n ≡ front (k - 1) (n
 unfolding columns
 columns_parts zero n h = absurd (omega (arith, h))
 columns_parts (suc k) n h = let same : k ≡ suc k - 1 = omega arith in ap (λ (j : ℕ). front j (n / 10) ++ ((48 + n % 10) ∷ [])) same
+
+-- of no pixels none are hidden: a number div 0 is 0
+pub percent_none : (c : Count) → c.offered ≡ 0 → 0 ≡ percent_of c
+unfolding percent_of
+percent_none c e = rw e (sym (div-zero (c.hidden * 100)))
 
 -- ---- lines
 

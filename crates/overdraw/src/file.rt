@@ -41,7 +41,7 @@ pub(crate) fn find(rt: &impl Files, k: u64, bytes: &mut [u8]) -> Result<usize, L
     take_from(&mut file, bytes).map_err(Lost::Unreadable)
 }
 
-// Says that the file with number k cannot be read, and why.
+// Says that the file with number k cannot be read, and why. (`fail` takes a text that stands, so that the name is laid into one.)
 pub(crate) fn say_unread(rt: &impl Eprint, k: u64, error: Error) {
     let mut what = *b"overdraw: no totals: cannot read 000";
     what[33..].copy_from_slice(&name_of(k)[..3]);

@@ -11,7 +11,7 @@ ghost use Rattle.std.specs.Prelude.{◌≡◌, ◌≤◌, length};
 ghost use Rattle.overdraw.specs.Report.{Gathered, Printed};
 
 use console::args::count;
-use console::say::{fail, say};
+use console::say::{say, tell};
 use file::{Lost, find, say_unread};
 use page::Reached;
 use report::Page;
@@ -23,7 +23,8 @@ use std::rt::Files;
 struct Cut;
 
 // Reads and reports file after file, until one is missing or cannot be read. One byte more than a recording may have is enough to tell that it is
-// too long. (No range counts the files: the report itself does.)
+// too long. (No range counts the files: the report counts them, and that it has fewer than a thousand is what `add` asks for. A range's number would have to be shown to
+// be the report's at each file.)
 fn gather(rt: &(impl Files + Eprint), page: &mut Page<'_>) -> Result<Reached, Cut>
     requires at_front { page.old.at ≡ 0 }
     requires long { 418474 ≤ length page.old.out.now }
@@ -68,7 +69,5 @@ fn main(rt: HostRuntime) {
     }
     let mut out = [0u8; 418474];
     let n = reported(&rt, &mut out);
-    if let Err(error) = rt.write_all(&out[..n]) {
-        fail(&rt, "overdraw: standard output", error);
-    }
+    tell(&rt, "overdraw: standard output", rt.write_all(&out[..n]));
 }

@@ -45,7 +45,8 @@ fn put_columns(n: u64, width: usize, page: &mut Page<'_>)
     page.put_byte(b'0' + (n % 10) as u8);
 }
 
-// The share that is hidden.
+// The share that is hidden. (What is asked of `hidden` is said again of each count on its way here: so many, times a hundred, is still a number of 64 bits.)
+#[tactic(auto, using(crate::proofs::Lines::percent_none), unfolding(crate::specs::Text::percent_of))]
 fn percent(c: Count) -> u64
     requires { c.hidden ≤ 100000000000000000 }
     ensures { result ≡ percent_of c }
@@ -56,7 +57,7 @@ fn percent(c: Count) -> u64
     c.hidden * 100 / c.offered
 }
 
-// A file's name, in six columns.
+// A file's name, in six columns. (Digit by digit, as `name_of` of specs/Text.antt has it.)
 pub(crate) fn name_of(k: u64) -> [u8; 6]
     ensures { result ≡ name_of k }
 {

@@ -6,16 +6,14 @@
 mod text;
 
 use console::args::count;
-use console::say::{fail, say};
+use console::say::{fail, say, tell};
 use console::{piece, take};
 use instalments::{Intake, dextolumen_begin, dextolumen_feed};
 use text::put_received;
 
 // Prints bytes, or says that it cannot.
 fn print(rt: &(impl Print + Eprint), text: &[u8]) {
-    if let Err(error) = rt.write_all(text) {
-        fail(rt, "receive: standard output", error);
-    }
+    tell(rt, "receive: standard output", rt.write_all(text));
 }
 
 // The end is reached: prints what the recording came to.
@@ -26,7 +24,7 @@ fn end(rt: &(impl Print + Eprint), s: Intake, im: &[u16; 8192], zm: &[u16; 8192]
 }
 
 // Reads piece by piece; one that is not full is the last. A loop that is proved to end cannot read for ever: 2^48 full pieces, 2^64 bytes,
-// are too long.
+// are too long. (The memories are lent one by one, as `dextolumen_feed` takes them.)
 fn receive(rt: &(impl Input + Print + Eprint), im: &mut [u16; 8192], zm: &mut [u16; 8192]) {
     let mut part = piece();
     let mut s = dextolumen_begin();

@@ -1,7 +1,7 @@
 -- What writing a text comes to, from the test on its way. Assumes nothing.
 use mathlib.Core.Path.{◌≡◌, refl, sym, ap, ◌∙◌}
 use mathlib.Core.List.{List}
-use Rattle.std.specs.Prelude.{Result, Ok, Err}
+use Rattle.std.specs.Prelude.{Result, Ok, Err, IsOk}
 use Rattle.std.specs.Result.{result_unwrap_or}
 use Prim.Native.Nat.{ℕ, ◌≤◌, ◌<◌}
 use native.Mathlib.Omega.{arith}
@@ -54,7 +54,15 @@ module _ (text old : List ℕ) {new : List ℕ} (answer : Result ℕ NoRoom) (en
   answer_fits q =
       let s = ap (λ (o : Outcome). o.refusal) (rw q at succeeds) in omega (arith, s)
 
-  -- so that its length is told, where a caller takes 0 for no room
+  -- so that it is done, as a caller asks that unwraps the answer
+  pub answer_done : IsOk answer
+  answer_done = go answer refl
+    where
+      go : (a : Result ℕ NoRoom) → answer ≡ a → IsOk a
+      go (Ok n) q = refl
+      go (Err none) q = absurd (answer_fits q)
+
+  -- and its length is told, where a caller takes 0 for no room
   pub answer_told : Stands text old new (result_unwrap_or answer 0)
   answer_told = go answer refl
     where

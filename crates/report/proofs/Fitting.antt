@@ -7,10 +7,10 @@ use lib.ListN.{length, get_or}
 use Rattle.report.specs.Text.{report}
 use Rattle.report.specs.Calls.{writing, wrote, Stands}
 use Rattle.report.specs.declared.NoRoom.{NoRoom}
-use Rattle.std.specs.Prelude.{Result, Ok, Err}
+use Rattle.std.specs.Prelude.{Result, Ok, Err, IsOk}
 use Rattle.std.specs.Result.{result_unwrap_or}
 use Rattle.report.proofs.Room.{report_short}
-use Rattle.report.proofs.Calls.{answer_stands, answer_fits, answer_told}
+use Rattle.report.proofs.Calls.{answer_stands, answer_fits, answer_done, answer_told}
 
 -- three numbers of 64 bits and 8,192 places of 16 bits: the text fits the page, so that it is written
 module _
@@ -40,6 +40,10 @@ module _
     pub text_fits : {none : NoRoom} → answer ≡ Err none → ⊥
     text_fits q = answer_fits (report words refusal passed line im zm) old answer enough e q
 
-    -- so that its length is told, where a caller takes 0 for no room
+    -- so that it is done, as a caller asks that unwraps the answer
+    pub text_done : IsOk answer
+    text_done = answer_done (report words refusal passed line im zm) old answer enough e
+
+    -- and its length is told, where a caller takes 0 for no room
     pub text_told : Stands (report words refusal passed line im zm) old new (result_unwrap_or answer 0)
     text_told = answer_told (report words refusal passed line im zm) old answer enough e

@@ -9,6 +9,8 @@ use crate::number::digits;
 use crate::page::Page;
 use crate::place::number_at;
 
+// (`most` and `line` stand side by side in all of these, as in the definitions of specs/Image.antt and in the calls that docs/CALLS.md names.)
+
 // How many bytes the heading takes: six, and the digits of the width, the height and the greatest number.
 fn size_of_heading(most: u16, line: u16, rows: usize) -> usize
     ensures { Sized (image_heading most line rows) 66 result }

@@ -9,7 +9,7 @@ pub struct Page<'a> {
     pub at: usize,
 }
 
-// Whether so many bytes have room from a place on.
+// Whether so many bytes have room from a place on. (No method of `Page`: the promise is of any three numbers, and `docs/CALLS.md` names it so.)
 pub fn has_room(room: usize, size: usize, at: usize) -> bool
     ensures { result ≡ leb (at + size) room }
 {

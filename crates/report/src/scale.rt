@@ -18,7 +18,7 @@ fn is_fresh(i: u16, z: u16) -> bool
     i == 0 && z == 65535
 }
 
-// The number of a place that is shown.
+// The number of a place that is shown. (`depth` is a bool here, in the calls below and in `to_levels`, as in the definitions that docs/CALLS.md names: `levels`, `chosen`.)
 fn chosen_of(depth: bool, i: u16, z: u16) -> u16
     ensures { result ≡ chosen depth i z }
 {
@@ -80,7 +80,7 @@ impl Range {
     }
 }
 
-// From the least number that is shown to the greatest.
+// From the least number that is shown to the greatest. (It begins above all numbers and below all, as `range_of` of specs/Levels.antt does, and not with no range.)
 fn range_of(depth: bool, im: &[u16], zm: &[u16]) -> Range
     ensures { result ≡ range_of depth im.now zm.now (length im.now) }
 {

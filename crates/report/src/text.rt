@@ -30,7 +30,8 @@ fn put_lines(line: u16, im: &[u16], zm: &[u16], page: &mut Page<'_>)
     }
 }
 
-// Writes the text to the front of `out`, or refuses where that is too short.
+// Writes the text to the front of `out`, or refuses where that is too short. (The numbers stand side by side, as in `writing` and in docs/CALLS.md: `Heading` has three of them
+// inside.)
 pub fn write(
     words: u64,
     refusal: u64,

@@ -8,8 +8,6 @@ use native.Mathlib.Omega.{arith}
 use borrow.Author.Tests.{ltb-true, ltb-false, eqb-false}
 use lib.ListN.{length, take, replicate, length-replicate}
 use lib.Dec.{ltb, eqb}
-use Rattle.std.specs.Prelude.{Result, Ok, Err, IsOk}
-use Rattle.report.specs.declared.NoRoom.{NoRoom}
 use Rattle.report.specs.Image.{image_heading, pixel_size, down, image}
 use Rattle.report.specs.Levels.{levels, level_image, drawn_places}
 use Rattle.report.proofs.Pages.{down_join}
@@ -19,11 +17,6 @@ use Rattle.machine.specs.Machine.{memories}
 use Rattle.chip.specs.Fresh.{fresh}
 use Rattle.console.specs.Room.{filled, Filled}
 use Rattle.show.specs.Show.{rows_holding, rows_shown, page_rows, pages}
-
--- what never lacks room is done
-pub is_done : (answer : Result ℕ NoRoom) → ((none : NoRoom) → answer ≡ Err none → ⊥) → IsOk answer
-is_done (Ok n) h = refl
-is_done (Err none) h = absurd (h none refl)
 
 -- rows that fit have a length
 pub rows_line : (places line rows : ℕ) → rows ≡ places / line → (rows ≡ 0 → ⊥) → 0 < line

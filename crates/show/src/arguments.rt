@@ -29,7 +29,7 @@ fn places_if(given: bool, arg: &[u8]) -> Result<Option<usize>, Usage>
     Ok(Some(places_of(arg)?))
 }
 
-// Which memory an argument names.
+// Which memory an argument names, if it does. (No `From`: most texts name none.)
 fn memory_of(arg: &[u8]) -> Option<Memory>
     ensures { result ≡ memory_of arg.now }
 {

@@ -12,7 +12,7 @@ ghost use Rattle.std.specs.Prelude.{◌≤◌, ◌≡◌, unwrap_or};
 
 use arguments::asked;
 use console::args::{argument, count};
-use console::say::{fail, say};
+use console::say::{fail, say, tell};
 use console::{blank, recording, take};
 use registers::Registers;
 use std::fmt;
@@ -25,7 +25,7 @@ enum Memory {
     Depth,
 }
 
-// What is to be shown: which memory, whether in levels, and how many places the memories have, if that is given.
+// What is to be shown: which memory, whether in levels (a setting, as the argument gives it), and how many places the memories have, if that is given.
 #[derive(Clone, Copy)]
 struct Wanted {
     memory: Memory,
@@ -86,9 +86,7 @@ fn show(rt: &(impl Print + Eprint), wanted: Wanted, bytes: &[u8])
     let mut zm = blank(65535);
     let room = wanted.room();
     let written = write_drawn(rt, wanted, bytes, &mut im[..room], &mut zm[..room]);
-    if let Err(error) = written {
-        fail(rt, "show: standard output", error);
-    }
+    tell(rt, "show: standard output", written);
 }
 
 // One byte more than a recording may have is enough to tell that it is too long.

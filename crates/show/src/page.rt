@@ -16,7 +16,8 @@ pub(crate) fn whole_rows(line: u16, places: usize) -> usize
     places / (line as usize)
 }
 
-// How many rows hold so many places.
+// How many rows hold so many places. (That a row has a place is asked for here and in the calls after it, each by itself: a struct for such a length would be asked for it at
+// its making alone, and taken apart in each of these.)
 fn rows_holding(line: u16, n: usize) -> usize
     requires { 0 < line }
     ensures { result ≡ rows_holding line n }

@@ -52,7 +52,7 @@ fn next(r: Registers, word: Word) -> Registers
         Word::Parm(v) => r.parm(v),
         Word::At(c, n) => r.coordinate(c, n),
         Word::Img(d) => r.img(d),
-        Word::Ptrn(v) => r.transferred(),
+        Word::Ptrn(_) => r.transferred(),
         // These are refused, so that none of them comes here.
         Word::Reserved | Word::Unmodelled | Word::Unknown => r,
     }
@@ -62,10 +62,7 @@ fn next(r: Registers, word: Word) -> Registers
 fn risen(above: Option<Above>) -> usize
     ensures { result ≡ risen above }
 {
-    match above {
-        Some(above) => above.height,
-        None => 0,
-    }
+    above.map_or(0, |above| above.height)
 }
 
 // The higher of the highest figure so far and one more.

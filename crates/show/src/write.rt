@@ -42,7 +42,7 @@ fn write_image(rt: &impl Print, most: u16, line: u16, rows: usize, memory: &[u16
     let size = put_heading(most, line, rows, &mut page);
     rt.write_all(&page[..size])?;
     let mut below = rows;
-    // not in even steps: the last page may have fewer rows
+    // No range in steps: the rows of a full page would be counted for the step, and once more, as many as are left at most, for the page.
     while 0 < below {
         let count = page_rows(line, below);
         let n = put_page(most, line, below, count, memory, &mut page);
@@ -100,7 +100,7 @@ fn write_shown(
     }
 }
 
-// Draws the bytes on fresh memories.
+// Draws the bytes on fresh memories, which are lent one by one here and below, as `run` takes them (docs/CALLS.md).
 fn drawn(bytes: &[u8], im: &mut [u16], zm: &mut [u16]) -> Ran
     requires { memories im.old zm.old ≡ fresh (length im.old) }
     ensures { ran (told result.outcome) result.index result.sum result.registers (left im zm) ≡ fresh_run (length im.old) bytes.now }

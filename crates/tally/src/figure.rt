@@ -21,7 +21,8 @@ fn muted(mut r: Registers) -> Registers
     r
 }
 
-// How many pixels a figure offers. With those registers all of them pass, and none is stored.
+// How many pixels a figure offers. With those registers all of them pass, and none is stored. (The memories are lent one by one, as chip's `step`
+// takes them beside it.)
 pub(crate) fn offered_by(r: Registers, figure: Completed, im: &mut [u16], zm: &mut [u16]) -> u64
     ensures { Offered r figure im zm result }
 {

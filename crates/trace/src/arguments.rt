@@ -34,6 +34,7 @@ pub(crate) fn asked(count: usize, first: &[u8], second: &[u8]) -> Result<Option<
     if count != 3 {
         return Err(Usage::Unclear);
     }
+    // `ok_or` and `?` were tried here: the proof did not close as it stands, since both ways out go through what `?` hands on
     let Some(x) = coordinate(first) else {
         return Err(Usage::Unclear);
     };

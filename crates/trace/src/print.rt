@@ -2,9 +2,8 @@
 ghost use Rattle.report.specs.Calls.{OnPage};
 
 use chip::run::Ran;
-use console::say::{fail, say, say_refused};
+use console::say::{refuse, say, say_refused};
 use console::{blank, piece};
-use ground::Refusal;
 use registers::Registers;
 use report::Page;
 use std::io;
@@ -21,7 +20,8 @@ fn begun() -> Ran {
     }
 }
 
-// The next word, traced or watched, with its line on the page. The two calls take different things, so that a closure would be no plainer.
+// The next word, traced or watched, with its line on the page. The two calls take different things, so that a closure would be no plainer. (They take
+// the memories one by one, as docs/CALLS.md has it.)
 #[tactic(auto, using(report::proofs::Laying::lays_within))]
 fn turn(
     pixel: Option<Pixel>,
@@ -72,22 +72,13 @@ fn print_words(
 
 // Says that standard output did not take all, if it did not.
 fn tell(rt: &impl Eprint, printed: io::Result<()>) {
-    if let Err(error) = printed {
-        fail(rt, "trace: standard output", error);
-    }
+    console::say::tell(rt, "trace: standard output", printed);
 }
 
-// Prints what refuses a stream, and says it as well. It is no line of a word, so that nothing takes it for the trace of an empty recording.
-fn refuse(rt: &(impl Print + Eprint), refusal: Refusal) {
-    let number = u64::from(refusal);
-    say(rt, format_args!("trace: refusal {number}"));
-    tell(rt, println!(rt; "refusal {number}"));
-}
-
-// Traces a stream on fresh memories, or tells the number that refuses it.
+// Traces a stream on fresh memories, or prints the number that refuses it, which is no line of a word, so that nothing takes it for the trace of an empty recording.
 fn print_stream(rt: &(impl Print + Eprint), pixel: Option<Pixel>, bytes: &[u8]) {
     if let Err(refusal) = checked(bytes) {
-        refuse(rt, refusal);
+        tell(rt, refuse(rt, "trace", refusal));
         return;
     }
     let mut im = blank(0);

@@ -33,7 +33,7 @@ fn subject_of(number: u16, place: u64) -> Meaning
     }
 }
 
-// The row of a triangle.
+// The row of a triangle. (The test is made once here, as in `is_constant`, and once where triangles are drawn: a method of `Registers` would be no plainer than it.)
 fn triangle_row(registers: Registers) -> u64
     ensures { result ≡ (if is_constant registers then 17 else 16) }
 {
@@ -89,7 +89,7 @@ fn coordinate_meaning(registers: Registers, coordinate: Coordinate, number: u16)
     }
 }
 
-// What a word means.
+// What a word means. (13 and 14 here are rows of listing's table, as those above.)
 #[tactic(auto, unfolding(crate::specs::Meaning::meaning_of))]
 pub(crate) fn meaning(registers: Registers, word: Word) -> Meaning
     ensures { result ≡ meaning_of registers word }

@@ -21,11 +21,11 @@ pub(crate) struct Taken {
 }
 
 // Whether nothing is left.
-#[tactic(auto, unfolding(crate::specs::Trace::is_over))]
+#[tactic(auto, using(ground::proofs::Numbers::number_positive), unfolding(crate::specs::Trace::is_over))]
 pub(crate) fn is_over(run: Ran, bytes: &[u8]) -> bool
     ensures { result ≡ is_over bytes.now (told run.outcome) run.index }
 {
-    number_of(run.outcome) != 0 || held(bytes) as u64 <= run.index
+    run.outcome.is_err() || held(bytes) as u64 <= run.index
 }
 
 // The run after an answer.
@@ -48,7 +48,7 @@ fn move_on(run: Ran, answer: Result<Answer, Refusal>) -> Ran
     }
 }
 
-// Takes the next word.
+// Takes the next word. (The memories are lent one by one, as `step` takes them, here and in the calls of this crate.)
 #[tactic(auto, using(stream::proofs::Round::word_fits))]
 pub(crate) fn take(run: Ran, bytes: &[u8], im: &mut [u16], zm: &mut [u16]) -> Taken
     requires { is_over bytes.now (told run.outcome) run.index ≡ false }

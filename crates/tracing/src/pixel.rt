@@ -55,7 +55,7 @@ impl Pixel {
         draw(self.aim(registers), figure, &mut m)
     }
 
-    // How many pixels PTRN has there: its own, or none.
+    // How many pixels PTRN has there: its own, or none. A count, so that `hits` tells it in one with those of figures; over memories of so many places, as `loads_at` has it.
     #[tactic(auto, unfolding(crate::specs::Watch::loads_at))]
     fn loads(self, registers: Registers, ni: usize, nz: usize) -> u64
         ensures { result ≡ loads_at self.x self.y registers ni nz }
@@ -64,7 +64,7 @@ impl Pixel {
         let rows = rows_of(frame, ni, nz);
         let here = region.x == self.x && region.y == self.y;
         let inside = self.x < frame.line && (self.y as usize) < rows;
-        if here && inside { 1 } else { 0 }
+        u64::from(here && inside)
     }
 
     // How many pixels a word has there, if it is accepted.

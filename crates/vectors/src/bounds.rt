@@ -4,7 +4,8 @@ use crate::word::row;
 use registers::{Parked, Registers};
 use std::io;
 
-// A word that would draw, from a record that breaks a bound.
+// A word that would draw, from a record that breaks a bound. (No closure breaks it in here: what it asks for and leaves would be said here besides, and a line that sets a number says as
+// plainly which.)
 fn broken(rt: &impl Print, name: &str, r: Registers) -> io::Result<()> {
     row::<256>(rt, name, r, 4, 8)
 }

@@ -12,7 +12,7 @@ fn packed(rt: &impl Print, name: &str, words: &[u32]) -> io::Result<()> {
     print_call(rt, name, answer.map(|n| n as u64), is_all(&out, 0xA5))
 }
 
-// Unpacks bytes into two words that were lent.
+// Unpacks bytes into two words that were lent. (Beside `packed`: the two calls take and lend different things, so that all of it but the last line would be passed in.)
 fn unpacked(rt: &impl Print, name: &str, bytes: &[u8]) -> io::Result<()> {
     let mut out = [0xA5A5A5u32; 2];
     let answer = unpack(bytes, &mut out);

@@ -11,7 +11,7 @@ mod streams;
 mod text;
 mod word;
 
-use console::say::fail;
+use console::say::tell;
 use std::io;
 use std::rt::Files;
 
@@ -25,7 +25,5 @@ fn rows(rt: &(impl Files + Print + Eprint)) -> io::Result<()> {
 }
 
 fn main(rt: HostRuntime) {
-    if let Err(error) = rows(&rt) {
-        fail(&rt, "vectors: standard output", error);
-    }
+    tell(&rt, "vectors: standard output", rows(&rt));
 }

@@ -4,7 +4,7 @@ use native.Mathlib.Omega.{arith}
 use Rattle.ground.proofs.Numbers.{number_positive}
 use Rattle.stream.proofs.Round.{word_fits}
 use Rattle.mending.proofs.Sorting.{kept_more, kept_past, kept_end}
-use Rattle.mending.proofs.sort.kept.Goals.{in-Ok, in-Err}
+use Rattle.mending.proofs.sort.kept.Goals.{in-Ok, in_default}
 use Rattle.mending.proofs.sort.kept.Goals as goal
 
 pub tried-requires : goal.tried-requires
@@ -21,11 +21,11 @@ loop-k-preserved c =
             few = omega (arith, i.few);
             so_far_lem = kept_more _ below refl c.word.ensures w.in-Ok.ensures refl i.so_far_lem;
           })
-      | in-Err w ↦
+      | in_default w ↦
           rw (w.r-is, w.j-is)
           (record {
             few = omega (arith, i.few);
-            so_far_lem = kept_past _ below refl c.word.ensures w.in-Err.ensures (λ z. omega (arith, number_positive w.in-Err.field-0, z)) i.so_far_lem;
+            so_far_lem = kept_past _ below refl c.word.ensures w.in_default.ensures (λ z. omega (arith, number_positive w.in_default.field-0, z)) i.so_far_lem;
           })
     ]
 

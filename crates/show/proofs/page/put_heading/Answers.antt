@@ -3,15 +3,14 @@ use native.Mathlib.Omega.{arith}
 use borrow.Author.Rules.{rules}
 use Rattle.report.specs.Image.{image_heading}
 use Rattle.report.proofs.Pages.{image_heading_short}
-use Rattle.report.proofs.Calls.{answer_stands, answer_fits}
-use Rattle.show.proofs.Pages.{is_done}
+use Rattle.report.proofs.Calls.{answer_stands, answer_done}
 use Rattle.show.proofs.page.put_heading.Goals as goal
 
 pub unwrap-requires : goal.unwrap-requires
 unwrap-requires c =
     let a = c.args in
     let short = image_heading_short a.most a.line a.rows (search rules) (search rules) (search rules) in
-    is_done _ (λ none e. answer_fits (image_heading a.most a.line a.rows) a.page.now _ (omega (arith, short)) c.image_heading.ensures e)
+    answer_done (image_heading a.most a.line a.rows) a.page.now _ (omega (arith, short)) c.image_heading.ensures
 
 pub returns : goal.returns
 returns c =

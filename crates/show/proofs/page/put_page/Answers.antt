@@ -2,16 +2,15 @@
 use native.Mathlib.Omega.{arith}
 use Rattle.report.specs.Image.{down}
 use Rattle.report.proofs.Pages.{length_down}
-use Rattle.report.proofs.Calls.{answer_stands, answer_fits}
-use Rattle.show.proofs.Pages.{page_sized, is_done}
+use Rattle.report.proofs.Calls.{answer_stands, answer_done}
+use Rattle.show.proofs.Pages.{page_sized}
 use Rattle.show.proofs.page.put_page.Goals as goal
 
 pub unwrap-requires : goal.unwrap-requires
 unwrap-requires c =
     let a = c.args in
     let size = length_down a.most a.line a.memory.now a.below a.count in
-    is_done _
-    (λ none e. answer_fits (down a.most a.line a.memory.now a.below a.count) a.page.now _ (omega (arith, size, page_sized a.line a.most a.count c.requires)) c.image_rows.ensures e)
+    answer_done (down a.most a.line a.memory.now a.below a.count) a.page.now _ (omega (arith, size, page_sized a.line a.most a.count c.requires)) c.image_rows.ensures
 
 pub returns : goal.returns
 returns c =

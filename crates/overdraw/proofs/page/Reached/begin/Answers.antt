@@ -1,5 +1,5 @@
 -- `page::Reached::begin` meets its contract: the heading, and no recording. Assumes nothing.
-use Rattle.std.proofs.Common.{refl, arith}
+use Rattle.std.proofs.Common.{refl}
 use Rattle.overdraw.proofs.Coming.{come_none}
 use Rattle.overdraw.proofs.page.Reached.begin.Goals as goal
 
