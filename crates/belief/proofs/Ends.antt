@@ -6,7 +6,7 @@ use Prim.Native.Nat.{ℕ, min, ◌≤◌, ◌<◌}
 use native.Mathlib.Omega.{arith}
 use lib.Dec.{eqb, ltb}
 use borrow.Author.Tests.{ltb-true, ltb-false, lt-ltb, le-ltb, eqb-true, eqb-false, eq-eqb, ne_eqb}
-use Rattle.picture.specs.declared.Compared.TheVariants.{Nearer, Equal, Farther}
+use Rattle.std.proofs.Common.{Less, Equal, Greater}
 use Rattle.picture.specs.Offer.{Offer}
 use Rattle.picture.specs.Picture.{compared_of, is_edge, wins}
 use Rattle.picture.specs.Cell.{Cell, cell}
@@ -79,7 +79,7 @@ front_ends o os c = go (ltb o.z c.z) (eqb o.z c.z) refl refl
         (ap (λ (v : ℕ). cell (last_line (least v os) os (unlined (least c.z os) c os)) (least c.z os)) (sym m))
 
     go : (a b : Bool) → ltb o.z c.z ≡ a → eqb o.z c.z ≡ b
-        → ends (cond (wins o.kind (cond a Nearer (cond b Equal Farther))) (cell o.i o.z) c) os ≡ ends c (o ∷ os)
+        → ends (cond (wins o.kind (cond a Less (cond b Equal Greater))) (cell o.i o.z) c) os ≡ ends c (o ∷ os)
     go true b e f =
         let h : o.z < c.z = ltb-true _ _ e in
         let m : min c.z o.z ≡ o.z = omega arith in

@@ -4,7 +4,7 @@ use Rattle.picture.specs.declared.Pen.{Pen}
 use Rattle.picture.specs.declared.Vertex.{Vertex}
 use Rattle.picture.specs.Limits.{largest_border}
 use Rattle.picture.specs.Place.{frame_of}
-use Rattle.picture.specs.Lent.{Lent, Draws}
+use Rattle.picture.specs.Lent.{Lent, DrawsApart}
 use Rattle.line.specs.declared.Style.{Style}
 use Rattle.line.specs.Segment.{mode_of, segment_offers}
 use Rattle.triangle.specs.Offers.{triangle_offers}
@@ -37,12 +37,12 @@ style_of mode pattern foreground background = record { mode = mode_of mode; patt
 -- a triangle was drawn over memories of so long lines in a layout, and so many of its pixels passed
 abbrev pub DrawsTriangle : ℕ → ℕ → Bool → Vertex → Vertex → Vertex → Lent → Lent → ℕ → Type 0
 DrawsTriangle line layout constant a b c im zm passed =
-    Draws (pen_of line layout) (λ rows. triangle_offers (pen_of line layout) rows constant a b c) im zm 0 passed
+    DrawsApart (pen_of line layout) (λ rows. triangle_offers (pen_of line layout) rows constant a b c) im zm 0 passed
 
 -- and so a segment, in a style
 abbrev pub DrawsSegment : ℕ → ℕ → Style → Vertex → Vertex → Lent → Lent → ℕ → Type 0
 DrawsSegment line layout style a b im zm passed =
-    Draws (pen_of line layout) (λ rows. segment_offers (pen_of line layout) rows style a b) im zm 0 passed
+    DrawsApart (pen_of line layout) (λ rows. segment_offers (pen_of line layout) rows style a b) im zm 0 passed
 
 -- the length that a call on packed streams tells, and what it leaves
 pub record Wrote (outcome : Outcome) (told : ℕ) (left : List ℕ) : Type 0 where

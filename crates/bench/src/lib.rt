@@ -5,18 +5,17 @@ ghost use Rattle.std.specs.Prelude.{◌≡◌, length};
 ghost use Rattle.stream.specs.Calls.{size_of, packing, unpacking};
 ghost use Rattle.bench.specs.Bench.{pen_of, style_of, vertex_of, DrawsTriangle, DrawsSegment, Wrote};
 
-use line::{Style, mode_of};
+use ground::Refusal;
+use line::{Mode, Style};
 use picture::limits::LARGEST_BORDER;
-use picture::{Frame, Pen, Vertex};
-use stream::Coded;
+use picture::{Frame, Memories, Pen, Vertex};
 
 // The pen of the benchmark: depth test on, both enables, all planes, the widest window.
 fn pen_of(line: u16, layout: u16) -> Pen
     ensures { result ≡ pen_of line layout }
 {
-    let frame = Frame { line, layout };
     Pen {
-        frame,
+        frame: Frame { line, layout },
         left: 0,
         right: LARGEST_BORDER,
         bottom: 0,
@@ -62,7 +61,8 @@ pub extern "C" fn dextolumen_bench_triangle(
     let a = vertex_of(ax, ay, ai, az);
     let b = vertex_of(bx, by, bi, bz);
     let c = vertex_of(cx, cy, ci, cz);
-    triangle::draw::triangle(pen_of(line, layout), constant, a, b, c, im, zm)
+    let mut m = Memories { i: im, z: zm };
+    triangle::draw::triangle(pen_of(line, layout), constant, a, b, c, &mut m)
 }
 
 // Draws a segment.
@@ -89,29 +89,23 @@ pub extern "C" fn dextolumen_bench_segment(
 {
     let a = vertex_of(ax, ay, ai, az);
     let b = vertex_of(bx, by, bi, bz);
-    let m = mode_of(mode as u16);
     let style = Style {
-        mode: m,
+        mode: Mode::from(u16::from(mode)),
         pattern,
         foreground,
         background,
         steps: 0,
         joined: false,
     };
-    line::segment(pen_of(line, layout), style, a, b, im, zm)
+    let mut m = Memories { i: im, z: zm };
+    line::segment(pen_of(line, layout), style, a, b, &mut m)
 }
 
 // The length that a call on packed streams tells.
-fn size_of(answer: Coded) -> u64
+fn size_of(answer: Result<usize, Refusal>) -> u64
     ensures { result ≡ size_of answer }
 {
-    match answer {
-        Coded::Done(n) => n as u64,
-        Coded::BadWord => 0,
-        Coded::BadLength => 0,
-        Coded::BadTail => 0,
-        Coded::NoRoom => 0,
-    }
+    answer.unwrap_or(0) as u64
 }
 
 // Packs words.
@@ -122,7 +116,7 @@ pub extern "C" fn dextolumen_bench_pack(words: &[u32], out: &mut [u8]) -> u64
     size_of(stream::write::pack(words, out))
 }
 
-// Unpacks a stream.
+// Unpacks a stream. (C has no generic function: the benchmark calls both by name.)
 #[unsafe(no_mangle)]
 pub extern "C" fn dextolumen_bench_unpack(bytes: &[u8], out: &mut [u32]) -> u64
     ensures { Wrote (unpacking bytes.now out.old) result out.new }

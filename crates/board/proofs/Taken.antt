@@ -1,13 +1,12 @@
 -- The ways out of a board's calls: a word, a read, reset. Assumes nothing.
-use Rattle.std.proofs.Common.{◌≡◌, ℕ, ◌/◌, ◌%◌, ◌<◌, Bool, true, false, cond, not, eqb, ltb, ◌≢◌, sym, ap, ◌∙◌, ne_eqb}
+use Rattle.std.proofs.Common.{◌≡◌, ℕ, ◌<◌, Bool, true, false, cond, not, eqb, ltb, ◌≢◌, sym, ap, ◌∙◌, ne_eqb}
 use borrow.Author.Tests.{not-true, not-false}
 use Rattle.registers.specs.declared.word.Word.{Word}
-use Rattle.registers.specs.Word.{decode, word_of}
+use Rattle.registers.specs.Word.{decode}
 use Rattle.refusals.proofs.Commands.{decode_unknown}
 use Rattle.ground.proofs.Truth.{both}
 use Rattle.machine.specs.Run.{Outcome, outcome}
-use Rattle.chip.specs.declared.transfer.Reading.{Reading}
-use Rattle.chip.specs.Read.{reading}
+use Rattle.chip.specs.Read.{ReadOutcome, reading}
 use Rattle.board.specs.declared.Board.{Board}
 use Rattle.board.specs.declared.step.Reply.{Reply}
 use Rattle.board.specs.Bank.{Bank, is_even}
@@ -23,11 +22,6 @@ whole_low b even {whole} is goes =
     ways_low b.units (board_ways b.units (both _ _ (both _ _ (sym is ∙ not-false whole goes)).0).0)
 
 -- ---- a word
-
--- a word of twenty bits is its command and its data
-pub step_word : (b : Board) (m : Bank) {o : Outcome Board Bank} {n v : ℕ} → n ≡ v → o ≡ board_step b (decode (n / 65536) (n % 65536)) m → o ≡ board_step b (word_of v) m
-unfolding word_of
-step_word b m same told = told ∙ ap (λ (k : ℕ). board_step b (decode (k / 65536) (k % 65536)) m) same
 
 module _ (b : Board) (m : Bank) {even whole : Bool} (like : even ≡ is_even b.units m) (is : whole ≡ is_whole_by b even) where
   whole_is : whole ≡ is_whole b m
@@ -66,7 +60,7 @@ module _ (b : Board) (m : Bank) {even : Bool} (like : even ≡ is_even b.units m
   read_refused some = rw (sym number_is, ne_eqb number 0 some)
 
   -- the chip reads
-  pub read_taken : number ≡ 0 → {a : Reading} → a ≡ reading b.registers m.first → read_by b.units a ≡ board_reading b m
+  pub read_taken : number ≡ 0 → {a : ReadOutcome} → a ≡ reading b.registers m.first → read_by b.units a ≡ board_reading b m
   unfolding board_reading
   read_taken none {a} told = ap (read_by b.units) told ∙ rw (sym number_is ∙ none)
 

@@ -1,6 +1,8 @@
 -- What a word does to a board of one, two or four units (document 02, [8]). Each unit is a chip whose memories hold its own columns alone; the board
 -- keeps the registers that one chip would have.
-use Rattle.std.specs.Prelude.{◌≡◌, ℕ, ◌+◌, ◌^◌, ◌<◌, Bool, cond, ◌&&◌, ◌==◌, nat_lt}
+use Rattle.std.specs.Prelude.{◌≡◌, ℕ, ◌+◌, ◌^◌, ◌<◌, Bool, cond, ◌&&◌, ◌==◌, nat_lt, Result, Ok, Err}
+use Rattle.ground.specs.declared.Refusal.{Refusal}
+use Rattle.ground.specs.Refusal.{number}
 use Rattle.registers.specs.declared.Registers.{Registers}
 use Rattle.registers.specs.declared.word.Word.{Word}
 use Rattle.registers.specs.Record.{laid}
@@ -11,6 +13,7 @@ use Rattle.chip.specs.Chip.{chip}
 use Rattle.chip.specs.Units.{unit_layout}
 use Rattle.board.specs.declared.Board.{Board}
 use Rattle.board.specs.declared.step.Reply.{Reply}
+use Rattle.board.specs.declared.step.Taken.{Taken}
 use Rattle.board.specs.Bank.{Bank, bank, memories_of, is_even}
 use Rattle.board.specs.Door.{is_board, unit_word}
 
@@ -57,6 +60,11 @@ is_whole b m = is_whole_by b (is_even b.units m)
 -- a word, through the door: 2 for a board or memories that are not such, after 1 for a command above 15
 unfoldable pub board_step : Step Word Board Bank
 board_step b w m = cond (is_whole b m) (units_step b (unit_word b.units w) m) (refused (cond (is_unknown w) 1 2) b m)
+
+-- what the code's answer is to C: a refused word passes no pixel, and leaves the board that came in
+abbrev pub reply_of : Board → Result Taken Refusal → Reply
+reply_of b (Ok taken) = record { refusal = 0; passed = taken.passed; board = taken.board }
+reply_of b (Err refusal) = record { refusal = number refusal; passed = 0; board = b }
 
 -- what an answer and the memories that were left come to
 abbrev pub replied_of : Reply → Bank → Outcome Board Bank

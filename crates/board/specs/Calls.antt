@@ -1,12 +1,13 @@
 -- Reset, the read call and packed streams on a board (document 02, [8]).
-use Rattle.std.specs.Prelude.{◌≡◌, ℕ, Bool, false, cond, not, ◌||◌, List, [], ◌∷◌, ◌==◌}
+use Rattle.std.specs.Prelude.{◌≡◌, ℕ, Bool, false, cond, not, ◌||◌, List, [], ◌∷◌, ◌==◌, Result, Ok, Err}
+use Rattle.ground.specs.declared.Refusal.{Refusal}
+use Rattle.ground.specs.Refusal.{number}
 use Rattle.stream.specs.Calls.{checked}
 use Rattle.registers.specs.Record.{reset_of}
 use Rattle.refusals.specs.Bounds.{in_bounds}
 use Rattle.refusals.specs.Refusal.{is_cold, lowest}
 use Rattle.machine.specs.Run.{Ran, ran, run_of}
-use Rattle.chip.specs.declared.transfer.Reading.{Reading}
-use Rattle.chip.specs.Read.{reading}
+use Rattle.chip.specs.Read.{ReadOutcome, reading}
 use Rattle.chip.specs.Stream.{words_of}
 use Rattle.board.specs.declared.Board.{Board}
 use Rattle.board.specs.declared.Started.{Started}
@@ -21,6 +22,11 @@ use Rattle.board.specs.Board.{board, is_whole_by, board_step}
 -- a board of so many units after reset: 9 for another number than 1, 2 or 4, and then a board of one
 unfoldable pub resetting : ℕ → Started
 resetting units = cond (is_board units) (record { refusal = 0; board = board units reset_of }) (record { refusal = 9; board = board 1 reset_of })
+
+-- what the code's answer is to C: refused, a board of one
+abbrev pub started_of : Result Board Refusal → Started
+started_of (Ok b) = record { refusal = 0; board = b }
+started_of (Err refusal) = record { refusal = number refusal; board = board 1 reset_of }
 
 -- ---- the read call
 
@@ -41,7 +47,7 @@ abbrev pub read_number : Board → Bank → ℕ
 read_number b m = read_number_by b (is_even b.units m)
 
 -- the chip's answer, with its registers on the board
-abbrev pub read_by : ℕ → Reading → Seen
+abbrev pub read_by : ℕ → ReadOutcome → Seen
 read_by units a = seen a.refusal a.pixel (board units a.registers)
 
 -- past them, the chip's own read, of the one unit that there is; refused: the number and pixel 0, and the board as it was

@@ -18,21 +18,23 @@ fn solo_data(units: u16, data: u16) -> u16
 }
 
 // The command that the units are given: on several, A hex for 0 and 9.
+#[tactic(auto, using(std::proofs::lemmas::Bool::Decides::nat_tests), unfolding(crate::specs::Door::command_of))]
 pub(crate) fn command_of(units: u16, command: u8) -> u8
     ensures { result ≡ command_of units command }
 {
-    if (1 < units) & ((command == 0) | (command == 9)) {
-        return 10;
+    match command {
+        0 | 9 if 1 < units => 10,
+        _ => command,
     }
-    command
 }
 
 // The data that they are given: INIT's with a single chip's code.
+#[tactic(auto, using(std::proofs::lemmas::Bool::Decides::nat_tests), unfolding(crate::specs::Door::data_of))]
 pub(crate) fn data_of(units: u16, command: u8, data: u16) -> u16
     ensures { result ≡ data_of units command «data» }
 {
-    if command == 15 {
-        return solo_data(units, data);
+    match command {
+        15 => solo_data(units, data),
+        _ => data,
     }
-    data
 }

@@ -4,8 +4,10 @@
 #![tactic(auto)]
 
 ghost use Rattle.std.specs.Prelude.{◌≡◌};
+ghost use Rattle.registers.specs.Record.{reset_of};
 ghost use Rattle.board.specs.Door.{is_board};
-ghost use Rattle.board.specs.Calls.{resetting};
+ghost use Rattle.board.specs.Board.{board, is_whole_by};
+ghost use Rattle.board.specs.Calls.{resetting, started_of};
 
 mod door;
 pub mod read;
@@ -13,6 +15,7 @@ pub mod run;
 pub mod step;
 mod unit;
 
+use ground::Refusal;
 use registers::Registers;
 
 // The number of units, and the registers, which are those of one chip.
@@ -23,7 +26,8 @@ pub struct Board {
     pub registers: Registers,
 }
 
-// The answer to a reset: the number that refuses it, 0 for accepted, and the board.
+// The answer to a reset: the number that refuses it, 0 for accepted, and the board. C has the struct and those of the other
+// calls, so that their fields are numbers.
 #[repr(C)]
 #[derive(Clone, Copy)]
 pub struct Started {
@@ -31,11 +35,44 @@ pub struct Started {
     pub board: Board,
 }
 
+impl Board {
+    // A board of one unit after reset.
+    pub(crate) fn single() -> Board
+        ensures { result ≡ board 1 reset_of }
+    {
+        Board {
+            units: 1,
+            registers: Registers::reset(),
+        }
+    }
+
+    // Whether a board has 1, 2 or 4 units, rows as one chip has them, and memories of one length.
+    pub(crate) fn is_whole(self, even: bool) -> bool
+        ensures { result ≡ is_whole_by self even }
+    {
+        is_board(self.units as u64) & (self.registers.frame.layout == 0) & even
+    }
+}
+
 // Whether a board may have so many units.
-pub(crate) fn is_board(units: u64) -> bool
+#[tactic(auto, using(std::proofs::lemmas::Bool::Decides::nat_tests), unfolding(crate::specs::Door::is_board))]
+fn is_board(units: u64) -> bool
     ensures { result ≡ is_board units }
 {
-    (units == 1) | (units == 2) | (units == 4)
+    matches!(units, 1 | 2 | 4)
+}
+
+// A board of so many units after reset.
+pub(crate) fn reset(units: u64) -> Result<Board, Refusal>
+    ensures { started_of result ≡ resetting units }
+{
+    if !is_board(units) {
+        return Err(Refusal::NotAllowed);
+    }
+    Ok(Board {
+        units: units as u16,
+        registers: Registers::reset(),
+    })
 }
 
 // A board of so many units after reset; of one, where it may not have so many.
@@ -43,21 +80,11 @@ pub(crate) fn is_board(units: u64) -> bool
 pub extern "C" fn dextolumen_board_reset(units: u64) -> Started
     ensures { result ≡ resetting units }
 {
-    let registers = Registers::reset();
-    if is_board(units) {
-        return Started {
-            refusal: 0,
-            board: Board {
-                units: units as u16,
-                registers: registers,
-            },
-        };
-    }
-    Started {
-        refusal: 9,
-        board: Board {
-            units: 1,
-            registers: registers,
+    match reset(units) {
+        Ok(board) => Started { refusal: 0, board },
+        Err(refusal) => Started {
+            refusal: refusal.into(),
+            board: Board::single(),
         },
     }
 }

@@ -1,15 +1,17 @@
 // The read call.
 ghost use Rattle.std.specs.Prelude.{◌≡◌};
-ghost use Rattle.board.specs.Calls.{read_number_by, board_reading};
+ghost use Rattle.ground.specs.Refusal.{told, number};
+ghost use Rattle.board.specs.Calls.{read_number_by, board_reading, seen};
 ghost use Rattle.board.specs.Bank.{lent};
 
 use crate::Board;
-use crate::step::is_whole;
 use crate::unit::is_even;
 use chip::transfer::read;
+use ground::Refusal;
 use refusals::bounds::is_sound;
 
 // The answer to a read: the number that refuses it, 0 for accepted; the pixel, 0 where it is refused; and the next board.
+// C has the struct, so that its fields are numbers.
 #[repr(C)]
 #[derive(Clone, Copy)]
 pub struct Seen {
@@ -18,21 +20,31 @@ pub struct Seen {
     pub board: Board,
 }
 
-// The number that the board itself gives: 2, 3, and 5 on several units; 0 for none.
-fn read_number(board: Board, even: bool) -> u64
-    ensures { result ≡ read_number_by board even }
+// What the board itself refuses a read for: 2, 3, and 5 on several units.
+fn checked(board: Board, even: bool) -> Result<(), Refusal>
+    ensures { told result ≡ read_number_by board even }
 {
-    let registers = board.registers;
-    if !is_whole(board, even) | !is_sound(registers) {
-        return 2;
+    if !board.is_whole(even) | !is_sound(board.registers) {
+        return Err(Refusal::Unsound);
     }
-    if registers.started == 0 {
-        return 3;
+    if board.registers.started == 0 {
+        return Err(Refusal::NotStarted);
     }
     if 1 < board.units {
-        return 5;
+        return Err(Refusal::NotModelled);
     }
-    0
+    Ok(())
+}
+
+// An answer of no pixel that leaves the board as it was.
+fn refused(refusal: Refusal, board: Board) -> Seen
+    ensures { result ≡ seen (number refusal) 0 board }
+{
+    Seen {
+        refusal: refusal.into(),
+        pixel: 0,
+        board,
+    }
 }
 
 // Reads the region's pixel of the one unit and moves the region on, or refuses and leaves the board as it was.
@@ -50,35 +62,19 @@ pub extern "C" fn dextolumen_board_read(
 ) -> Seen
     ensures { result ≡ board_reading board (lent i0.now z0.now i1.now z1.now i2.now z2.now i3.now z3.now) }
 {
-    let units = board.units;
-    let even = is_even(
-        units,
-        i0.len(),
-        z0.len(),
-        i1.len(),
-        z1.len(),
-        i2.len(),
-        z2.len(),
-        i3.len(),
-        z3.len(),
-    );
-    let number = read_number(board, even);
-    if number != 0 {
-        return Seen {
-            refusal: number,
-            pixel: 0,
-            board: board,
-        };
+    let even = is_even(board.units, i0, z0, i1, z1, i2, z2, i3, z3);
+    if let Err(refusal) = checked(board, even) {
+        return refused(refusal, board);
     }
-    let r = board.registers;
-    let a = read(r, i0, z0);
-    let next = a.registers;
-    Seen {
-        refusal: a.refusal,
-        pixel: a.pixel,
-        board: Board {
-            units: units,
-            registers: next,
+    match read(board.registers, i0, z0) {
+        Ok(reading) => Seen {
+            refusal: 0,
+            pixel: reading.pixel,
+            board: Board {
+                registers: reading.registers,
+                ..board
+            },
         },
+        Err(refusal) => refused(refusal, board),
     }
 }

@@ -1,18 +1,21 @@
 // A packed stream, from reset.
 ghost use Rattle.std.specs.Prelude.{◌≡◌};
+ghost use Rattle.ground.specs.Refusal.{number};
 ghost use Rattle.stream.specs.Format.{word_at};
 ghost use Rattle.registers.specs.Word.{word_of};
-ghost use Rattle.board.specs.Board.{TakesOn};
+ghost use Rattle.board.specs.Board.{TakesOn, reply_of};
 ghost use Rattle.board.specs.Calls.{words_from, running_from, ended_of, RunsOn};
 ghost use Rattle.board.specs.Bank.{found_in, left_in};
 
-use crate::step::{Reply, dextolumen_board_step};
+use crate::step::{Taken, step};
 use crate::unit::is_even;
-use crate::{Board, dextolumen_board_reset};
-use stream::read::{flaw, held, word};
+use crate::{Board, reset};
+use ground::Refusal;
+use registers::word::parts;
+use stream::read::{checked, held, word};
 
 // How a run ended: the number that refused the number of units, a word or the stream, 0 for none; the index of that word, or how many words there are; the
-// sum of the counts of the words before it, modulo 2^64; and the board.
+// sum of the counts of the words before it, modulo 2^64; and the board. C has the struct, so that its fields are numbers.
 #[repr(C)]
 #[derive(Clone, Copy)]
 pub struct Ended {
@@ -23,6 +26,7 @@ pub struct Ended {
 }
 
 // The word at place k of a stream, taken.
+#[tactic(auto, using(stream::proofs::Round::word_fits), unfolding(registers::specs::Word::word_of))]
 fn step_at(
     board: Board,
     bytes: &[u8],
@@ -35,26 +39,15 @@ fn step_at(
     z2: &mut [u16],
     i3: &mut [u16],
     z3: &mut [u16],
-) -> Reply
-    ensures { TakesOn board (word_of (word_at bytes.now k)) (found_in i0 z0 i1 z1 i2 z2 i3 z3) result (left_in i0 z0 i1 z1 i2 z2 i3 z3) }
+) -> Result<Taken, Refusal>
+    ensures { TakesOn board (word_of (word_at bytes.now k)) (found_in i0 z0 i1 z1 i2 z2 i3 z3) (reply_of board result) (left_in i0 z0 i1 z1 i2 z2 i3 z3) }
 {
-    let w = word(bytes, k);
-    dextolumen_board_step(
-        board,
-        (w / 65536) as u8,
-        (w % 65536) as u16,
-        i0,
-        z0,
-        i1,
-        z1,
-        i2,
-        z2,
-        i3,
-        z3,
-    )
+    let (command, data) = parts(word(bytes, k));
+    step(board, command, data, i0, z0, i1, z1, i2, z2, i3, z3)
 }
 
-// The words of a stream, one after the other, until one is refused.
+// The words of a stream, one after the other, until one is refused. (`chip` and `tally` have this loop over what a word changes there. A generic one would
+// need a trait of that, with its law: here a board and eight memories that C lends, there a record and two, or counts. Each impl would be longer than the loop.)
 fn run_words(
     start: Board,
     bytes: &[u8],
@@ -70,41 +63,41 @@ fn run_words(
     ensures { ended_of result (left_in i0 z0 i1 z1 i2 z2 i3 z3) ≡ words_from start bytes.now (found_in i0 z0 i1 z1 i2 z2 i3 z3) }
 {
     let count = held(bytes);
-    let mut b = start;
+    let mut board = start;
     let mut sum: u64 = 0;
-    let mut k = 0;
-    while k < count {
-        let a = step_at(b, bytes, k, i0, z0, i1, z1, i2, z2, i3, z3);
-        let next = a.board;
-        if a.refusal != 0 {
-            return Ended {
-                refusal: a.refusal,
-                index: k as u64,
-                sum: sum,
-                board: next,
-            };
+    for k in 0..count {
+        match step_at(board, bytes, k, i0, z0, i1, z1, i2, z2, i3, z3) {
+            Ok(taken) => {
+                sum = sum.wrapping_add(taken.passed);
+                board = taken.board;
+            }
+            Err(refusal) => {
+                return Ended {
+                    refusal: refusal.into(),
+                    index: k as u64,
+                    sum,
+                    board,
+                };
+            }
         }
-        sum = std::num::wrapping_add_u64(sum, a.passed);
-        b = next;
-        k += 1;
     }
     Ended {
         refusal: 0,
-        index: k as u64,
-        sum: sum,
-        board: b,
+        index: count as u64,
+        sum,
+        board,
     }
 }
 
 // A run that is refused before its first word.
-fn stopped(number: u64, board: Board) -> Ended
-    ensures { result ≡ record { refusal = number; index = 0; sum = 0; board = board } }
+fn stopped(refusal: Refusal, board: Board) -> Ended
+    ensures { result ≡ record { refusal = number refusal; index = 0; sum = 0; board = board } }
 {
     Ended {
-        refusal: number,
+        refusal: refusal.into(),
         index: 0,
         sum: 0,
-        board: board,
+        board,
     }
 }
 
@@ -123,23 +116,11 @@ fn run_from(
 ) -> Ended
     ensures { ended_of result (left_in i0 z0 i1 z1 i2 z2 i3 z3) ≡ running_from start bytes.now (found_in i0 z0 i1 z1 i2 z2 i3 z3) }
 {
-    let number = flaw(bytes);
-    if number != 0 {
-        return stopped(number, start);
+    if let Err(refusal) = checked(bytes) {
+        return stopped(refusal, start);
     }
-    let even = is_even(
-        start.units,
-        i0.len(),
-        z0.len(),
-        i1.len(),
-        z1.len(),
-        i2.len(),
-        z2.len(),
-        i3.len(),
-        z3.len(),
-    );
-    if !even {
-        return stopped(2, start);
+    if !is_even(start.units, i0, z0, i1, z1, i2, z2, i3, z3) {
+        return stopped(Refusal::Unsound, start);
     }
     run_words(start, bytes, i0, z0, i1, z1, i2, z2, i3, z3)
 }
@@ -160,10 +141,8 @@ pub extern "C" fn dextolumen_board_run(
 ) -> Ended
     ensures { RunsOn units bytes.now (found_in i0 z0 i1 z1 i2 z2 i3 z3) result (left_in i0 z0 i1 z1 i2 z2 i3 z3) }
 {
-    let started = dextolumen_board_reset(units);
-    let board = started.board;
-    if started.refusal != 0 {
-        return stopped(started.refusal, board);
+    match reset(units) {
+        Ok(board) => run_from(board, bytes, i0, z0, i1, z1, i2, z2, i3, z3),
+        Err(refusal) => stopped(refusal, Board::single()),
     }
-    run_from(board, bytes, i0, z0, i1, z1, i2, z2, i3, z3)
 }

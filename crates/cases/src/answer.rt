@@ -1,32 +1,24 @@
 // What the chip answers to a word, after some others.
-use chip::step::{Answer, step};
+use chip::step::step;
+use ground::Refusal;
 use registers::Registers;
 
-// A word taken: its command, and under it 16 bits of data.
-fn taken(r: Registers, word: u32, im: &mut [u16], zm: &mut [u16]) -> Answer {
-    step(r, (word / 65536 % 256) as u8, (word % 65536) as u16, im, zm)
-}
-
-// The number that a word is given, and how many of its pixels pass.
-#[derive(Clone, Copy)]
-pub(crate) struct Got {
-    pub(crate) number: u64,
-    pub(crate) passed: u64,
-}
-
-// What the last of the words gets, from reset; zeros where there is none. A refused word on the way changes nothing.
-pub(crate) fn last(words: &[u32], im: &mut [u16], zm: &mut [u16]) -> Got {
+// How many pixels pass at the last of the words, from reset, or why it is refused; none where there is no word. A refused word on the way changes
+// nothing.
+pub(crate) fn last(words: &[u32], im: &mut [u16], zm: &mut [u16]) -> Result<u64, Refusal> {
     let mut r = Registers::reset();
-    let mut number = 0;
-    let mut passed = 0;
-    for k in 0..words.len() {
-        let a = taken(r, words[k], im, zm);
-        number = a.refusal;
-        passed = a.passed;
-        r = a.registers;
+    let mut got = Ok(0);
+    for word in words {
+        // not by `parts`, which asks for a word of 20 bits: a row may have one with a command above 15
+        let command = (*word / 65536 % 256) as u8;
+        let data = (*word % 65536) as u16;
+        got = match step(r, command, data, im, zm) {
+            Ok(answer) => {
+                r = answer.registers;
+                Ok(answer.passed)
+            }
+            Err(refusal) => Err(refusal),
+        };
     }
-    Got {
-        number: number,
-        passed: passed,
-    }
+    got
 }

@@ -1,14 +1,12 @@
 -- A pixel stored and one read, from the promises of the calls that do it. Assumes nothing.
-use Rattle.std.proofs.Common.{◌≡◌, ℕ, Bool, ◌≢◌, List, length, subst, eq-eqb, ne_eqb}
+use Rattle.std.proofs.Common.{◌≡◌, ℕ, Bool, List, length, subst}
 use Rattle.picture.specs.declared.Pen.{Pen}
 use Rattle.picture.specs.Place.{rows_of}
 use Rattle.picture.specs.Picture.{picture}
 use Rattle.picture.specs.Store.{filled, pixel_for, storable}
 use Rattle.registers.specs.declared.Registers.{Registers}
-use Rattle.registers.specs.Next.{pen_of, is_deep_picture, transferred_of}
-use Rattle.machine.specs.Machine.{Memories}
+use Rattle.registers.specs.Next.{pen_of, is_deep_picture}
 use Rattle.chip.specs.Chip.{picture_stores}
-use Rattle.chip.specs.Read.{read_as, pixel_of, read_number, reading}
 
 -- the region's pixel, stored by the pen and the memory that the registers name
 pub pixel_stored : (r : Registers) (i z : List ℕ) (v : ℕ) {i' z' : List ℕ} {pen : Pen} {deep : Bool} → pen ≡ pen_of r → deep ≡ is_deep_picture r
@@ -17,14 +15,3 @@ pub pixel_stored : (r : Registers) (i z : List ℕ) (v : ℕ) {i' z' : List ℕ}
 pixel_stored r i z v {i'} {z'} {pen} {deep} is d e =
     subst (λ (p : Pen). picture i' z' 0 ≡ filled p (storable p (rows_of p.frame (length i) (length z)) (pixel_for (is_deep_picture r) r.region.x r.region.y v)) (picture i z 0)) is
     (subst (λ (b : Bool). picture i' z' 0 ≡ filled pen (storable pen (rows_of pen.frame (length i) (length z)) (pixel_for b r.region.x r.region.y v)) (picture i z 0)) d e)
-
-module _ (r : Registers) (m : Memories) {n : ℕ} (number : n ≡ read_number r m) where
-  -- a refused read
-  pub read_refuses : n ≢ 0 → read_as n 0 r ≡ reading r m
-  unfolding reading
-  read_refuses some = rw (← number, ne_eqb n 0 some)
-
-  -- an accepted one
-  pub read_takes : n ≡ 0 → {pixel : ℕ} {next : Registers} → pixel ≡ pixel_of r m → next ≡ transferred_of r → read_as 0 pixel next ≡ reading r m
-  unfolding reading
-  read_takes none p q = rw (← number, eq-eqb n 0 none, p, q)

@@ -1,6 +1,11 @@
 -- A run over a stream's words as a loop makes it: what has been run, and what is left. Assumes nothing.
 use Rattle.std.proofs.Common.{◌≡◌, ℕ, zero, suc, ◌+◌, ◌%◌, ◌^◌, ◌<◌, ◌≤◌, Bool, true, false, cond, eqb, ◌≢◌, List, [], ◌∷◌, map, length, get_or, drop, sym, refl, ap, ◌∙◌, arith, eq-eqb, ne_eqb}
 use lib.ListN.{length-map}
+use Rattle.std.specs.Prelude.{Err}
+use Rattle.ground.specs.declared.Refusal.{Refusal}
+use Rattle.ground.specs.declared.Refusal.TheVariants.{Unsound}
+use Rattle.ground.specs.Refusal.{number, told}
+use Rattle.ground.proofs.Numbers.{number_positive}
 use Rattle.stream.specs.Format.{unpack_of, word_at}
 use Rattle.stream.specs.Calls.{checked}
 use Rattle.stream.proofs.Calls.{next_told, flaw_told, good}
@@ -74,11 +79,11 @@ module _ (start : Registers) (bytes : List ℕ) where
 
 -- how a run ended, with the memories that were left
 abbrev pub ended_of : Told → Memories → Ran Registers Memories
-ended_of a m = ran a.refusal a.index a.sum a.registers m
+ended_of a m = ran (told a.outcome) a.index a.sum a.registers m
 
 -- an answer of a run that took no word
-abbrev pub stopped : Registers → ℕ → Told
-stopped start number = record { refusal = number; index = 0; sum = 0; registers = start }
+abbrev pub stopped : Registers → Refusal → Told
+stopped start refusal = record { outcome = Err refusal; index = 0; sum = 0; registers = start }
 
 module _ (bytes : List ℕ) (m : Memories) where
   -- past 11 and 12 the lengths decide
@@ -96,19 +101,23 @@ module _ (start : Registers) (bytes : List ℕ) (m : Memories) where
   unfolding running
   running_good e = rw e
 
-  module _ {n : ℕ} (number : n ≡ checked bytes 0) where
+  module _ {n : ℕ} (given : n ≡ checked bytes 0) where
     -- a stream with a flaw
-    pub run_flawed : {a : Told} → a ≡ stopped start n → n ≢ 0 → ended_of a m ≡ running start bytes m
+    pub run_flawed : {a : Told} {refusal : Refusal} → a ≡ stopped start refusal → number refusal ≡ n → ended_of a m ≡ running start bytes m
     unfolding flaw_of
-    run_flawed answer some =
-        ap (λ (b : Told). ended_of b m) answer ∙ running_refused (flaw_told bytes (cond (eqb (length m.i) (length m.z)) 0 2) (λ e. some (number ∙ e)) ∙ sym number) some
+    run_flawed {refusal = refusal} answer is =
+        ap (λ (b : Told). ended_of b m) answer
+        ∙ running_refused (flaw_told bytes (cond (eqb (length m.i) (length m.z)) 0 2) (λ e. some (is ∙ given ∙ e)) ∙ sym (is ∙ given)) some
+      where
+        some : number refusal ≢ 0
+        some e = omega (arith, number_positive refusal, e)
 
     module _ (none : n ≡ 0) where
       -- memories that differ in length
-      pub run_unlike : {a : Told} → a ≡ stopped start 2 → (length m.i ≡ length m.z → ⊥) → ended_of a m ≡ running start bytes m
+      pub run_unlike : {a : Told} → a ≡ stopped start Unsound → (length m.i ≡ length m.z → ⊥) → ended_of a m ≡ running start bytes m
       run_unlike answer unlike =
-          ap (λ (b : Told). ended_of b m) answer ∙ running_refused (lengths_told bytes m (sym number ∙ none) false (ne_eqb _ _ unlike)) (λ e. absurd (omega arith))
+          ap (λ (b : Told). ended_of b m) answer ∙ running_refused (lengths_told bytes m (sym given ∙ none) false (ne_eqb _ _ unlike)) (λ e. absurd (omega arith))
 
       -- a good stream over memories of one length
       pub run_good : {a : Ran Registers Memories} → a ≡ words_from start bytes m → length m.i ≡ length m.z → a ≡ running start bytes m
-      run_good ran like = ran ∙ running_good (lengths_told bytes m (sym number ∙ none) true (eq-eqb _ _ like))
+      run_good ran like = ran ∙ running_good (lengths_told bytes m (sym given ∙ none) true (eq-eqb _ _ like))

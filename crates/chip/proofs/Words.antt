@@ -1,5 +1,9 @@
 -- How the outcome of a word follows from what the code of a step has found. Assumes nothing.
-use Rattle.std.proofs.Common.{◌≡◌, ℕ, ◌≢◌, List, [], length, sym, ap, ◌∙◌, ap₂}
+use Rattle.std.proofs.Common.{◌≡◌, ℕ, List, [], length, refl, sym, ap, ◌∙◌, ap₂, arith}
+use Rattle.std.specs.Prelude.{Result, Err}
+use Rattle.ground.specs.declared.Refusal.{Refusal}
+use Rattle.ground.specs.Refusal.{number, told}
+use Rattle.ground.proofs.Numbers.{number_positive}
 use Rattle.picture.specs.Place.{rows_of}
 use Rattle.picture.specs.Picture.{picture}
 use Rattle.picture.specs.Store.{Store, filled}
@@ -16,57 +20,62 @@ use Rattle.machine.specs.Machine.{Memories, memories, step_of}
 use Rattle.machine.proofs.Steps.{told_accepted, told_refused}
 use Rattle.chip.specs.declared.step.Answer.{Answer}
 use Rattle.chip.specs.Chip.{word_stores, chip}
+use Rattle.chip.specs.Promises.{passed_in, registers_in}
 use Rattle.chip.proofs.Figures.{figured, nothing_drawn}
 
 -- an answer of no pixels
-abbrev pub told : ℕ → Registers → Answer
-told number r = record { refusal = number; passed = 0; registers = r }
+abbrev pub quiet : Registers → Answer
+quiet r = record { passed = 0; registers = r }
 
--- an answer, with the memories that were left
-abbrev pub answered : Answer → Memories → Outcome Registers Memories
-answered a m = outcome a.refusal a.passed a.registers m
+-- the answer to an accepted word, with the memories that were left
+abbrev pub accepted : Answer → Memories → Outcome Registers Memories
+accepted a m = outcome 0 a.passed a.registers m
 
--- the word that was decoded, and the number that it got
-module _ (r : Registers) (w : Word) (i z : List ℕ) {word : Word} {n : ℕ} (is : word ≡ w) (number : n ≡ refusal_of (length i) (length z) r word) where
+-- what `step` answers, with the memories that were left
+abbrev pub answered : Registers → Result Answer Refusal → Memories → Outcome Registers Memories
+answered r a m = outcome (told a) (passed_in a) (registers_in r a) m
+
+-- the word that was decoded
+module _ (r : Registers) (w : Word) (i z : List ℕ) {word : Word} (is : word ≡ w) where
   abbrev rows : ℕ
   rows = rows_of r.frame (length i) (length z)
 
-  given : n ≡ refusal_of (length i) (length z) r w
-  given = number ∙ ap (refusal_of (length i) (length z) r) is
-
   -- a refused word
-  pub word_refused : {a : Answer} → a ≡ told n r → n ≢ 0
-      → answered a (memories i z) ≡ step_of chip r w (memories i z)
-  word_refused answer some =
-      ap (λ (b : Answer). answered b (memories i z)) answer ∙ told_refused chip r w (memories i z) given some
+  pub word_refused : (refusal : Refusal) → number refusal ≡ refusal_of (length i) (length z) r word
+      → answered r (Err refusal) (memories i z) ≡ step_of chip r w (memories i z)
+  word_refused refusal given =
+      told_refused chip r w (memories i z) (given ∙ ap (refusal_of (length i) (length z) r) is) (λ e. omega (arith, number_positive refusal, e))
 
-  module _ (none : n ≡ 0) where
+  module _ (none : refusal_of (length i) (length z) r word ≡ 0) where
+    given : 0 ≡ refusal_of (length i) (length z) r w
+    given = sym none ∙ ap (refusal_of (length i) (length z) r) is
+
     -- an accepted word that stores nothing besides, with what it completed drawn
     pub word_drawn : {next : Registers} {figure : Completed} {i' z' : List ℕ} {p : ℕ} → word_stores (rows_of r.frame (length i) (length z)) r word ≡ []
         → figure ≡ completed_by r word → picture i' z' p ≡ figured r i z figure → next ≡ record_after r word
         → outcome 0 p next (memories i' z') ≡ step_of chip r w (memories i z)
     word_drawn unstored completes drew next =
-        told_accepted chip r w (memories i z) given none
+        told_accepted chip r w (memories i z) given refl
         (drew ∙ ap (figured r i z) (completes ∙ ap (completed_by r) is)
         ∙ sym (ap (λ (ss : List Store). filled (pen_of r) ss (figured r i z (completed_by r w))) (ap (word_stores rows r) (sym is) ∙ unstored)
         ∙ filled_nil (pen_of r) (figured r i z (completed_by r w))))
         (next ∙ ap (record_after r) is)
 
     -- an accepted word that completes nothing
-    pub word_quiet : {a : Answer} {next : Registers} → word_stores (rows_of r.frame (length i) (length z)) r word ≡ [] → a ≡ told 0 next
+    pub word_quiet : {a : Answer} {next : Registers} → word_stores (rows_of r.frame (length i) (length z)) r word ≡ [] → a ≡ quiet next
         → Nothing ≡ completed_by r word → next ≡ record_after r word
-        → answered a (memories i z) ≡ step_of chip r w (memories i z)
+        → accepted a (memories i z) ≡ step_of chip r w (memories i z)
     word_quiet unstored answer completes next =
-        ap (λ (b : Answer). answered b (memories i z)) answer
+        ap (λ (b : Answer). accepted b (memories i z)) answer
         ∙ word_drawn unstored completes (nothing_drawn r i z) next
 
     -- an accepted word that completes nothing, with what it stores stored
-    pub word_stored : {a : Answer} {next : Registers} {i' z' : List ℕ} → a ≡ told 0 next → Nothing ≡ completed_by r word
+    pub word_stored : {a : Answer} {next : Registers} {i' z' : List ℕ} → a ≡ quiet next → Nothing ≡ completed_by r word
         → picture i' z' 0 ≡ filled (pen_of r) (word_stores (rows_of r.frame (length i) (length z)) r word) (picture i z 0) → next ≡ record_after r word
-        → answered a (memories i' z') ≡ step_of chip r w (memories i z)
+        → accepted a (memories i' z') ≡ step_of chip r w (memories i z)
     word_stored {i' = i'} {z' = z'} answer completes stores next =
-        ap (λ (b : Answer). answered b (memories i' z')) answer
-        ∙ told_accepted chip r w (memories i z) given none
+        ap (λ (b : Answer). accepted b (memories i' z')) answer
+        ∙ told_accepted chip r w (memories i z) given refl
         (stores
         ∙ ap₂ (filled (pen_of r)) (ap (word_stores rows r) is) (nothing_drawn r i z ∙ ap (figured r i z) (completes ∙ ap (completed_by r) is)))
         (next ∙ ap (record_after r) is)

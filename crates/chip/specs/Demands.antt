@@ -1,14 +1,13 @@
 -- What the order demands of every word and of every recording (the order, demands 1 and 2), said of each outcome that the promises of `step`
 -- and `run` allow.
-use Rattle.std.specs.Prelude.{◌≡◌, ℕ, ◌%◌, ◌^◌, ◌≤◌, true, ◌≢◌, List, length, take, slice_index}
+use Rattle.std.specs.Prelude.{◌≡◌, ℕ, ◌%◌, ◌^◌, ◌≤◌, true, ◌≢◌, List, length, take, slice_index, Result, Ok}
 use mathlib.Core.List.{Memᴰ}
 use Rattle.picture.specs.Place.{rows_of}
 use Rattle.picture.specs.Picture.{picture, drawn}
 use Rattle.picture.specs.Store.{filled}
 use Rattle.stream.specs.Format.{fit, unpack_of, pack_of}
 use Rattle.stream.specs.Calls.{checked, over, coded_told, size_of, packing, unpacking}
-use Rattle.stream.specs.declared.Coded.{Coded}
-use Rattle.stream.specs.declared.Coded.TheVariants.{Done}
+use Rattle.ground.specs.declared.Refusal.{Refusal}
 use Rattle.registers.specs.declared.Registers.{Registers}
 use Rattle.registers.specs.Word.{decode, word_of}
 use Rattle.registers.specs.Next.{record_after, completed_by, pen_of}
@@ -101,11 +100,11 @@ pub record Demand2 : Type 0 where
   pub accepts : (r : Registers) (command d : ℕ) (i z : List ℕ) (o : Stepped r command d i z) → o.refusal ≡ 0 → Accepts r command d i z o
   pub runs : (start : Registers) (bytes i z : List ℕ) (o : Ended start bytes i z) → flaw_of bytes (memories i z) ≡ 0 → Runs start bytes i z o
   -- with room enough, packing words of 20 bits and unpacking them gives the same words
-  pub words_back : (words out packed room unpacked : List ℕ) (first second : Coded) → fit 20 words ≡ true → length (pack_of words) ≤ length out
+  pub words_back : (words out packed room unpacked : List ℕ) (first second : Result ℕ Refusal) → fit 20 words ≡ true → length (pack_of words) ≤ length out
       → coded_told first packed ≡ packing words out → length words ≤ length room → coded_told second unpacked ≡ unpacking (take (size_of first) packed) room
-      → (second ≡ Done (length words)) × (unpacked ≡ over words room)
+      → (second ≡ Ok (length words)) × (unpacked ≡ over words room)
   -- unpacking a good stream of bytes and packing it gives the same bytes
-  pub bytes_back : (bytes out unpacked room packed : List ℕ) (first second : Coded) → fit 8 bytes ≡ true → checked bytes 0 ≡ 0
+  pub bytes_back : (bytes out unpacked room packed : List ℕ) (first second : Result ℕ Refusal) → fit 8 bytes ≡ true → checked bytes 0 ≡ 0
       → length (unpack_of bytes) ≤ length out → coded_told first unpacked ≡ unpacking bytes out → length bytes ≤ length room
       → coded_told second packed ≡ packing (take (size_of first) unpacked) room
-      → (second ≡ Done (length bytes)) × (packed ≡ over bytes room)
+      → (second ≡ Ok (length bytes)) × (packed ≡ over bytes room)

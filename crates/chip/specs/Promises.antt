@@ -1,16 +1,28 @@
 -- What the card's calls promise of a word and of a recording, each said once: the contracts of the calls cite it, those by value and those for
 -- C, and so do the demands and the theorems about outcomes.
-use Rattle.std.specs.Prelude.{◌≡◌, ℕ, List}
+use Rattle.std.specs.Prelude.{◌≡◌, ℕ, List, Result, Ok, Err}
 use Rattle.std.specs.Borrow.{MutBor}
 use denote.Triple.Both.{Both}
+use Rattle.ground.specs.declared.Refusal.{Refusal}
 use Rattle.picture.specs.Lent.{Lent}
 use Rattle.registers.specs.declared.Registers.{Registers}
 use Rattle.registers.specs.declared.word.Word.{Word}
 use Rattle.machine.specs.Run.{outcome, ran}
 use Rattle.machine.specs.Machine.{Memories, step_of}
 use Rattle.machine.specs.Lent.{found, left}
+use Rattle.chip.specs.declared.step.Answer.{Answer}
 use Rattle.chip.specs.Chip.{chip}
 use Rattle.chip.specs.Stream.{running}
+
+-- the pixels that passed by what `step` answers: a refused word passes none
+abbrev pub passed_in : Result Answer Refusal → ℕ
+passed_in (Ok a) = a.passed
+passed_in (Err refusal) = 0
+
+-- the registers after what `step` answers: a refused word leaves those that came in
+abbrev pub registers_in : Registers → Result Answer Refusal → Registers
+registers_in r (Ok a) = a.registers
+registers_in r (Err refusal) = r
 
 -- a word was taken: the number and the count that were told, and the registers and memories that were left, are those of the chip's step
 abbrev pub Takes : Registers → Word → Memories → ℕ → ℕ → Registers → Memories → Type 0

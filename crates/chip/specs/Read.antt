@@ -1,5 +1,7 @@
 -- The read call (request [1]): the host's read strobe takes the region's pixel and moves the region on.
-use Rattle.std.specs.Prelude.{ℕ, cond, length, ◌==◌}
+use Rattle.std.specs.Prelude.{ℕ, cond, length, ◌==◌, Result, Ok, Err}
+use Rattle.ground.specs.declared.Refusal.{Refusal}
+use Rattle.ground.specs.Refusal.{number}
 use Rattle.picture.specs.Store.{read_of}
 use Rattle.registers.specs.declared.Registers.{Registers}
 use Rattle.registers.specs.Next.{is_deep_picture, transferred_of}
@@ -10,9 +12,20 @@ use Rattle.registers.specs.declared.word.Word.{Word}
 use Rattle.chip.specs.Chip.{chip}
 use Rattle.chip.specs.declared.transfer.Reading.{Reading}
 
--- an answer of the read call, by its parts
-abbrev pub read_as : ℕ → ℕ → Registers → Reading
+-- what comes of the read call: the number that refuses it (0 accepts it), the pixel, and the registers after it
+pub record ReadOutcome : Type 0 where
+  pub refusal : ℕ
+  pub pixel : ℕ
+  pub registers : Registers
+
+-- the same, by its parts
+abbrev pub read_as : ℕ → ℕ → Registers → ReadOutcome
 read_as number pixel r = record { refusal = number; pixel = pixel; registers = r }
+
+-- what `read` answers, as such an outcome: a refused read tells pixel 0, and leaves the registers that came in
+abbrev pub read_told : Registers → Result Reading Refusal → ReadOutcome
+read_told r (Ok a) = read_as 0 a.pixel a.registers
+read_told r (Err refusal) = read_as (number refusal) 0 r
 
 -- the number at the region's pixel, in Z or in I: 0 outside the memory
 abbrev pub pixel_of : Registers → Memories → ℕ
@@ -23,7 +36,7 @@ abbrev pub read_number : Registers → Memories → ℕ
 read_number r m = read_refusal_of (length m.i) (length m.z) r
 
 -- accepted: the pixel, and the region moved on; refused: the number and pixel 0, and the registers as they were
-unfoldable pub reading : Registers → Memories → Reading
+unfoldable pub reading : Registers → Memories → ReadOutcome
 reading r m = cond (read_number r m == 0) (read_as 0 (pixel_of r m) (transferred_of r)) (read_as (read_number r m) 0 r)
 
 -- ---- words and reads, one after the other

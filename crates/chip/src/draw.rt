@@ -5,7 +5,8 @@ ghost use Rattle.registers.specs.Next.{pen_of};
 ghost use Rattle.chip.specs.Chip.{style_of, whole_offers, is_cut, figure_offers};
 ghost use Rattle.picture.specs.Lent.{Draws};
 
-use line::{Style, mode_of, segment};
+use line::{Mode, Style, segment};
+use picture::Memories;
 use registers::shape::Completed;
 use registers::{Registers, SECTIONING};
 use triangle::draw::triangle;
@@ -14,59 +15,53 @@ use triangle::draw::triangle;
 fn pattern_of(high: u16, low: u16) -> u32
     ensures { result ≡ high * 65536 + low }
 {
-    (high as u32) * 65536 + (low as u32)
+    u32::from(high) * 65536 + u32::from(low)
 }
 
 // How lines are drawn.
 fn style_of(r: Registers) -> Style
     ensures { result ≡ style_of r }
 {
-    let mode = mode_of(r.modes.lmode);
-    let pattern = pattern_of(r.dash.high, r.dash.low);
-    let joined = r.figure.dashed == 1;
     Style {
-        mode: mode,
-        pattern: pattern,
+        mode: Mode::from(r.modes.lmode),
+        pattern: pattern_of(r.dash.high, r.dash.low),
         foreground: r.dash.foreground,
         background: r.dash.background,
         steps: r.figure.steps,
-        joined: joined,
+        joined: r.figure.dashed == 1,
     }
 }
 
 // Draws what a word completed, cut or not. Answers how many pixels passed.
-fn draw_whole(r: Registers, figure: Completed, im: &mut [u16], zm: &mut [u16]) -> u64
-    ensures { Draws (pen_of r) (λ rows. whole_offers rows r figure) im zm 0 result }
+fn draw_whole(r: Registers, figure: Completed, m: &mut Memories) -> u64
+    ensures { Draws (pen_of r) (λ rows. whole_offers rows r figure) m 0 result }
 {
-    let pen = r.pen();
-    let constant = r.modes.pmode == 1;
-    let style = style_of(r);
     match figure {
         Completed::Nothing => 0,
-        Completed::Triangle(a, b, c) => triangle(pen, constant, a, b, c, im, zm),
-        Completed::Segment(a, b) => segment(pen, style, a, b, im, zm),
+        Completed::Triangle(a, b, c) => triangle(r.pen(), r.modes.pmode == 1, a, b, c, m),
+        Completed::Segment(a, b) => segment(r.pen(), style_of(r), a, b, m),
     }
 }
 
 // Whether a completed figure is cut: with sectioning on, a constant triangle that is deeper than the section depth.
+#[tactic(auto, unfolding(crate::specs::Chip::is_cut))]
 fn is_cut(r: Registers, figure: Completed) -> bool
     ensures { result ≡ is_cut r figure }
 {
     match figure {
-        Completed::Nothing => false,
         Completed::Triangle(_, _, c) => (r.modes.pmode == 1)
             & (r.modes.zcontrol & SECTIONING != 0)
             & (r.modes.section < c.z),
-        Completed::Segment(_, _) => false,
+        Completed::Nothing | Completed::Segment(_, _) => false,
     }
 }
 
 // Draws what a word completed, unless it is cut. Answers how many pixels passed.
-pub fn draw(r: Registers, figure: Completed, im: &mut [u16], zm: &mut [u16]) -> u64
-    ensures { Draws (pen_of r) (λ rows. figure_offers rows r figure) im zm 0 result }
+pub fn draw(r: Registers, figure: Completed, m: &mut Memories) -> u64
+    ensures { Draws (pen_of r) (λ rows. figure_offers rows r figure) m 0 result }
 {
     if is_cut(r, figure) {
         return 0;
     }
-    draw_whole(r, figure, im, zm)
+    draw_whole(r, figure, m)
 }

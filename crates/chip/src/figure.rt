@@ -7,18 +7,19 @@ use registers::shape::Completed;
 use registers::word::Word;
 
 // What an accepted word completes.
+#[tactic(auto, unfolding(registers::specs::Next::completed_by))]
 pub fn completed(r: Registers, word: Word) -> Completed
     ensures { result ≡ completed_by r word }
 {
     match word {
-        Word::Init(d) => Completed::Nothing,
-        Word::Aux(n) => Completed::Nothing,
-        Word::Parm(v) => Completed::Nothing,
         Word::At(c, n) => r.completed_by(c, n),
-        Word::Img(d) => Completed::Nothing,
-        Word::Ptrn(v) => Completed::Nothing,
-        Word::Reserved => Completed::Nothing,
-        Word::Unmodelled => Completed::Nothing,
-        Word::Unknown => Completed::Nothing,
+        Word::Init(_)
+        | Word::Aux(_)
+        | Word::Parm(_)
+        | Word::Img(_)
+        | Word::Ptrn(_)
+        | Word::Reserved
+        | Word::Unmodelled
+        | Word::Unknown => Completed::Nothing,
     }
 }

@@ -1,85 +1,104 @@
 // One word.
 ghost use Rattle.std.specs.Prelude.{◌≡◌, true, length};
+ghost use Rattle.ground.specs.Refusal.{told};
 ghost use Rattle.refusals.specs.Bounds.{in_bounds};
 ghost use Rattle.refusals.specs.Refusal.{refusal_of};
 ghost use Rattle.registers.specs.Word.{decode};
-ghost use Rattle.machine.specs.Lent.{found, left};
-ghost use Rattle.chip.specs.Promises.{Takes};
+ghost use Rattle.picture.specs.Lent.{Kept};
+ghost use Rattle.machine.specs.Lent.{found, left, held_in};
+ghost use Rattle.chip.specs.Promises.{Takes, passed_in, registers_in};
 
 use crate::draw::draw;
 use crate::transfer::load;
-use refusals::{judged, refusal};
+use ground::Refusal;
+use picture::Memories;
+use refusals::{checked, judged};
 use registers::Registers;
 use registers::word::{Word, decoded};
 
-// The answer to a word: the number that refuses it, 0 for accepted; how many pixels passed; and the next registers.
+// The answer to an accepted word: how many pixels passed, and the next registers.
 #[derive(Clone, Copy)]
 pub struct Answer {
-    pub refusal: u64,
     pub passed: u64,
     pub registers: Registers,
 }
 
+// How many pixels passed by an answer; none where the word was refused.
+pub fn passed(answer: Result<Answer, Refusal>) -> u64
+    ensures { result ≡ passed_in answer }
+{
+    match answer {
+        Ok(answer) => answer.passed,
+        Err(_) => 0,
+    }
+}
+
 // An answer of no pixels.
-fn quiet(refusal: u64, registers: Registers) -> Answer
-    ensures { result ≡ record { refusal = refusal; passed = 0; registers = registers } }
+fn quiet(registers: Registers) -> Answer
+    ensures { result ≡ record { passed = 0; registers = registers } }
 {
     Answer {
-        refusal: refusal,
         passed: 0,
-        registers: registers,
+        registers,
     }
 }
 
-// Takes a word that got a number, or refuses it where that is not 0, and then leaves registers and memories as they were.
-fn take(r: Registers, word: Word, number: u64, im: &mut [u16], zm: &mut [u16]) -> Answer
-    requires { number ≡ refusal_of (length im.old) (length zm.old) r word }
-    ensures { Takes r word (found im zm) result.refusal result.passed result.registers (left im zm) }
+// Takes a word that nothing refuses.
+fn take(r: Registers, word: Word, m: &mut Memories) -> Answer
+    requires { refusal_of (length m.old.i.now) (length m.old.z.now) r word ≡ 0 }
+    ensures { Kept m × Takes r word (held_in m.old) 0 result.passed result.registers (held_in m.new) }
 {
-    if number != 0 {
-        return quiet(number, r);
-    }
     match word {
-        Word::Init(d) => quiet(0, r.init(d)),
-        Word::Aux(n) => quiet(0, r.aux(n)),
-        Word::Parm(v) => quiet(0, r.parm(v)),
+        Word::Init(d) => quiet(r.init(d)),
+        Word::Aux(n) => quiet(r.aux(n)),
+        Word::Parm(v) => quiet(r.parm(v)),
         Word::At(c, n) => {
-            let figure = r.completed_by(c, n);
-            let passed = draw(r, figure, im, zm);
-            let next = r.coordinate(c, n);
+            let passed = draw(r, r.completed_by(c, n), m);
             Answer {
-                refusal: 0,
-                passed: passed,
-                registers: next,
+                passed,
+                registers: r.coordinate(c, n),
             }
         }
-        Word::Img(d) => quiet(0, r.img(d)),
+        Word::Img(d) => quiet(r.img(d)),
         Word::Ptrn(v) => {
-            load(r, v, im, zm);
-            quiet(0, r.transferred())
+            load(r, v, m);
+            quiet(r.transferred())
         }
-        // these are refused
-        Word::Reserved => quiet(0, r),
-        Word::Unmodelled => quiet(0, r),
-        Word::Unknown => quiet(0, r),
+        // These are refused, so that none of them comes here.
+        Word::Reserved | Word::Unmodelled | Word::Unknown => quiet(r),
     }
 }
 
-// Takes a word, or refuses it and leaves registers and memories as they were.
-pub fn step(r: Registers, command: u8, data: u16, im: &mut [u16], zm: &mut [u16]) -> Answer
-    ensures { Takes r (decode command «data») (found im zm) result.refusal result.passed result.registers (left im zm) }
+// Takes a word, or refuses it and leaves registers and memories as they were. It is lent two slices, which calls for C hand on as they got them, and
+// lends both on in one struct. Command and data come as two numbers too: C sends them so, and `decode` takes them so.
+pub fn step(
+    r: Registers,
+    command: u8,
+    data: u16,
+    im: &mut [u16],
+    zm: &mut [u16],
+) -> Result<Answer, Refusal>
+    ensures { Takes r (decode command «data») (found im zm) (told result) (passed_in result) (registers_in r result) (left im zm) }
 {
     let word = decoded(command, data);
-    let number = refusal(r, word, im.len(), zm.len());
-    take(r, word, number, im, zm)
+    checked(r, word, im.len(), zm.len())?;
+    let mut m = Memories { i: im, z: zm };
+    Ok(take(r, word, &mut m))
 }
 
 // The same of a decoded word, for a caller that knows that the record breaks no bound and that the memories are of one length: neither is asked
-// again.
-pub(crate) fn step_kept(r: Registers, word: Word, im: &mut [u16], zm: &mut [u16]) -> Answer
+// again. Both stand in the contracts from here up to the loop over the words: a type for such a record would be no plainer, since each word makes the next record
+// and would have to prove it anew there, and `Memories` holds any two slices that are lent, unlike ones too.
+pub(crate) fn step_kept(
+    r: Registers,
+    word: Word,
+    im: &mut [u16],
+    zm: &mut [u16],
+) -> Result<Answer, Refusal>
     requires { (in_bounds r ≡ true) × (length im.old ≡ length zm.old) }
-    ensures { Takes r word (found im zm) result.refusal result.passed result.registers (left im zm) }
+    ensures { Takes r word (found im zm) (told result) (passed_in result) (registers_in r result) (left im zm) }
 {
-    let number = judged(r, word);
-    take(r, word, number, im, zm)
+    judged(r, word)?;
+    let mut m = Memories { i: im, z: zm };
+    Ok(take(r, word, &mut m))
 }

@@ -1,6 +1,6 @@
 -- Arguments, byte by byte. Assumes nothing.
-use mathlib.Core.Path.{◌≡◌, refl}
-use mathlib.Core.Bool.{Bool, true, false}
+use mathlib.Core.Path.{◌≡◌, refl, ap}
+use mathlib.Core.Bool.{Bool, true, false, ◌&&◌}
 use mathlib.Core.List.{List, [], ◌∷◌}
 use Prim.Native.Nat.{ℕ, suc, ◌+◌, ◌*◌, ◌%◌, ◌≤◌, ◌<◌, min}
 use native.Mathlib.Numerals.{add-one}
@@ -9,24 +9,16 @@ use borrow.Author.Tests.{ltb-true, ltb-false}
 use lib.Dec.{ltb}
 use lib.ListN.{length, get_or, drop}
 use lib.Seq.{drop-cons}
+use Rattle.std.specs.List.{list_all}
 use Rattle.console.specs.Digits.{is_digit, digits_only, value_of}
 
 -- ---- digits
 
-pub digits_end : digits_only [] ≡ true
+-- the test of each byte
+pub all_digits : (arg : List ℕ) → list_all is_digit arg ≡ digits_only arg
 unfolding digits_only
-digits_end = refl
-
-module _ (arg : List ℕ) (k : ℕ) (h : k < length arg) where
-  -- a byte that is none decides
-  pub digits_none : is_digit (get_or arg k 0) ≡ false → digits_only (drop k arg) ≡ false
-  unfolding digits_only
-  digits_none e = rw (drop-cons arg k 0 h, e)
-
-  -- a digit leaves it to the rest
-  pub digits_more : is_digit (get_or arg k 0) ≡ true → digits_only (drop (k + 1) arg) ≡ digits_only (drop k arg)
-  unfolding digits_only
-  digits_more e = rw (drop-cons arg k 0 h, e, add-one k)
+all_digits [] = refl
+all_digits (byte ∷ rest) = ap (λ b. is_digit byte && b) (all_digits rest)
 
 -- ---- numbers
 

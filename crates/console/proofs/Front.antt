@@ -5,15 +5,15 @@ use Prim.Native.Nat.{ℕ, ◌≤◌}
 use native.Mathlib.Omega.{arith}
 use lib.ListN.{length, take}
 use lib.Seq.{length-take-le}
+use Rattle.std.specs.Prelude.{Result, Ok}
+use Rattle.std.specs.declared.io.Error.{Error}
 use Rattle.console.specs.Taken.{Within}
-use Rattle.console.specs.declared.Taken.{Taken}
-use Rattle.console.specs.declared.Taken.TheVariants.{Bytes}
 
-module _ {room n : ℕ} {taken : Taken} where
+module _ {room n : ℕ} {taken : Result ℕ Error} where
   -- no more bytes came than it has
-  pub taken_fits : {long : ℕ} → Within room taken → taken ≡ Bytes n → long ≡ room → n ≤ long
+  pub taken_fits : {long : ℕ} → Within room taken → taken ≡ Ok n → long ≡ room → n ≤ long
   taken_fits within came kept = let low = rw came at within in omega (arith, low, kept)
 
   -- so many stand at its front
-  pub taken_front : (buf : List ℕ) → Within room taken → taken ≡ Bytes n → length buf ≡ room → n ≡ length (take n buf)
+  pub taken_front : (buf : List ℕ) → Within room taken → taken ≡ Ok n → length buf ≡ room → n ≡ length (take n buf)
   taken_front buf within came kept = sym (length-take-le n buf (taken_fits within came kept))

@@ -7,12 +7,7 @@ use std::rt::Env;
 // Whether there is an argument of this index; its text may be of any length.
 fn is_given(env: &impl Env, index: usize) -> bool {
     let mut text = [0u8; 1];
-    let got = env.arg(index, &mut text);
-    match got {
-        Ok(_) => true,
-        Err(FillError::TooLong) => true,
-        Err(FillError::NotPresent) => false,
-    }
+    !matches!(env.arg(index, &mut text), Err(FillError::NotPresent))
 }
 
 // How many there are, the program's own name among them.
@@ -25,13 +20,11 @@ pub fn count(env: &impl Env) -> usize {
     usize::MAX
 }
 
-// Puts an argument at the front of a buffer, and tells its length; 0 where it is missing or longer than the buffer.
-pub fn argument(env: &impl Env, index: usize, buf: &mut [u8]) -> usize
-    ensures { result ≤ length buf.old }
+// An argument, put into a buffer; empty where it is missing or longer than the buffer. (No Option: what the programs make of their arguments, `asked_of` of trace and of
+// show, is said of an empty one.)
+pub fn argument<'a>(env: &impl Env, index: usize, buf: &'a mut [u8]) -> &'a [u8]
+    ensures { length result.now ≤ length buf.old }
 {
-    let got = env.arg(index, buf);
-    match got {
-        Ok(n) => n,
-        Err(_) => 0,
-    }
+    let size = env.arg(index, buf).unwrap_or(0);
+    &buf[..size]
 }

@@ -1,52 +1,61 @@
-// What is said to whoever started the program, on standard error. Whether it is read no contract can say, so that nothing is answered; the
+// What is said to whoever started the program, line by line on standard error. Whether it is read no contract can say, so that nothing is answered; the
 // text that is lent stays.
 ghost use Rattle.std.specs.Prelude.{◌≡◌, ◌≤◌, length};
 
-use ground::least;
-use std::fmt;
-use std::fmt::Write;
-use std::io::{Error, Print};
+use ground::Refusal;
+use std::fmt::{Display, Write};
+use std::io::{Eprint, Error, Print};
+use std::{fmt, io};
 
-// A text.
-pub fn say(stderr: &impl Print, text: &[u8])
-    ensures { text.now ≡ text.now }
-{
-    let _ = stderr.write_all(text);
+// A line.
+pub fn say(rt: &impl Eprint, line: impl Display + Drop) {
+    let _ = rt.eprintln(line);
 }
 
-// A name and its number.
-pub fn say_number(stderr: &impl Print, name: &[u8], n: u64)
-    ensures { name.now ≡ name.now }
-{
-    say(stderr, name);
-    let _ = stderr.print(n);
-}
-
-// That a program met a word which is refused: the number that refuses it, and its index.
-pub fn say_refused(stderr: &impl Print, program: &[u8], number: u64, word: u64)
+// That a program met a word which is refused: the number that refuses it, and its index. (The number is all that is ever printed of a refusal, so that no `Display` of it would
+// be plainer than `u64::from`.)
+pub fn say_refused(rt: &impl Eprint, program: &str, refusal: Refusal, word: u64)
     ensures { program.now ≡ program.now }
 {
-    say(stderr, program);
-    say_number(stderr, b": refusal ", number);
-    say_number(stderr, b" at word ", word);
-    say(stderr, b"\n");
+    let number = u64::from(refusal);
+    say(
+        rt,
+        format_args!("{program}: refusal {number} at word {word}"),
+    );
 }
 
-// The front of a text that is written to it.
-#[derive(Drop)]
-struct Reason {
-    text: [u8; 64],
-    size: usize,
+// Prints the number that refuses what a program was given, and says it as well.
+pub fn refuse(rt: &(impl Print + Eprint), program: &str, refusal: Refusal) -> io::Result<()>
+    ensures { program.now ≡ program.now }
+{
+    let number = u64::from(refusal);
+    say(rt, format_args!("{program}: refusal {number}"));
+    println!(rt; "refusal {number}")
 }
 
-impl Reason {
-    fn told(&self) -> &[u8] {
-        let all = &self.text[..];
-        &all[..least(self.size, all.len())]
+// Bytes that are letters, digits and signs of ASCII, as text.
+#[derive(Clone, Copy)]
+pub struct Ascii<'a>(pub &'a [u8]);
+
+impl<'a> Display for Ascii<'a> {
+    fn fmt<W: fmt::Write>(&self, f: &mut fmt::Formatter<W>) -> fmt::Result {
+        for byte in self.0 {
+            f.write_char(char::from(*byte))?;
+        }
+        Ok(())
     }
 }
 
-impl fmt::Write for Reason {
+// The front of a text that is written to it: room for it, and how much of that is filled. (No `String`, since the programs take no memory that may be missing; and a lent
+// slice that gets shorter would not tell what stands in front of it.)
+#[derive(Drop)]
+struct Front {
+    text: [u8; 64],
+    size: usize,
+    ghost fits: { size ≤ 64 },
+}
+
+impl fmt::Write for Front {
     fn write_str(&mut self, s: &str) -> fmt::Result {
         for byte in s.as_bytes() {
             if self.size < 64 {
@@ -58,46 +67,35 @@ impl fmt::Write for Reason {
     }
 }
 
-// How long a text is without the number that follows it in parentheses.
-fn bare(text: &[u8]) -> usize
-    ensures { result ≤ length text.now }
+// A text without the number that follows it in parentheses.
+fn bare(text: &[u8]) -> &[u8]
+    ensures { length result.now ≤ length text.now }
 {
-    let mut n = 0;
-    while n < text.len() {
-        if text[n] == b'(' {
-            return n.saturating_sub(1);
-        }
-        n += 1;
+    match text.iter().position(|byte| *byte == b'(') {
+        Some(n) => &text[..n.saturating_sub(1)],
+        None => text,
     }
-    n
 }
 
 // That something failed, and why: what it is, a colon and the system's text.
-pub fn fail(stderr: &impl Print, what: &[u8], error: Error)
+pub fn fail(rt: &impl Eprint, what: &str, error: Error)
     ensures { what.now ≡ what.now }
 {
-    let mut why = Reason {
+    let mut why = Front {
         text: [0; 64],
         size: 0,
     };
+    // `Front` takes what it has room for, and never fails.
     let _ = write!(why, "{error}");
-    let text = why.told();
-    say(stderr, what);
-    say(stderr, b": ");
-    say(stderr, &text[..bare(text)]);
-    say(stderr, b"\n");
+    let reason = Ascii(bare(&why.text[..why.size]));
+    say(rt, format_args!("{what}: {reason}"));
 }
 
-// Writes bytes to standard output, or says that it cannot, with the name of the program and of the output; and tells whether they were taken.
-pub fn write(stdout: &impl Print, stderr: &impl Print, what: &[u8], bytes: &[u8]) -> bool
-    ensures { bytes.now ≡ bytes.now }
+// That something failed, and why, if it did.
+pub fn tell(rt: &impl Eprint, what: &str, done: io::Result<()>)
+    ensures { what.now ≡ what.now }
 {
-    let done = stdout.write_all(bytes);
-    match done {
-        Ok(()) => true,
-        Err(error) => {
-            fail(stderr, what, error);
-            false
-        }
+    if let Err(error) = done {
+        fail(rt, what, error);
     }
 }

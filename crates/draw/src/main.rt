@@ -5,28 +5,27 @@
 mod text;
 
 use console::args::count;
-use console::say::{fail, say, write};
-use console::{Taken, take};
+use console::say::{fail, say, tell};
+use console::take;
 use text::put_printed;
 
 // Prints what the bytes come to.
-fn print(stdout: &impl Print, stderr: &impl Print, bytes: &[u8]) {
+fn print(rt: &(impl Print + Eprint), bytes: &[u8]) {
     let mut out = [0u8; 180308];
     let n = put_printed(bytes, &mut out);
-    write(stdout, stderr, b"draw: standard output", &out[..n]);
+    tell(rt, "draw: standard output", rt.write_all(&out[..n]));
 }
 
-// One byte more than a stream may have is enough to tell that it is too long.
+// One byte more than a stream may have is enough to tell that it is too long. (Each program that reads once begins so, with its own texts, buffer and next call: in a
+// function of `console` all four would be passed in, and what the next call asks for besides.)
 fn main(rt: HostRuntime) {
-    let stderr = rt.stderr();
     if 1 < count(&rt) {
-        say(&stderr, b"usage: draw < RECORDING > TEXT\n");
+        say(&rt, "usage: draw < RECORDING > TEXT");
         return;
     }
     let mut bytes = [0u8; 8193];
-    let taken = take(&rt, &mut bytes);
-    match taken {
-        Taken::Bytes(n) => print(&rt, &stderr, &bytes[..n]),
-        Taken::Failed(error) => fail(&stderr, b"draw: standard input", error),
+    match take(&rt, &mut bytes) {
+        Ok(n) => print(&rt, &bytes[..n]),
+        Err(error) => fail(&rt, "draw: standard input", error),
     }
 }

@@ -22,15 +22,7 @@ fn put_too_long(out: &mut [u8]) -> usize
     requires { 9 ≤ length out.old }
     ensures { Stands too_long out.old out.new result }
 {
-    out[0] = b't';
-    out[1] = b'o';
-    out[2] = b'o';
-    out[3] = b' ';
-    out[4] = b'l';
-    out[5] = b'o';
-    out[6] = b'n';
-    out[7] = b'g';
-    out[8] = b'\n';
+    out[..9].copy_from_slice(b"too long\n");
     9
 }
 

@@ -10,6 +10,7 @@ use chip::step::step;
 use registers::Registers;
 
 // The answer to a word: the number that refuses it, 0 for accepted, and how many pixels passed. The next registers are in the record.
+// C has the struct, so that its fields are numbers.
 #[repr(C)]
 #[derive(Clone, Copy)]
 pub struct Told {
@@ -28,11 +29,17 @@ pub extern "C" fn dextolumen_step(
 ) -> Told
     ensures { TakesInPlace registers (decode command «data») im zm result.refusal result.passed }
 {
-    let a = step(*registers, command, data, im, zm);
-    let next = a.registers;
-    *registers = next;
-    Told {
-        refusal: a.refusal,
-        passed: a.passed,
+    match step(*registers, command, data, im, zm) {
+        Ok(answer) => {
+            *registers = answer.registers;
+            Told {
+                refusal: 0,
+                passed: answer.passed,
+            }
+        }
+        Err(refusal) => Told {
+            refusal: refusal.into(),
+            passed: 0,
+        },
     }
 }

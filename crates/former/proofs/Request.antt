@@ -24,8 +24,7 @@ use Rattle.machine.specs.Machine.{Memories, memories, rows_in, drawing, accepted
 use Rattle.machine.proofs.Runs.{advance_accepted, run_first}
 use Rattle.machine.proofs.Steps.{step_accepted, step_number}
 use Rattle.chip.specs.Chip.{figure_offers, word_stores, chip}
-use Rattle.chip.specs.declared.transfer.Reading.{Reading}
-use Rattle.chip.specs.Read.{read_as, pixel_of, reading}
+use Rattle.chip.specs.Read.{ReadOutcome, read_as, pixel_of, reading}
 use Rattle.chip.specs.Stream.{words_of, flaw_of, running}
 use Rattle.chip.proofs.Reading.{read_accepted}
 use Rattle.former.specs.Former.{former_coordinate, was_coordinate, was_word, was_vertex, was_record, former_reset, was_after, was_rows, former, was_pixel, was_read_number, was_reading}
@@ -121,9 +120,9 @@ read : (r n : Registers) (m : Memories) → Alike r n → (was_reading r m).refu
 read r n m a e =
     let k = was_read r m e in
     let t = read_taken (length m.i) (length m.z) r n.window a.window k.0 in
-    subst (λ (o : Reading). SameRead o (reading n m)) (sym k.1)
+    subst (λ (o : ReadOutcome). SameRead o (reading n m)) (sym k.1)
     (subst (λ (u : Registers). SameRead (read_as 0 (was_pixel r m) (transferred_of r)) (reading u m)) (sym a.rest)
-    (subst (λ (o : Reading). SameRead (read_as 0 (was_pixel r m) (transferred_of r)) o) (sym (read_accepted (with_window r n.window) m t.0))
+    (subst (λ (o : ReadOutcome). SameRead (read_as 0 (was_pixel r m) (transferred_of r)) o) (sym (read_accepted (with_window r n.window) m t.0))
     (record { refusal = refl; pixel = pixel_same r n.window m (region_low r t.1); registers = record { window = a.window; rest = refl } })))
 
 -- ---- a run

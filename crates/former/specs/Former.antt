@@ -21,9 +21,8 @@ use Rattle.refusals.specs.Allowed.{allowed}
 use Rattle.refusals.specs.Bounds.{each_came}
 use Rattle.refusals.specs.Refusal.{is_init, table_of, lowest, is_unfit, read_table}
 use Rattle.machine.specs.Machine.{Machine, Memories}
-use Rattle.chip.specs.declared.transfer.Reading.{Reading}
 use Rattle.chip.specs.Chip.{figure_offers, word_stores}
-use Rattle.chip.specs.Read.{read_as}
+use Rattle.chip.specs.Read.{ReadOutcome, read_as}
 
 -- ---- the limits that there were
 
@@ -176,5 +175,5 @@ abbrev pub was_read_number : Registers → Memories → ℕ
 was_read_number r m = was_read_refused (length m.i) (length m.z) r
 
 -- its answer: accepted or refused, as today's is
-unfoldable pub was_reading : Registers → Memories → Reading
+unfoldable pub was_reading : Registers → Memories → ReadOutcome
 was_reading r m = cond (eqb (was_read_number r m) 0) (read_as 0 (was_pixel r m) (transferred_of r)) (read_as (was_read_number r m) 0 r)

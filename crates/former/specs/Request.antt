@@ -6,9 +6,8 @@ use Rattle.registers.specs.declared.word.Word.{Word}
 use Rattle.registers.specs.Record.{first_window, with_window, reset_of}
 use Rattle.machine.specs.Run.{Outcome, Ran, ran, run_of}
 use Rattle.machine.specs.Machine.{Memories, step_of}
-use Rattle.chip.specs.declared.transfer.Reading.{Reading}
 use Rattle.chip.specs.Chip.{chip}
-use Rattle.chip.specs.Read.{reading}
+use Rattle.chip.specs.Read.{ReadOutcome, reading}
 use Rattle.chip.specs.Stream.{words_of, flaw_of, running}
 use Rattle.former.specs.Former.{former_window, former_reset, former, was_reading}
 
@@ -42,7 +41,7 @@ pub record SameWord (before now : Outcome Registers Memories) : Type 0 where
   pub registers : Alike before.registers now.registers
 
 -- a read, likewise
-pub record SameRead (before now : Reading) : Type 0 where
+pub record SameRead (before now : ReadOutcome) : Type 0 where
   pub refusal : now.refusal ≡ before.refusal
   pub pixel : now.pixel ≡ before.pixel
   pub registers : Alike before.registers now.registers

@@ -4,3 +4,5 @@ pub mod Truth
 pub mod Settled
 -- the default arm of a `match` on a number has a number past all arms
 pub mod Keys
+-- the numbers of refusals
+pub mod Numbers

@@ -39,10 +39,11 @@ module _ (a : Ran Registers Memories) (w : ℕ) where
     number = ap (λ (o : Outcome Registers Memories). o.refusal) told
 
     -- an accepted word is counted
-    pub word_accepted : n ≡ 0 → ran 0 ((a.index + 1) % 2 ^ 64) ((a.sum + p) % 2 ^ 64) r' m' ≡ word_in a w
+    pub word_accepted : n ≡ 0 → ran a.refusal ((a.index + 1) % 2 ^ 64) ((a.sum + p) % 2 ^ 64) r' m' ≡ word_in a w
     unfolding word_in
     word_accepted e =
-        ap (λ (o : Outcome Registers Memories). ran 0 ((a.index + 1) % 2 ^ 64) ((a.sum + o.passed) % 2 ^ 64) o.registers o.memories) told
+        ap (λ (k : ℕ). ran k ((a.index + 1) % 2 ^ 64) ((a.sum + p) % 2 ^ 64) r' m') goes
+        ∙ ap (λ (o : Outcome Registers Memories). ran 0 ((a.index + 1) % 2 ^ 64) ((a.sum + o.passed) % 2 ^ 64) o.registers o.memories) told
         ∙ sym (ap counted (advance_accepted (step_of chip) a (word_of w) goes (sym number ∙ e)))
 
     -- a refused word leaves the run where it stands

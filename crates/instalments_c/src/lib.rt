@@ -1,4 +1,4 @@
-// The calls of the crate instalments for a host in C.
+// The calls of the crate instalments for a host in C. (Said again here: a static library exports the marked functions of its own crate alone.)
 #![tactic(auto)]
 
 ghost use Rattle.std.specs.Prelude.{◌≡◌};

@@ -1,5 +1,6 @@
 -- A line's pixel by a pen that stores whole numbers, and depths where they are tested: the depth alone decides. Assumes nothing.
-use Rattle.std.proofs.Common.{◌≡◌, ℕ, ◌+◌, ◌/◌, ◌%◌, ◌^◌, ◌<◌, ◌≤◌, Bool, true, false, cond, not, ◌&&◌, ◌||◌, eqb, ltb, leb, List, get_or, set, sym, refl, ◌∙◌, ap₂, arith, ltb-false, ltb-true, eqb-true, leb-false, leb-true}
+use Rattle.std.proofs.Common.{◌≡◌, ℕ, ◌+◌, ◌/◌, ◌%◌, ◌^◌, ◌<◌, ◌≤◌, min, Bool, true, false, cond, not, ◌&&◌, ◌||◌, eqb, ltb, leb, List, get_or, set, sym, refl, ◌∙◌, ap₂, arith, ltb-false, ltb-true, eqb-true, leb-false, leb-true}
+use mir.Val.{bool_byte}
 use lib.Seq.{set-get_or}
 use lib.Bits.{bit_and, and_zero_r, and_mask}
 use Rattle.picture.specs.declared.Pen.{Pen}
@@ -48,6 +49,19 @@ picked_near z old i stood d s hz ho hi hs hd hn e f = go (leb z old) refl
         let l = leb-false z old t in
         let all : d / 2 ^ 48 ≡ 65535 = omega (arith, l, e, hz, hd) in
         rw (all, and_mask s 16) (omega (arith, f, hn))
+
+-- the smaller depth, as a choice
+pub min_chosen : (z old : ℕ) → min z old ≡ cond (leb z old) z old
+min_chosen z old = go (leb z old) refl
+  where
+    go : (t : Bool) → leb z old ≡ t → min z old ≡ cond t z old
+    go true e = let l = leb-true z old e in omega arith
+    go false e = let l = leb-false z old e in omega arith
+
+-- a truth value as a number, as a choice
+pub byte_chosen : (t : Bool) → bool_byte t ≡ cond t 1 0
+byte_chosen true = refl
+byte_chosen false = refl
 
 module _ (pen : Pen) (kind : Kind) (bare : is_bare pen kind ≡ true) where
   -- numbers are stored whole

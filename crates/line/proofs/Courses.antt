@@ -39,7 +39,7 @@ course_spot width a b s k side c e h f = rw e (go s.level refl)
     y = move_of a.y b.y (width)
 
     go : (t : Bool) → s.level ≡ t
-        → let c = cond t (course (a.y * width + a.x) x y) (course (a.y * width + a.x) y x) in
+        → let c = cond t (course width (a.y * width + a.x) x y) (course width (a.y * width + a.x) y x) in
         c.first + (k * c.ahead.up + side * c.aside.up) ≡ y_at a b k * width + x_at a b k + (k * c.ahead.down + side * c.aside.down)
     go true t =
         let l = lands_level a b s k side h f t in

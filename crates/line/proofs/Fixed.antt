@@ -3,6 +3,8 @@
 -- is the same. Assumes nothing.
 use Rattle.std.proofs.Common.{◌≡◌, ℕ, ◌+◌, ◌-◌, ◌*◌, ◌/◌, ◌%◌, ◌<◌, ◌≤◌, sym, ap, ◌∙◌, mul-le-mul_right, mod-lt, mod-eq_of_lt, mul_assoc, mul_comm, div-lt_iff_lt-mul, add-mul, mul-le-mul, mul-le-mul_left, div-add-mod', mul-add, sub-add_cancel, mul_left_comm, arith, ne_eqb}
 use lib.Arith.{digits_mod}
+use Rattle.std.specs.Int.{div_ceil}
+use Rattle.std.proofs.lemmas.Grind.{div_ceil_times}
 use Rattle.picture.specs.declared.Carried.{Carried}
 use Rattle.picture.specs.Draw.{carried_one, carried_to}
 use Rattle.picture.proofs.Near.{near_told}
@@ -124,14 +126,10 @@ still_tells first second s = record { told = λ k h. still k (omega arith) }
 module _ (n first second : ℕ) (p : 0 < n) (u : n ≤ 65535) (f : first ≤ 65535) (s : second ≤ 65535) where
   -- from the first number and one half on, where numbers rise and a step adds the carried difference over n, rounded up, each number is told
   pub rise_tells : first ≤ second
-      → Tells n first second (carried_by (first * carried_one + 140737488355328) (((second - first) * carried_one + (n - 1)) / n))
+      → Tells n first second (carried_by (first * carried_one + 140737488355328) (div_ceil ((second - first) * carried_one) n))
   rise_tells l =
-      record {
-        told = λ k h.
-            rise_told n k first second h p u f s (((second - first) * carried_one + (n - 1)) / n) l
-            (omega (arith, div-add-mod' ((second - first) * carried_one + (n - 1)) n, mod-lt ((second - first) * carried_one + (n - 1)) p))
-            (omega (arith, div-add-mod' ((second - first) * carried_one + (n - 1)) n));
-      }
+      let t = div_ceil_times ((second - first) * carried_one) n p in
+      record { told = λ k h. rise_told n k first second h p u f s (div_ceil ((second - first) * carried_one) n) l t.0 (omega (arith, t.1)) }
 
   -- and so it is where numbers fall, and what a step adds and the carried difference over n, rounded down, make 0 modulo 2 ^ 64
   pub fall_tells : second < first → (g : ℕ) → (g + (first - second) * carried_one / n) % 18446744073709551616 ≡ 0

@@ -1,6 +1,6 @@
 -- Why no step of a segment asks whether it is offered, where both ends are inside the window and the rows in use: these are boxes, and no step
 -- leaves the box between the two ends. A unit asks about its columns alone. Assumes nothing.
-use Rattle.std.proofs.Common.{◌≡◌, ℕ, ◌+◌, ◌-◌, ◌<◌, ◌≤◌, min, max, Bool, true, false, cond, not, ◌&&◌, ◌||◌, eqb, ltb, leb, sym, refl, ap, ◌∙◌, arith, ltb-true, lt-ltb, eqb-true, leb-false, leb-true}
+use Rattle.std.proofs.Common.{◌≡◌, ℕ, ◌+◌, ◌-◌, ◌<◌, ◌≤◌, min, max, Bool, true, false, cond, not, ◌&&◌, ◌||◌, Option, Some, None, eqb, ltb, leb, sym, refl, ap, ◌∙◌, true≢false, arith, ltb-true, lt-ltb, eqb-true, leb-false, leb-true}
 use Rattle.picture.specs.declared.Frame.{Frame}
 use Rattle.picture.specs.declared.Pen.{Pen}
 use Rattle.picture.specs.declared.Vertex.{Vertex}
@@ -11,11 +11,10 @@ use Rattle.ground.proofs.Truth.{both}
 use Rattle.picture.proofs.Places.{rows_whole, plain_mine, tiled_mine}
 use Rattle.picture.proofs.Offers.{window_in, window_of}
 use Rattle.picture.proofs.Rows.{shows_all}
-use Rattle.line.specs.declared.field.Field.{Field}
 use Rattle.line.specs.declared.slope.Slope.{Slope}
 use Rattle.line.specs.Segment.{distance, towards, larger, side_at, x_at, y_at}
 use Rattle.line.specs.Step.{slope_of, OnStep}
-use Rattle.line.specs.Field.{is_open, lies_whole, field_of, in_field, AllOffered}
+use Rattle.line.specs.Field.{is_open, lies_whole, direct_rows, in_field, AllOffered}
 use Rattle.line.proofs.Steps.{Lands, lands_level, lands_steep}
 
 -- ---- the box between two points
@@ -85,11 +84,22 @@ direct_offered pen rows kind x y h =
     go true = refl
     go false = refl
 
--- by what was computed
-pub field_offered : (pen : Pen) (rows : ℕ) (kind : Kind) (x y : ℕ) {field : Field} {t : Bool} → field ≡ field_of pen kind rows → field.direct ≡ true
-    → t ≡ in_field pen field.rows x y → offered pen rows (offer kind x y 0 0) ≡ t
-field_offered pen rows kind x y e d w =
-    direct_offered pen rows kind x y (sym (ap (λ (f : Field). f.direct) e) ∙ d) ∙ sym (w ∙ ap (λ (f : Field). in_field pen f.rows x y) e)
+-- by what was computed: where rows are told, they are those in use
+pub told_offered : (pen : Pen) (rows : ℕ) (kind : Kind) (x y : ℕ) {told : ℕ} {t : Bool} → Some told ≡ direct_rows pen kind rows
+    → t ≡ in_field pen told x y → offered pen rows (offer kind x y 0 0) ≡ t
+told_offered pen rows kind x y {told} {t} e w = go (lies_whole pen.frame && is_open pen kind) refl e
+  where
+    told_or : Option ℕ → ℕ
+    told_or (Some n) = n
+    told_or None = rows
+
+    is_some : Option ℕ → Bool
+    is_some (Some n) = true
+    is_some None = false
+
+    go : (d : Bool) → lies_whole pen.frame && is_open pen kind ≡ d → Some told ≡ cond d (Some rows) None → offered pen rows (offer kind x y 0 0) ≡ t
+    go true h e = direct_offered pen rows kind x y h ∙ sym (w ∙ ap (λ (o : Option ℕ). in_field pen (told_or o) x y) e)
+    go false h e = absurd (true≢false (ap is_some e))
 
 -- ---- a segment whose ends are inside
 

@@ -1,92 +1,54 @@
 -- How a walk goes on along its route: what a way asks of a spot is whether its pixel is offered, and where it is, the place of the spot is the pixel's; a walk
 -- of several steps at once stands where the single steps would, and what it leaves out is none of the unit's. Assumes nothing.
-use Rattle.std.proofs.Common.{◌≡◌, ℕ, ◌+◌, ◌-◌, ◌*◌, ◌%◌, ◌^◌, ◌<◌, ◌≤◌, Bool, true, false, cond, ◌&&◌, ◌||◌, eqb, ltb, ◌⊎◌, [], sym, refl, ap, ◌∙◌, ap₂, inl, inr, true≢false, add_assoc, arith, eqb-true}
+use Rattle.std.proofs.Common.{◌≡◌, ℕ, ◌+◌, ◌-◌, ◌*◌, ◌%◌, ◌^◌, ◌<◌, ◌≤◌, Bool, true, false, cond, eqb, ltb, [], sym, refl, ap, ◌∙◌, ap₂, add_assoc, arith}
 use native.Mathlib.Nat.{mod-add-mod, add-mod-mod}
 use Rattle.picture.specs.declared.Frame.{Frame}
 use Rattle.picture.specs.declared.Pen.{Pen}
 use Rattle.picture.specs.declared.Vertex.{Vertex}
 use Rattle.picture.specs.Place.{lies_plain, lies_tiled, layout_of, rows_of, place_of, mine}
 use Rattle.picture.specs.Offer.{offer, offered}
-use Rattle.picture.specs.Picture.{is_deep}
 use Rattle.picture.proofs.Places.{plain_mine, tiled_mine, place_plain, place_tiled}
-use Rattle.ground.proofs.Truth.{both}
+use Rattle.line.specs.declared.Mode.{Mode}
 use Rattle.line.specs.declared.Style.{Style}
 use Rattle.line.specs.declared.part.Part.{Part}
 use Rattle.line.specs.declared.slope.Slope.{Slope}
 use Rattle.line.specs.declared.walk.Walk.{Walk}
 use Rattle.line.specs.declared.walk.Step.{Step}
 use Rattle.line.specs.declared.route.Route.{Route}
+use Rattle.line.specs.declared.route.Way.{Way}
+use Rattle.line.specs.declared.route.Way.TheVariants.{Rows, Tiles, Shares, Asked}
 use Rattle.line.specs.Segment.{kind_of, x_at, y_at, step_offers}
 use Rattle.line.specs.Step.{OnStep}
 use Rattle.line.specs.Course.{spot_at}
 use Rattle.line.specs.Part.{part, part_of, has_place}
 use Rattle.line.specs.Walk.{Stands, twice_of, next_of}
-use Rattle.line.specs.Field.{in_field, ends_within, AllOffered, is_open, is_bare}
-use Rattle.line.specs.Route.{lies_of, way_of, spot_width, column_of, row_of, is_here, placed_at, far_of, OnRoute, onward_of, Begins, Goes, Sets, Traces}
+use Rattle.line.specs.Field.{ends_within, AllOffered}
+use Rattle.line.specs.Route.{lies_of, way_of, spot_width, column_of, row_of, is_here, placed_at, far_of, onward_of, Goes, Traces}
 use Rattle.line.proofs.Steps.{steps_apart}
 use Rattle.line.proofs.Insides.{step_offered, step_low, direct_offered, inside_whole}
 use Rattle.line.proofs.Parts.{part_mine, part_place, part_between}
 use Rattle.line.proofs.Loops.{stands_next, hidden_step}
 
--- ---- the ways, by their numbers
+-- ---- the ways
 
 -- each of the four, with what it says of the layout and of the ends
-pub data Way (frame : Frame) (inside : Bool) (way : ℕ) : Type 0 where
-  in_rows : way ≡ 0 → inside ≡ true → lies_plain frame ≡ true → Way frame inside way
-  in-tiles : way ≡ 1 → inside ≡ true → lies_tiled frame ≡ true → Way frame inside way
-  in-shares : way ≡ 2 → inside ≡ true → lies_plain frame ≡ false → lies_tiled frame ≡ false → Way frame inside way
-  in-asked : way ≡ 3 → lies_plain frame ≡ true → Way frame inside way
+pub data Known (frame : Frame) (inside : Bool) (way : Way) : Type 0 where
+  in_rows : way ≡ Rows → inside ≡ true → lies_plain frame ≡ true → Known frame inside way
+  in-tiles : way ≡ Tiles → inside ≡ true → lies_tiled frame ≡ true → Known frame inside way
+  in-shares : way ≡ Shares → inside ≡ true → lies_plain frame ≡ false → lies_tiled frame ≡ false → Known frame inside way
+  in-asked : way ≡ Asked → lies_plain frame ≡ true → Known frame inside way
 
 -- a way is one of them
-pub way_known : (pen : Pen) (rows : ℕ) (style : Style) (way : ℕ) (a b : Vertex) → Goes pen rows style way a b → Way pen.frame (ends_within pen rows a b) way
+pub way_known : (pen : Pen) (rows : ℕ) (style : Style) (way : Way) (a b : Vertex) → Goes pen rows style way a b → Known pen.frame (ends_within pen rows a b) way
 unfolding way_of lies_of
 way_known pen rows style way a b h = go (ends_within pen rows a b) refl (lies_plain pen.frame) refl (lies_tiled pen.frame) refl h.so
   where
     go : (i : Bool) → ends_within pen rows a b ≡ i → (p : Bool) → lies_plain pen.frame ≡ p → (t : Bool) → lies_tiled pen.frame ≡ t
-        → way ≡ cond i (cond p 0 (cond t 1 2)) 3 → Way pen.frame (ends_within pen rows a b) way
+        → way ≡ cond i (cond p Rows (cond t Tiles Shares)) Asked → Known pen.frame (ends_within pen rows a b) way
     go true i true p t l e = in_rows e i p
     go true i false p true t e = in-tiles e i t
     go true i false p false t e = in-shares e i p t
     go false i p q t l e = in-asked e (h.plain i)
-
--- and none of the first three is the fourth
-pub asked_left : {pen : Pen} {rows : ℕ} {style : Style} {way : ℕ} {a b : Vertex} → Goes pen rows style way a b → (way ≡ 0 → ⊥) → (way ≡ 1 → ⊥) → (way ≡ 2 → ⊥)
-    → way ≡ 3
-asked_left {pen} {rows} {style} {way} {a} {b} h n m l = go (way_known pen rows style way a b h)
-  where
-    go : Way pen.frame (ends_within pen rows a b) way → way ≡ 3
-    go (in_rows e i p) = absurd (n e)
-    go (in-tiles e i t) = absurd (m e)
-    go (in-shares e i p t) = absurd (l e)
-    go (in-asked e p) = e
-
--- by the tests that were made
-pub goes_of_tests : {pen : Pen} {rows : ℕ} {style : Style} {way : ℕ} {a b : Vertex} {o r t p : Bool} → o ≡ is_open pen (kind_of style.mode) → r ≡ is_bare pen (kind_of style.mode)
-    → t ≡ ends_within pen rows a b → p ≡ lies_plain pen.frame → way ≡ way_of pen.frame t → o && r && (t || p) ≡ true → Goes pen rows style way a b
-goes_of_tests {pen} {rows} {style} {way} {a} {b} {o} {r} {t} {p} eo er et ep ew h =
-    let u = both (o && r) (t || p) h in
-    let v = both o r u.0 in
-    record { so = ew ∙ ap (way_of pen.frame) et; plain = λ i. sym ep ∙ right t p (et ∙ i) u.1; clear = sym eo ∙ v.0; bare = sym er ∙ v.1 }
-  where
-    right : (t p : Bool) → t ≡ false → t || p ≡ true → p ≡ true
-    right true p e h = absurd (true≢false e)
-    right false p e h = h
-
--- what the loops are given, by what was computed
-pub sets_of : {pen : Pen} {rows used : ℕ} {style : Style} {way w : ℕ} {deep : Bool} {r : Route} {a b : Vertex} {p : Step} → rows ≡ used → way ≡ w
-    → deep ≡ is_deep (kind_of style.mode) → Goes pen rows style way a b → OnRoute pen.frame rows way deep a b r → Begins style r p → Sets pen used style w r a b p
-sets_of e f d g o b = record { goes = rw (e, f) at g; route = rw (e, f, d) at o; begins = b }
-
--- the width of spots, where they are places of rows, and where column and row are read from them
-width_line : (frame : Frame) {way : ℕ} → (way ≡ 0) ⊎ (way ≡ 2) → spot_width way frame ≡ frame.line
-unfolding spot_width
-width_line frame (inl e) = rw e
-width_line frame (inr e) = rw e
-
-width_read : (frame : Frame) {way : ℕ} → (way ≡ 1) ⊎ (way ≡ 3) → spot_width way frame ≡ 65536
-unfolding spot_width
-width_read frame (inl e) = rw e
-width_read frame (inr e) = rw e
 
 spot_column : (x y : ℕ) → x ≤ 65535 → column_of (y * 65536 + x) ≡ x
 spot_column x y h = omega (arith, h)
@@ -155,36 +117,42 @@ pub record Low (a b : Vertex) : Type 0 where
   pub bx : b.x ≤ 65535
   pub by : b.y ≤ 65535
 
-module _ (pen : Pen) (ni nz : ℕ) (style : Style) (deep backing : Bool) (way : ℕ) (r : Route) (a b : Vertex) (h : Traces pen (rows_of pen.frame ni nz) style deep backing way r a b) where
+module _ (pen : Pen) (ni nz : ℕ) (style : Style) (mode : Mode) (way : Way) (r : Route) (h : Traces pen (rows_of pen.frame ni nz) style mode way r) where
+  abbrev a : Vertex
+  a = r.slope.a
+
+  abbrev b : Vertex
+  b = r.slope.b
+
   abbrev rows_in_use : ℕ
   rows_in_use = rows_of pen.frame ni nz
 
   abbrev spot : ℕ → ℕ
-  spot k = spot_at r.width a b k
+  spot k = spot_at r.course.width a b k
 
-  known : Way pen.frame (ends_within pen rows_in_use a b) way
+  known : Known pen.frame (ends_within pen rows_in_use a b) way
   known = way_known pen rows_in_use style way a b h.goes
 
   all_offered : ends_within pen rows_in_use a b ≡ true → AllOffered pen rows_in_use (kind_of style.mode) a b
   all_offered i = record { ends = i; clear = h.goes.clear }
 
   -- a spot in a picture of rows, and one from which column and row are read
-  spot_line : (k : ℕ) → (way ≡ 0) ⊎ (way ≡ 2) → spot k ≡ y_at a b k * pen.frame.line + x_at a b k
-  spot_line k e = ap (λ (w : ℕ). y_at a b k * w + x_at a b k) (h.route.wide ∙ width_line pen.frame e)
+  spot_line : (k : ℕ) → spot_width way pen.frame ≡ pen.frame.line → spot k ≡ y_at a b k * pen.frame.line + x_at a b k
+  spot_line k e = ap (λ (w : ℕ). y_at a b k * w + x_at a b k) (h.route.wide ∙ e)
 
-  spot_read : (k : ℕ) → OnStep a b r.slope k → Low a b → (way ≡ 1) ⊎ (way ≡ 3) → (column_of (spot k) ≡ x_at a b k) × (row_of (spot k) ≡ y_at a b k)
+  spot_read : (k : ℕ) → OnStep a b r.slope k → Low a b → spot_width way pen.frame ≡ 65536 → (column_of (spot k) ≡ x_at a b k) × (row_of (spot k) ≡ y_at a b k)
   spot_read k on l e =
       let low = step_low a b k (rw on.slope at on.step) in
-      let is = ap (λ (w : ℕ). y_at a b k * w + x_at a b k) (h.route.wide ∙ width_read pen.frame e) in
+      let is = ap (λ (w : ℕ). y_at a b k * w + x_at a b k) (h.route.wide ∙ e) in
       let x : x_at a b k ≤ 65535 = omega (arith, low.0, l.ax, l.bx) in
       let y : y_at a b k ≤ 65535 = omega (arith, low.1, l.ay, l.by) in
       (ap column_of is ∙ spot_column (x_at a b k) (y_at a b k) x, ap row_of is ∙ spot_row (x_at a b k) (y_at a b k) x y)
 
   -- a unit has a step where it has its column
-  own_mine : (k : ℕ) → way ≡ 2 → ends_within pen rows_in_use a b ≡ true → lies_plain pen.frame ≡ false → lies_tiled pen.frame ≡ false
+  own_mine : (k : ℕ) → way ≡ Shares → ends_within pen rows_in_use a b ≡ true → lies_plain pen.frame ≡ false → lies_tiled pen.frame ≡ false
       → has_place r.part (spot k) ≡ mine (layout_of pen.frame) (x_at a b k)
   own_mine k e i p t =
-      ap₂ has_place h.route.shared (spot_line k (inr e))
+      ap₂ has_place h.route.shared (spot_line k (ap (λ (w : Way). spot_width w pen.frame) e))
       ∙ part_mine pen.frame p t (x_at a b k) (y_at a b k) (inside_whole pen ni nz (kind_of style.mode) a b (all_offered i))
 
   -- where both ends are inside, a step is offered whose column the memory has
@@ -195,34 +163,32 @@ module _ (pen : Pen) (ni nz : ℕ) (style : Style) (deep backing : Bool) (way : 
   -- what a way asks of a step's spot is whether the step is offered
   pub step_here : (k : ℕ) → OnStep a b r.slope k → Low a b
       → offered pen rows_in_use (offer (kind_of style.mode) (x_at a b k) (y_at a b k) 0 0) ≡ is_here pen r.rows way r.part (spot k)
-  unfolding is_here
   step_here k on l = go known
     where
-      go : Way pen.frame (ends_within pen rows_in_use a b) way
+      go : Known pen.frame (ends_within pen rows_in_use a b) way
           → offered pen rows_in_use (offer (kind_of style.mode) (x_at a b k) (y_at a b k) 0 0)
-          ≡ cond (eqb way 2) (has_place r.part (spot k)) (cond (eqb way 3) (in_field pen r.rows (column_of (spot k)) (row_of (spot k))) true)
+          ≡ is_here pen r.rows way r.part (spot k)
       go (in_rows e i p) = rw (e, inside_offered k on i) (plain_mine pen.frame (x_at a b k) p)
       go (in-tiles e i t) = rw (e, inside_offered k on i) (tiled_mine pen.frame (x_at a b k) t)
       go (in-shares e i p t) = inside_offered k on i ∙ sym (own_mine k e i p t) ∙ rw e
       go (in-asked e p) =
-          let at = spot_read k on l (inr e) in
+          let at = spot_read k on l (ap (λ (w : Way). spot_width w pen.frame) e) in
           direct_offered pen rows_in_use (kind_of style.mode) (x_at a b k) (y_at a b k) (rw (p, h.goes.clear)) ∙ rw (e, h.route.limited, at.0, at.1)
 
   -- and its place is the pixel's
   pub step_placed : (k : ℕ) → OnStep a b r.slope k → Low a b → placed_at pen.frame way r.part (spot k) ≡ place_of pen.frame (x_at a b k) (y_at a b k)
-  unfolding placed_at
   step_placed k on l = go known
     where
-      go : Way pen.frame (ends_within pen rows_in_use a b) way → placed_at pen.frame way r.part (spot k) ≡ place_of pen.frame (x_at a b k) (y_at a b k)
-      go (in_rows e i p) = rw e (spot_line k (inl e) ∙ sym (place_plain pen.frame (x_at a b k) (y_at a b k) p))
+      go : Known pen.frame (ends_within pen rows_in_use a b) way → placed_at pen.frame way r.part (spot k) ≡ place_of pen.frame (x_at a b k) (y_at a b k)
+      go (in_rows e i p) = rw e (spot_line k (ap (λ (w : Way). spot_width w pen.frame) e) ∙ sym (place_plain pen.frame (x_at a b k) (y_at a b k) p))
       go (in-tiles e i t) =
-          let at = spot_read k on l (inl e) in
+          let at = spot_read k on l (ap (λ (w : Way). spot_width w pen.frame) e) in
           rw (e, at.0, at.1) (sym (place_tiled pen.frame (x_at a b k) (y_at a b k) t))
       go (in-shares e i p t) =
-          rw (e, h.route.shared, spot_line k (inr e))
+          rw (e, h.route.shared, spot_line k (ap (λ (w : Way). spot_width w pen.frame) e))
           (part_place pen.frame p t (x_at a b k) (y_at a b k) (inside_whole pen ni nz (kind_of style.mode) a b (all_offered i)))
       go (in-asked e p) =
-          let at = spot_read k on l (inr e) in
+          let at = spot_read k on l (ap (λ (w : Way). spot_width w pen.frame) e) in
           rw (e, at.0, at.1) (sym (place_plain pen.frame (x_at a b k) (y_at a b k) p))
 
   -- by what was computed
@@ -252,8 +218,7 @@ module _ (pen : Pen) (ni nz : ℕ) (style : Style) (deep backing : Bool) (way : 
   -- a loop that goes on from a step comes to a later one where its walk stands, and no step of the segment between the two offers anything
   pub goes_on : {p q : Step} → Stands r.near p → OnStep a b r.slope p.k → q ≡ onward_of way r (spot p.k) p
       → Onward r.near p q (λ j. j ≤ r.slope.n → step_offers pen rows_in_use style style.mode a b j ≡ [])
-  unfolding onward_of
-  goes_on {p} {q} st on e = rw e (go (eqb way 2 && has_place r.part (spot p.k)) refl)
+  goes_on {p} {q} st on e = rw e (by_way known)
     where
       single : r.near.stride ≡ 1
       single = h.route.carries.single
@@ -268,26 +233,35 @@ module _ (pen : Pen) (ni nz : ℕ) (style : Style) (deep backing : Bool) (way : 
       far_is : r.far ≡ far_of (part_of pen.frame) r.slope r.near
       far_is = h.route.further ∙ ap (λ (part : Part). far_of part r.slope r.near) h.route.shared
 
-      between : way ≡ 2 → has_place r.part (spot p.k) ≡ true → Way pen.frame (ends_within pen rows_in_use a b) way → (j : ℕ) → p.k < j
-          → j < p.k + (far_of (part_of pen.frame) r.slope r.near).stride → j ≤ r.slope.n → step_offers pen rows_in_use style style.mode a b j ≡ []
-      between w o (in_rows x y z) j u v n = absurd (omega (arith, w, x))
-      between w o (in-tiles x y z) j u v n = absurd (omega (arith, w, x))
-      between w o (in-shares x i f g) j u v n = far_on i f g (sym (own_mine p.k w i f g) ∙ o) r.slope.level refl j u v n
-      between w o (in-asked x y) j u v n = absurd (omega (arith, w, x))
-
-      go : (t : Bool) → (eqb way 2 && has_place r.part (spot p.k)) ≡ t
-          → Onward r.near p (cond t (next_of r.far p) (next_of r.near p)) (λ j. j ≤ r.slope.n → step_offers pen rows_in_use style style.mode a b j ≡ [])
-      go true t =
-          let u = both (eqb way 2) (has_place r.part (spot p.k)) t in
-          rw far_is
+      step : (w : Way) → onward_of w r (spot p.k) p ≡ next_of r.near p
+          → Onward r.near p (onward_of w r (spot p.k) p) (λ j. j ≤ r.slope.n → step_offers pen rows_in_use style style.mode a b j ≡ [])
+      step w e =
+          rw e
           (record {
-            stands = stands_far r.near single (part_of pen.frame) r.slope p st;
-            further = omega (arith, (far_few r.near single (part_of pen.frame) r.slope).0);
-            between = λ j x y n. between (eqb-true way 2 u.0) u.1 known j x y n;
-          })
-      go false t =
-          record {
             stands = stands_next r.near p single st;
             further = omega (arith, single);
             between = λ j u v n. absurd (omega (arith, u, v, single));
-          }
+          })
+
+      by_way : Known pen.frame (ends_within pen rows_in_use a b) way
+          → Onward r.near p (onward_of way r (spot p.k) p) (λ j. j ≤ r.slope.n → step_offers pen rows_in_use style style.mode a b j ≡ [])
+      by_way (in_rows e i l) = step way (rw e)
+      by_way (in-tiles e i t) = step way (rw e)
+      by_way (in-asked e l) = step way (rw e)
+      by_way (in-shares e i l t) = rw e (share (has_place r.part (spot p.k)) refl)
+        where
+          share : (t : Bool) → has_place r.part (spot p.k) ≡ t
+              → Onward r.near p (cond t (next_of r.far p) (next_of r.near p)) (λ j. j ≤ r.slope.n → step_offers pen rows_in_use style style.mode a b j ≡ [])
+          share true o =
+              rw far_is
+              (record {
+                stands = stands_far r.near single (part_of pen.frame) r.slope p st;
+                further = omega (arith, (far_few r.near single (part_of pen.frame) r.slope).0);
+                between = λ j u v n. far_on i l t (sym (own_mine p.k e i l t) ∙ o) r.slope.level refl j u v n;
+              })
+          share false o =
+              record {
+                stands = stands_next r.near p single st;
+                further = omega (arith, single);
+                between = λ j u v n. absurd (omega (arith, u, v, single));
+              }

@@ -1,5 +1,6 @@
 -- One step of a segment: where it is by the slope that was computed, and that it counts one pixel at most. Assumes nothing.
 use Rattle.std.proofs.Common.{◌≡◌, ℕ, ◌+◌, ◌-◌, ◌%◌, ◌<◌, ◌≤◌, Bool, true, false, cond, leb, ◌⊎◌, List, [], sym, refl, ap, ◌∙◌, inl, inr, zero-le, arith, leb-false}
+use Rattle.std.proofs.Math.Path.{path_j}
 use Rattle.picture.specs.declared.Pen.{Pen}
 use Rattle.picture.specs.declared.Vertex.{Vertex}
 use Rattle.picture.specs.Offer.{Offer, keep}
@@ -10,18 +11,24 @@ use Rattle.line.specs.declared.slope.Slope.{Slope}
 use Rattle.line.specs.Segment.{distance, towards, larger, smaller, x_leads, side_at, x_at, y_at}
 use Rattle.line.specs.Step.{slope_of, OnStep}
 use Rattle.line.proofs.Rounding.{side_le}
-use Rattle.line.proofs.Segments.{x_first, y_first, reaches}
+use Rattle.line.proofs.Segments.{reaches}
 
--- ---- the slope that two distances give
+-- ---- a slope
 
-module _ (a b : Vertex) (dx dy : ℕ) (e : dx ≡ distance a.x b.x) (f : dy ≡ distance a.y b.y) where
-  -- where the distance along x is no less than that along y, x leads, n is the distance along x and m the one along y
-  pub slope_level : dy ≤ dx → record { level = true; n = dx; m = dy } ≡ slope_of a b
-  slope_level h = let s = x_first a b (rw (e, f) at h) in rw (s.0, s.1, s.2, e, f)
+-- is that of its two points, by what it says of itself
+pub slope_is : (s : Slope) → s ≡ slope_of s.a s.b
+slope_is s =
+    path_j (λ (l : Bool) (e : x_leads s.a s.b ≡ l). record { a = s.a; b = s.b; level = l; n = s.n; m = s.m; leads = e; longer = s.longer; shorter = s.shorter } ≡ slope_of s.a s.b)
+    (path_j (λ (n : ℕ) (e : larger s.a s.b ≡ n). record { a = s.a; b = s.b; level = x_leads s.a s.b; n = n; m = s.m; leads = refl; longer = e; shorter = s.shorter } ≡ slope_of s.a s.b)
+    (path_j (λ (m : ℕ) (e : smaller s.a s.b ≡ m). record { a = s.a; b = s.b; level = x_leads s.a s.b; n = larger s.a s.b; m = m; leads = refl; longer = refl; shorter = e } ≡ slope_of s.a s.b)
+    refl
+    s.shorter)
+    s.longer)
+    s.leads
 
-  -- where the distance along x is less than that along y, y leads, n is the distance along y and m the one along x
-  pub slope_steep : dx < dy → record { level = false; n = dy; m = dx } ≡ slope_of a b
-  slope_steep h = let s = y_first a b (rw (e, f) at h) in rw (s.0, s.1, s.2, e, f)
+-- so up to the last step each is one of the segment
+pub on_step : (s : Slope) {k : ℕ} → k ≤ s.n → OnStep s.a s.b s k
+on_step s h = record { slope = slope_is s; step = h }
 
 -- ---- where step k is
 

@@ -10,9 +10,9 @@ use Rattle.line.specs.Segment.{x_at, y_at}
 abbrev pub move : ℕ → ℕ → Move
 move up down = record { up = up; down = down }
 
--- a course from a first spot on, with the move of each step along the leading axis and the one to the side
-abbrev pub course : ℕ → Move → Move → Course
-course first ahead aside = record { first = first; ahead = ahead; aside = aside }
+-- a course of spots of a width from a first spot on, with the move of each step along the leading axis and the one to the side
+abbrev pub course : ℕ → ℕ → Move → Move → Course
+course width first ahead aside = record { width = width; first = first; ahead = ahead; aside = aside }
 
 -- a pixel towards a larger number adds the width to the spot, and towards a smaller one it takes it
 unfoldable pub move_of : ℕ → ℕ → ℕ → Move
@@ -21,8 +21,8 @@ move_of from to width = cond (nat_le from to) (move width 0) (move 0 width)
 -- a pixel along x is one, a pixel along y is a width
 unfoldable pub course_of : ℕ → Vertex → Vertex → Bool → Course
 course_of width a b level =
-    cond level (course (a.y * width + a.x) (move_of a.x b.x 1) (move_of a.y b.y width))
-    (course (a.y * width + a.x) (move_of a.y b.y width) (move_of a.x b.x 1))
+    cond level (course width (a.y * width + a.x) (move_of a.x b.x 1) (move_of a.y b.y width))
+    (course width (a.y * width + a.x) (move_of a.y b.y width) (move_of a.x b.x 1))
 
 -- c is the course of the segment from a to b
 abbrev pub OnCourse : ℕ → Vertex → Vertex → Slope → Course → Type 0

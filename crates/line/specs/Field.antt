@@ -1,5 +1,5 @@
 -- What is asked of a step's pixel before it is drawn.
-use Rattle.std.specs.Prelude.{◌≡◌, ℕ, Bool, true, not, ◌&&◌, ◌||◌, ◌==◌, nat_lt}
+use Rattle.std.specs.Prelude.{◌≡◌, ℕ, Bool, true, cond, not, ◌&&◌, ◌||◌, ◌==◌, Option, Some, None, nat_lt}
 use Rattle.picture.specs.declared.Frame.{Frame}
 use Rattle.picture.specs.declared.Pen.{Pen}
 use Rattle.picture.specs.declared.Vertex.{Vertex}
@@ -7,7 +7,6 @@ use Rattle.picture.specs.declared.Kind.{Kind}
 use Rattle.picture.specs.Place.{lies_plain, lies_tiled}
 use Rattle.picture.specs.Offer.{in_window, is_masked}
 use Rattle.picture.specs.Picture.{is_deep}
-use Rattle.line.specs.declared.field.Field.{Field}
 
 -- the transparency pattern hides nothing: it does not concern the kind, or is all ones
 abbrev pub is_open : Pen → Kind → Bool
@@ -17,9 +16,9 @@ is_open pen kind = not (is_masked kind) || pen.transparency == 65535
 abbrev pub lies_whole : Frame → Bool
 lies_whole frame = lies_plain frame || lies_tiled frame
 
--- the rows in use, and whether nothing but the window and the memory is asked
-abbrev pub field_of : Pen → Kind → ℕ → Field
-field_of pen kind rows = record { direct = lies_whole pen.frame && is_open pen kind; rows = rows }
+-- the rows in use, where nothing but the window and the memory is asked
+abbrev pub direct_rows : Pen → Kind → ℕ → Option ℕ
+direct_rows pen kind rows = cond (lies_whole pen.frame && is_open pen kind) (Some rows) None
 
 -- a pixel is inside the window, and in a column of the line and a row in use
 unfoldable pub in_field : Pen → ℕ → ℕ → ℕ → Bool

@@ -1,5 +1,5 @@
 -- A segment's steps, by the slope that was computed.
-use Rattle.std.specs.Prelude.{◌≡◌, ℕ, ◌≤◌}
+use Rattle.std.specs.Prelude.{◌≡◌, ℕ, ◌≤◌, refl}
 use Rattle.picture.specs.declared.Vertex.{Vertex}
 use Rattle.line.specs.declared.slope.Slope.{Slope}
 use Rattle.line.specs.declared.slope.Pixel.{Pixel}
@@ -7,7 +7,7 @@ use Rattle.line.specs.Segment.{larger, smaller, x_leads, x_at, y_at}
 
 -- the slope of the segment from a to b
 abbrev pub slope_of : Vertex → Vertex → Slope
-slope_of a b = record { level = x_leads a b; n = larger a b; m = smaller a b }
+slope_of a b = record { a = a; b = b; level = x_leads a b; n = larger a b; m = smaller a b; leads = refl; longer = refl; shorter = refl }
 
 -- the pixel of step k
 abbrev pub step_pixel : Vertex → Vertex → ℕ → Pixel

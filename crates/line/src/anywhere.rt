@@ -1,94 +1,77 @@
 // Segments with any pen, wherever they are and in any layout: each step asks whether its pixel is offered. What `trace` draws does not come here.
 ghost use Rattle.std.specs.Prelude.{◌≡◌, ◌≤◌};
 ghost use Rattle.picture.specs.Offer.{offer, keep};
-ghost use Rattle.picture.specs.Picture.{is_deep, picture, drawn};
+ghost use Rattle.picture.specs.Picture.{is_deep};
 ghost use Rattle.line.specs.Segment.{kind_of, step_offers, segment_offers};
-ghost use Rattle.line.specs.Field.{field_of};
+ghost use Rattle.line.specs.Field.{direct_rows};
 ghost use Rattle.line.specs.Walk.{Reaches};
 ghost use Rattle.picture.specs.Lent.{Draws, rows_over};
 
 use crate::Style;
-use crate::field::{Field, field_of, is_within, kind_of};
-use crate::pattern::{has_ground, ink_at, is_deep, is_joined};
-use crate::slope::{Slope, pixel_of, slope_of};
-use crate::walk::{Step, begin, next, walk_of, whole};
+use crate::field::{direct_rows, is_within};
+use crate::pattern::ink_at;
+use crate::slope::Slope;
+use crate::walk::{Step, walk_of};
+use picture::carry::whole;
 use picture::draw::{put, put_placed};
 use picture::place::place;
-use picture::{Kind, Pen, Vertex};
+use picture::{Kind, Memories, Pen, Vertex};
 
-// What `put` draws, with as little asked as the field needs. The loop stands here once, so that all of this is compiled into it.
-fn put_pixel(
-    pen: Pen,
-    kind: Kind,
-    field: Field,
-    x: u16,
-    y: u16,
-    i: u16,
-    z: u16,
-    im: &mut [u16],
-    zm: &mut [u16],
-) -> u64
-    requires { field ≡ field_of pen kind (rows_over pen.frame im zm) }
-    ensures { Draws pen (λ rows. keep pen rows (offer kind x y i z)) im zm 0 result }
+// What `put` draws, with as little asked as the rows in use allow, where they are told. The loop stands here once, so that all of this is compiled into it. A
+// trait with this match's two arms for its impls, as `trace` has for its ways, would be no plainer: here are no two loops to tell apart.
+fn put_pixel(pen: Pen, kind: Kind, direct: Option<usize>, vertex: Vertex, m: &mut Memories) -> u64
+    requires { direct ≡ direct_rows pen kind (rows_over pen.frame m.old) }
+    ensures { Draws pen (λ rows. keep pen rows (offer kind vertex.x vertex.y vertex.i vertex.z)) m 0 result }
 {
-    if field.direct {
-        if is_within(pen, field.rows, x, y) {
-            let frame = pen.frame;
-            let at = place(frame, x, y);
-            return put_placed(pen, kind, at, i, z, im, zm);
-        }
-        return 0;
+    let Some(rows) = direct else {
+        return put(pen, kind, vertex, m);
+    };
+    if is_within(pen, rows, vertex.x, vertex.y) {
+        let at = place(pen.frame, vertex.x, vertex.y);
+        return put_placed(pen, kind, at, vertex.i, vertex.z, m);
     }
-    put(pen, kind, x, y, i, z, im, zm)
+    0
 }
 
 // Draws the step where a walk stands.
 fn put_step(
     pen: Pen,
-    kind: Kind,
     style: Style,
-    field: Field,
-    a: Vertex,
-    b: Vertex,
-    s: Slope,
-    p: Step,
-    im: &mut [u16],
-    zm: &mut [u16],
+    direct: Option<usize>,
+    slope: Slope,
+    step: Step,
+    m: &mut Memories,
 ) -> u64
-    requires { Reaches style (is_deep kind) s a b p × (kind ≡ kind_of style.mode) × (field ≡ field_of pen kind (rows_over pen.frame im zm)) }
-    ensures { (Draws pen (λ rows. step_offers pen rows style style.mode a b p.k) im zm 0 result) × (result ≤ 1) }
+    requires { Reaches style (is_deep (kind_of style.mode)) slope slope.a slope.b step × (direct ≡ direct_rows pen (kind_of style.mode) (rows_over pen.frame m.old)) }
+    ensures { (Draws pen (λ rows. step_offers pen rows style style.mode slope.a slope.b step.k) m 0 result) × (result ≤ 1) }
 {
-    let mode = style.mode;
-    let ink = ink_at(style, is_deep(mode), has_ground(mode), p);
+    let ink = ink_at(style, style.mode, step);
     if ink.drawn {
-        let q = pixel_of(a, b, s, p.k, whole(p.side));
-        return put_pixel(pen, kind, field, q.x, q.y, ink.i, ink.z, im, zm);
+        let pixel = slope.pixel_of(step.k, whole(step.side));
+        let vertex = Vertex {
+            x: pixel.x,
+            y: pixel.y,
+            i: ink.i,
+            z: ink.z,
+        };
+        return put_pixel(pen, style.mode.into(), direct, vertex, m);
     }
     0
 }
 
 // Draws a segment.
-pub(crate) fn drawn_anywhere(
-    pen: Pen,
-    style: Style,
-    a: Vertex,
-    b: Vertex,
-    im: &mut [u16],
-    zm: &mut [u16],
-) -> u64
-    ensures { Draws pen (λ rows. segment_offers pen rows style a b) im zm 0 result }
+pub(crate) fn drawn_anywhere(pen: Pen, style: Style, slope: Slope, m: &mut Memories) -> u64
+    ensures { Draws pen (λ rows. segment_offers pen rows style slope.a slope.b) m 0 result }
 {
-    let s = slope_of(a, b);
-    let n = s.n as u64;
-    let mode = style.mode;
-    let w = walk_of(a, b, s, is_deep(mode));
-    let field = field_of(pen, mode, im.len(), zm.len());
-    let kind = kind_of(mode);
-    let mut p = begin(w, is_joined(style));
+    let last = slope.n as u64;
+    let walk = walk_of(slope, style.mode.is_deep());
+    let direct = direct_rows(pen, style.mode, m.i.len(), m.z.len());
+    let mut step = walk.begin(style.is_joined());
     let mut passed: u64 = 0;
-    while p.k <= n {
-        passed += put_step(pen, kind, style, field, a, b, s, p, im, zm);
-        p = next(w, p);
+    // A while: an iterator of steps would need the walk's proof in its own next, and the sum of what they pass in this loop all the same; it is no plainer.
+    while step.k <= last {
+        passed += put_step(pen, style, direct, slope, step, m);
+        step = walk.next(step);
     }
     passed
 }

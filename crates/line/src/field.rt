@@ -2,68 +2,44 @@
 ghost use Rattle.std.specs.Prelude.{◌≡◌};
 ghost use Rattle.picture.specs.Place.{rows_of};
 ghost use Rattle.line.specs.Segment.{kind_of};
-ghost use Rattle.line.specs.Field.{in_field, ends_within, is_open, lies_whole, field_of, is_bare};
+ghost use Rattle.line.specs.Field.{in_field, ends_within, is_open, lies_whole, direct_rows, is_bare};
 
 use crate::Mode;
 use picture::pixel::is_in_window;
-use picture::place::{TILED, lies_plain, rows_of};
-use picture::{Frame, Kind, Pen, Vertex};
-
-// The rows in use, and whether nothing but the window and the memory is asked: in rows and in tiles, where the transparency pattern hides nothing.
-#[derive(Clone, Copy)]
-pub(crate) struct Field {
-    pub(crate) direct: bool,
-    pub(crate) rows: usize,
-}
-
-// The kind of a line's pixels.
-pub(crate) fn kind_of(mode: Mode) -> Kind
-    ensures { result ≡ kind_of mode }
-{
-    match mode {
-        Mode::Zero => Kind::Line0,
-        Mode::One => Kind::Line1,
-        Mode::Two => Kind::Line2,
-    }
-}
+use picture::place::{lies_plain, lies_tiled, rows_of};
+use picture::{Frame, Pen, Vertex};
 
 // Whether the transparency pattern hides nothing of a line.
 pub(crate) fn is_open(pen: Pen, mode: Mode) -> bool
     ensures { result ≡ is_open pen (kind_of mode) }
 {
-    match mode {
-        Mode::Zero => pen.transparency == 65535,
-        Mode::One => pen.transparency == 65535,
-        Mode::Two => true,
-    }
+    matches!(mode, Mode::Two) | (pen.transparency == 65535)
 }
 
 // Whether pixels lie in rows or in tiles, so that the memory has every column.
 fn lies_whole(frame: Frame) -> bool
     ensures { result ≡ lies_whole frame }
 {
-    lies_plain(frame) | (frame.layout == TILED)
+    lies_plain(frame) | lies_tiled(frame)
 }
 
-// The field of a segment, over memories of these lengths.
-pub(crate) fn field_of(pen: Pen, mode: Mode, ni: usize, nz: usize) -> Field
-    ensures { result ≡ field_of pen (kind_of mode) (rows_of pen.frame ni nz) }
+// The rows in use, over memories of these lengths, where nothing but the window and the memory is asked of a segment's pixels: in rows and in tiles, where
+// the transparency pattern hides nothing.
+pub(crate) fn direct_rows(pen: Pen, mode: Mode, ni: usize, nz: usize) -> Option<usize>
+    ensures { result ≡ direct_rows pen (kind_of mode) (rows_of pen.frame ni nz) }
 {
-    let frame = pen.frame;
-    let open = is_open(pen, mode);
-    let rows = rows_of(frame, ni, nz);
-    let direct = lies_whole(frame) & open;
-    Field { direct, rows }
+    if lies_whole(pen.frame) & is_open(pen, mode) {
+        return Some(rows_of(pen.frame, ni, nz));
+    }
+    None
 }
 
 // Whether pixel (x, y) is inside the window and the memory, with so many rows in use.
 pub(crate) fn is_within(pen: Pen, rows: usize, x: u16, y: u16) -> bool
     ensures { result ≡ in_field pen rows x y }
 {
-    let frame = pen.frame;
-    let window = is_in_window(pen, x, y);
-    let memory = (x < frame.line) & ((y as usize) < rows);
-    window & memory
+    let memory = (x < pen.frame.line) & ((y as usize) < rows);
+    is_in_window(pen, x, y) & memory
 }
 
 // Whether both ends of a segment are.
@@ -77,10 +53,6 @@ pub(crate) fn has_ends(pen: Pen, rows: usize, a: Vertex, b: Vertex) -> bool
 pub(crate) fn is_bare(pen: Pen, mode: Mode) -> bool
     ensures { result ≡ is_bare pen (kind_of mode) }
 {
-    let whole = pen.ienable & (pen.planes == 65535);
-    match mode {
-        Mode::Zero => whole,
-        Mode::One => whole,
-        Mode::Two => (pen.depth & pen.zenable) & whole,
-    }
+    let tested = !mode.is_deep() | (pen.depth & pen.zenable);
+    tested & pen.ienable & (pen.planes == 65535)
 }

@@ -13,6 +13,15 @@ pub(crate) struct Part {
     pub(crate) unit: usize,
 }
 
+impl Part {
+    // Whether a place of the whole picture is one of the unit's.
+    pub(crate) fn has_place(self, at: usize) -> bool
+        ensures { result ≡ has_place self at }
+    {
+        at & self.mask == self.unit
+    }
+}
+
 // The part of a unit, where pixels lie neither in rows nor in tiles.
 pub(crate) fn part_of(frame: Frame) -> Part
     ensures { result ≡ part_of frame }
@@ -30,11 +39,4 @@ pub(crate) fn part_of(frame: Frame) -> Part
         mask: 3,
         unit: layout & 3,
     }
-}
-
-// Whether a place of the whole picture is one of the unit's.
-pub(crate) fn has_place(part: Part, at: usize) -> bool
-    ensures { result ≡ has_place part at }
-{
-    at & part.mask == part.unit
 }

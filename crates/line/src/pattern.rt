@@ -1,14 +1,14 @@
 // What a step is drawn with: the colours of the line's pattern in the modes 0 and 1, the numbers that are carried in mode 2.
 ghost use Rattle.picture.specs.Draw.{carried_one};
-ghost use Rattle.std.specs.Prelude.{◌≡◌, ◌/◌, ◌^◌, if◌then◌else◌};
-ghost use Rattle.picture.specs.Picture.{is_deep};
-ghost use Rattle.line.specs.Segment.{is_set, kind_of};
-ghost use Rattle.line.specs.Ink.{has_ground, ink_of, joined_in};
+ghost use Rattle.std.specs.Prelude.{◌≡◌, ◌/◌, if◌then◌else◌};
+ghost use Rattle.line.specs.Segment.{is_set};
+ghost use Rattle.line.specs.Ink.{ink_of, joined_in};
 
-use crate::walk::{Step, whole};
+use crate::walk::Step;
 use crate::{Mode, Style};
+use picture::carry::whole;
 
-// Whether a step is drawn, and its two numbers.
+// Whether a step is drawn, and its two numbers. An Option of the two was tried: a step of mode 0 over tiles then takes four instructions more (an eighth).
 #[derive(Clone, Copy)]
 pub(crate) struct Ink {
     pub(crate) drawn: bool,
@@ -16,77 +16,49 @@ pub(crate) struct Ink {
     pub(crate) z: u16,
 }
 
-// Whether the pattern bit of step k is set.
-pub(crate) fn is_set(style: Style, k: u64) -> bool
-    ensures { result ≡ is_set style k }
-{
-    let position = ((style.steps as u64) + k % 32) % 32;
-    (style.pattern >> (31 - position)) & 1 == 1
-}
+impl Style {
+    // Whether a segment leaves out its first point: one of mode 2 never does.
+    pub(crate) fn is_joined(self) -> bool
+        ensures { result ≡ joined_in self self.mode }
+    {
+        self.joined & !self.mode.is_deep()
+    }
 
-// The colour of a step whose pattern bit is set or not.
-pub(crate) fn colour_of(style: Style, set: bool) -> u16
-    ensures { result ≡ (if set then style.foreground else style.background) }
-{
-    if set {
-        style.foreground
-    } else {
-        style.background
+    // Whether the pattern bit of step k is set.
+    fn is_set(self, k: u64) -> bool
+        ensures { result ≡ is_set self k }
+    {
+        let position = (self.steps as u64 + k % 32) % 32;
+        (self.pattern >> (31 - position)) & 1 == 1
+    }
+
+    // The colour of a step whose pattern bit is set or not.
+    fn colour_of(self, set: bool) -> u16
+        ensures { result ≡ (if set then self.foreground else self.background) }
+    {
+        if set {
+            self.foreground
+        } else {
+            self.background
+        }
     }
 }
 
-// What a step is drawn with, where lines of the mode have depths or not, and a ground or not.
-pub(crate) fn ink_at(style: Style, deep: bool, backing: bool, p: Step) -> Ink
-    requires { (deep ≡ is_deep (kind_of style.mode)) × (backing ≡ has_ground style.mode) }
-    ensures { result ≡ ink_of style style.mode (is_set style p.k) (p.i / carried_one) (p.z / carried_one) }
+// What a step of a line of this mode is drawn with.
+pub(crate) fn ink_at(style: Style, mode: Mode, step: Step) -> Ink
+    ensures { result ≡ ink_of style mode (is_set style step.k) (step.i / carried_one) (step.z / carried_one) }
 {
-    let set = is_set(style, p.k);
-    let colour = colour_of(style, set);
-    let drawn = set | backing;
-    if deep {
+    if mode.is_deep() {
         return Ink {
             drawn: true,
-            i: whole(p.i),
-            z: whole(p.z),
+            i: whole(step.i),
+            z: whole(step.z),
         };
     }
+    let set = style.is_set(step.k);
     Ink {
-        drawn,
-        i: colour,
+        drawn: set | mode.has_ground(),
+        i: style.colour_of(set),
         z: 0,
-    }
-}
-
-// Whether lines of this mode have depths.
-pub(crate) fn is_deep(mode: Mode) -> bool
-    ensures { result ≡ is_deep (kind_of mode) }
-{
-    match mode {
-        Mode::Zero => false,
-        Mode::One => false,
-        Mode::Two => true,
-    }
-}
-
-// Whether a step is drawn whose pattern bit is clear.
-pub(crate) fn has_ground(mode: Mode) -> bool
-    ensures { result ≡ has_ground mode }
-{
-    match mode {
-        Mode::Zero => true,
-        Mode::One => false,
-        Mode::Two => true,
-    }
-}
-
-// Whether a segment leaves out its first point: one of mode 2 never does.
-pub(crate) fn is_joined(style: Style) -> bool
-    ensures { result ≡ joined_in style style.mode }
-{
-    let mode = style.mode;
-    match mode {
-        Mode::Zero => style.joined,
-        Mode::One => style.joined,
-        Mode::Two => false,
     }
 }

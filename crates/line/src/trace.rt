@@ -1,27 +1,55 @@
 // Segments with a pen that stores whole numbers, where nothing hides a pixel but the window and the memory: no step asks about the pen, and none about
-// window and memory where both ends are inside. The one loop is compiled once for each way and mode, from a call of its own, so that what a step does
-// is little.
+// window and memory where both ends are inside. The one loop is compiled once for each way and mode, which are types, so that what a step does is little.
 ghost use Rattle.std.specs.Prelude.{◌≡◌, ◌<◌, ◌≤◌, true, length, if◌then◌else◌, nat_le};
 ghost use Rattle.picture.specs.Picture.{is_deep, picture, step_at};
-ghost use Rattle.picture.specs.Lent.{Draws, rows_over};
+ghost use Rattle.picture.specs.Place.{rows_of};
+ghost use Rattle.picture.specs.Lent.{Draws, DrawsApart, rows_over};
+ghost use Rattle.line.specs.declared.Mode.{Mode};
+ghost use Rattle.line.specs.declared.Mode.TheVariants.{Zero, One, Two};
 ghost use Rattle.line.specs.Segment.{kind_of, step_offers, segment_offers};
 ghost use Rattle.line.specs.Field.{is_bare};
 ghost use Rattle.line.specs.Walk.{Reaches};
-ghost use Rattle.line.specs.Route.{Begins, Goes, Sets, Traces};
+ghost use Rattle.line.specs.Route.{Goes, Sets, Traces, Begins};
 
-use crate::pattern::{ink_at, is_deep, is_joined};
-use crate::route::{
-    ASKED, ROWS, Route, SHARES, TILES, is_here, onward, place_at, route_of, spot_of,
-};
-use crate::walk::{Step, begin};
+use crate::pattern::ink_at;
+use crate::route::{Asking, InRows, InShares, InTiles, Path, Route, Way, route_of};
+use crate::slope::Slope;
+use crate::walk::Step;
 use crate::{Mode, Style};
-use picture::{Pen, Vertex};
+use picture::{Memories, Pen};
 
-// The new number where a pixel passes, the old one where it does not. It is a choice and no branch.
-fn pick(passes: bool, new: u16, old: u16) -> u16
-    ensures { result ≡ (if passes then new else old) }
-{
-    if passes { new } else { old }
+// A mode as a type.
+trait Lined {
+    ghost MODE: { Mode };
+
+    const MODE: Mode;
+}
+
+// Mode 0.
+struct Grounded;
+
+impl Lined for Grounded {
+    ghost MODE = { Zero };
+
+    const MODE: Mode = Mode::Zero;
+}
+
+// Mode 1.
+struct Dashed;
+
+impl Lined for Dashed {
+    ghost MODE = { One };
+
+    const MODE: Mode = Mode::One;
+}
+
+// Mode 2.
+struct Shaded;
+
+impl Lined for Shaded {
+    ghost MODE = { Two };
+
+    const MODE: Mode = Mode::Two;
 }
 
 // The number i where z is no farther than the depth that stands there, else the one that stood. It is reckoned and not chosen: of a choice of what memory
@@ -29,180 +57,84 @@ fn pick(passes: bool, new: u16, old: u16) -> u16
 fn pick_near(z: u16, old: u16, i: u16, stood: u16) -> u16
     ensures { result ≡ (if nat_le z old then i else stood) }
 {
-    let beyond = std::num::wrapping_sub_u64(old as u64, z as u64) >> 48;
-    let back = std::num::wrapping_sub_u16(stood, i) & (beyond as u16);
-    std::num::wrapping_add_u16(i, back)
+    let beyond = (old as u64).wrapping_sub(z as u64) >> 48;
+    let back = stood.wrapping_sub(i) & (beyond as u16);
+    i.wrapping_add(back)
 }
 
 // One offer at a place. One that does not pass stores what stands there, so that nothing branches.
-fn put_bare(
-    pen: Pen,
-    mode: Mode,
-    deep: bool,
-    at: usize,
-    i: u16,
-    z: u16,
-    im: &mut [u16],
-    zm: &mut [u16],
-) -> u64
-    requires { (deep ≡ is_deep (kind_of mode)) × (is_bare pen (kind_of mode) ≡ true) × (at < length im.old) × (at < length zm.old) }
+fn put_bare(pen: Pen, mode: Mode, at: usize, i: u16, z: u16, im: &mut [u16], zm: &mut [u16]) -> u64
+    requires { (is_bare pen (kind_of mode) ≡ true) × (at < length im.old) × (at < length zm.old) }
     ensures { picture im.new zm.new result ≡ step_at pen (kind_of mode) at i z (picture im.old zm.old 0) }
 {
-    if deep {
+    if mode.is_deep() {
         let old = zm[at];
         let stood = im[at];
         let passes = z <= old;
-        zm[at] = pick(passes, z, old);
+        zm[at] = z.min(old);
         im[at] = pick_near(z, old, i, stood);
-        return pick(passes, 1, 0) as u64;
+        return passes as u64;
     }
     im[at] = i;
     1
 }
 
 // Draws the step where a walk stands.
-fn put_spot(
+fn put_spot<P: Path, M: Lined>(
     pen: Pen,
     style: Style,
-    deep: bool,
-    backing: bool,
-    way: u16,
-    r: Route,
-    a: Vertex,
-    b: Vertex,
-    p: Step,
+    route: Route,
+    step: Step,
     im: &mut [u16],
     zm: &mut [u16],
 ) -> u64
-    requires { Traces pen (rows_over pen.frame im zm) style deep backing way r a b × Reaches style deep r.slope a b p }
-    ensures { (Draws pen (λ rows. step_offers pen rows style style.mode a b p.k) im zm 0 result) × (result ≤ 1) }
+    requires { Traces pen (rows_of pen.frame (length im.old) (length zm.old)) style M.MODE P.WAY route × Reaches style (is_deep (kind_of style.mode)) route.slope route.slope.a route.slope.b step }
+    ensures { (DrawsApart pen (λ rows. step_offers pen rows style style.mode route.slope.a route.slope.b step.k) im zm 0 result) × (result ≤ 1) }
 {
-    let at = spot_of(r, a, b, p);
-    if is_here(pen, way, r, at) {
-        let ink = ink_at(style, deep, backing, p);
+    let at = route.spot_of(step);
+    if route.is_here(pen, P::WAY, at) {
+        let ink = ink_at(style, M::MODE, step);
         if ink.drawn {
-            let frame = pen.frame;
-            let place = place_at(frame, way, r, at);
-            let mode = style.mode;
-            return put_bare(pen, mode, deep, place, ink.i, ink.z, im, zm);
+            let place = route.place_at(pen.frame, P::WAY, at);
+            return put_bare(pen, M::MODE, place, ink.i, ink.z, im, zm);
         }
     }
     0
 }
 
-// Draws a segment from its first step on.
-fn trace(
+// Draws a segment from its first step on. The loop takes the two memories each by itself: of a struct, LLVM would read where they lie again at each step.
+fn trace<P: Path, M: Lined>(
     pen: Pen,
     style: Style,
-    deep: bool,
-    backing: bool,
-    way: u16,
-    r: Route,
-    a: Vertex,
-    b: Vertex,
+    route: Route,
     first: Step,
     im: &mut [u16],
     zm: &mut [u16],
 ) -> u64
-    requires { Traces pen (rows_over pen.frame im zm) style deep backing way r a b × Begins style r first }
-    ensures { Draws pen (λ rows. segment_offers pen rows style a b) im zm 0 result }
+    requires { Traces pen (rows_of pen.frame (length im.old) (length zm.old)) style M.MODE P.WAY route × Begins style route first }
+    ensures { DrawsApart pen (λ rows. segment_offers pen rows style route.slope.a route.slope.b) im zm 0 result }
 {
-    let n = r.slope.n as u64;
-    let mut p = first;
+    let last = route.slope.n as u64;
+    let mut step = first;
     let mut passed: u64 = 0;
-    while p.k <= n {
-        let at = spot_of(r, a, b, p);
-        passed += put_spot(pen, style, deep, backing, way, r, a, b, p, im, zm);
-        p = onward(way, r, at, p);
+    // A while: an iterator of steps would hold the walk and its proof beside this loop, and is no plainer, since the place of a step says which is next.
+    while step.k <= last {
+        let at = route.spot_of(step);
+        passed += put_spot::<P, M>(pen, style, route, step, im, zm);
+        step = route.onward(P::WAY, at, step);
     }
     passed
 }
 
-// The same for rows, mode by mode.
-fn trace_rows(
-    pen: Pen,
-    style: Style,
-    r: Route,
-    a: Vertex,
-    b: Vertex,
-    p: Step,
-    im: &mut [u16],
-    zm: &mut [u16],
-) -> u64
-    requires { Sets pen (rows_over pen.frame im zm) style 0 r a b p }
-    ensures { Draws pen (λ rows. segment_offers pen rows style a b) im zm 0 result }
+// Draws a segment in a way, by its mode.
+fn traced<P: Path>(pen: Pen, style: Style, route: Route, first: Step, m: &mut Memories) -> u64
+    requires { Sets pen (rows_over pen.frame m.old) style P.WAY route first }
+    ensures { Draws pen (λ rows. segment_offers pen rows style route.slope.a route.slope.b) m 0 result }
 {
-    let mode = style.mode;
-    match mode {
-        Mode::Zero => trace(pen, style, false, true, ROWS, r, a, b, p, im, zm),
-        Mode::One => trace(pen, style, false, false, ROWS, r, a, b, p, im, zm),
-        Mode::Two => trace(pen, style, true, true, ROWS, r, a, b, p, im, zm),
-    }
-}
-
-// For tiles.
-fn trace_tiles(
-    pen: Pen,
-    style: Style,
-    r: Route,
-    a: Vertex,
-    b: Vertex,
-    p: Step,
-    im: &mut [u16],
-    zm: &mut [u16],
-) -> u64
-    requires { Sets pen (rows_over pen.frame im zm) style 1 r a b p }
-    ensures { Draws pen (λ rows. segment_offers pen rows style a b) im zm 0 result }
-{
-    let mode = style.mode;
-    match mode {
-        Mode::Zero => trace(pen, style, false, true, TILES, r, a, b, p, im, zm),
-        Mode::One => trace(pen, style, false, false, TILES, r, a, b, p, im, zm),
-        Mode::Two => trace(pen, style, true, true, TILES, r, a, b, p, im, zm),
-    }
-}
-
-// For what a unit has of each row.
-fn trace_shares(
-    pen: Pen,
-    style: Style,
-    r: Route,
-    a: Vertex,
-    b: Vertex,
-    p: Step,
-    im: &mut [u16],
-    zm: &mut [u16],
-) -> u64
-    requires { Sets pen (rows_over pen.frame im zm) style 2 r a b p }
-    ensures { Draws pen (λ rows. segment_offers pen rows style a b) im zm 0 result }
-{
-    let mode = style.mode;
-    match mode {
-        Mode::Zero => trace(pen, style, false, true, SHARES, r, a, b, p, im, zm),
-        Mode::One => trace(pen, style, false, false, SHARES, r, a, b, p, im, zm),
-        Mode::Two => trace(pen, style, true, true, SHARES, r, a, b, p, im, zm),
-    }
-}
-
-// For rows, where an end of the segment is outside the window or the memory.
-fn trace_asked(
-    pen: Pen,
-    style: Style,
-    r: Route,
-    a: Vertex,
-    b: Vertex,
-    p: Step,
-    im: &mut [u16],
-    zm: &mut [u16],
-) -> u64
-    requires { Sets pen (rows_over pen.frame im zm) style 3 r a b p }
-    ensures { Draws pen (λ rows. segment_offers pen rows style a b) im zm 0 result }
-{
-    let mode = style.mode;
-    match mode {
-        Mode::Zero => trace(pen, style, false, true, ASKED, r, a, b, p, im, zm),
-        Mode::One => trace(pen, style, false, false, ASKED, r, a, b, p, im, zm),
-        Mode::Two => trace(pen, style, true, true, ASKED, r, a, b, p, im, zm),
+    match style.mode {
+        Mode::Zero => trace::<P, Grounded>(pen, style, route, first, m.i, m.z),
+        Mode::One => trace::<P, Dashed>(pen, style, route, first, m.i, m.z),
+        Mode::Two => trace::<P, Shaded>(pen, style, route, first, m.i, m.z),
     }
 }
 
@@ -211,27 +143,19 @@ pub(crate) fn drawn_bare(
     pen: Pen,
     style: Style,
     rows: usize,
-    way: u16,
-    a: Vertex,
-    b: Vertex,
-    im: &mut [u16],
-    zm: &mut [u16],
+    way: Way,
+    slope: Slope,
+    m: &mut Memories,
 ) -> u64
-    requires { (rows ≡ rows_over pen.frame im zm) × Goes pen rows style way a b }
-    ensures { Draws pen (λ rows. segment_offers pen rows style a b) im zm 0 result }
+    requires { (rows ≡ rows_over pen.frame m.old) × Goes pen rows style way slope.a slope.b }
+    ensures { Draws pen (λ rows. segment_offers pen rows style slope.a slope.b) m 0 result }
 {
-    let frame = pen.frame;
-    let mode = style.mode;
-    let r = route_of(frame, rows, way, is_deep(mode), a, b);
-    let p = begin(r.near, is_joined(style));
-    if way == ROWS {
-        return trace_rows(pen, style, r, a, b, p, im, zm);
+    let route = route_of(pen.frame, rows, way, style.mode.is_deep(), slope);
+    let first = route.near.begin(style.is_joined());
+    match way {
+        Way::Rows => traced::<InRows>(pen, style, route, first, m),
+        Way::Tiles => traced::<InTiles>(pen, style, route, first, m),
+        Way::Shares => traced::<InShares>(pen, style, route, first, m),
+        Way::Asked => traced::<Asking>(pen, style, route, first, m),
     }
-    if way == TILES {
-        return trace_tiles(pen, style, r, a, b, p, im, zm);
-    }
-    if way == SHARES {
-        return trace_shares(pen, style, r, a, b, p, im, zm);
-    }
-    trace_asked(pen, style, r, a, b, p, im, zm)
 }

@@ -1,12 +1,11 @@
 // A walk along a segment: how far a step moves to the side, and its two numbers where lines have depths, each carried as 2^48 times itself and a part,
 // with one division at the start and none later.
-ghost use Rattle.picture.specs.Draw.{carried_one};
 ghost use Rattle.std.specs.Prelude.{◌≡◌, ◌/◌, ◌^◌, ◌≤◌, true};
 ghost use Rattle.line.specs.Segment.{first_of};
 ghost use Rattle.line.specs.Walk.{Tells, Carries, Stands, doubled, twice_of, next_of};
 
 use crate::slope::Slope;
-use picture::{CARRIED_ONE, Carried, Vertex};
+use picture::{CARRIED_ONE, Carried};
 
 // What stays from step to step: how many steps are gone at once, and what is carried over them.
 #[derive(Clone, Copy)]
@@ -35,10 +34,7 @@ fn carried(n: u16, first: u16, second: u16) -> Carried
     ensures { Tells n first second result }
 {
     if n == 0 {
-        return Carried {
-            first: (second as u64) * CARRIED_ONE,
-            add: 0,
-        };
+        return Carried::steady(second);
     }
     let steps = n as u64;
     let start = (first as u64) * CARRIED_ONE + HALF;
@@ -46,102 +42,86 @@ fn carried(n: u16, first: u16, second: u16) -> Carried
         let rise = ((second - first) as u64) * CARRIED_ONE;
         return Carried {
             first: start,
-            add: (rise + (steps - 1)) / steps,
+            add: rise.div_ceil(steps),
         };
     }
     let fall = ((first - second) as u64) * CARRIED_ONE;
-    let add = std::num::wrapping_sub_u64(0, fall / steps);
-    Carried { first: start, add }
+    Carried {
+        first: start,
+        add: (fall / steps).wrapping_neg(),
+    }
 }
 
-// The same where lines have depths. Others have no use for it, and are spared the division.
+// The same where lines have depths. Others have no use for it, and are spared the division; an Option would be no plainer, since each step would ask it for the number again.
 fn carried_deep(deep: bool, n: u16, first: u16, second: u16) -> Carried
     ensures { deep ≡ true → Tells n first second result }
 {
     if deep {
         return carried(n, first, second);
     }
-    Carried { first: 0, add: 0 }
+    Carried::steady(0)
 }
 
-// The walk from a to b, step by step, where lines have depths or not.
-pub(crate) fn walk_of(a: Vertex, b: Vertex, s: Slope, deep: bool) -> Walk
-    ensures { Carries deep a b s result }
+// The walk along a segment, step by step, where lines have depths or not.
+pub(crate) fn walk_of(slope: Slope, deep: bool) -> Walk
+    ensures { Carries deep slope.a slope.b slope result }
 {
-    let side = carried(s.n, 0, s.m);
-    let i = carried_deep(deep, s.n, a.i, b.i);
-    let z = carried_deep(deep, s.n, a.z, b.z);
     Walk {
         stride: 1,
-        side,
-        i,
-        z,
+        side: carried(slope.n, 0, slope.m),
+        i: carried_deep(deep, slope.n, slope.a.i, slope.b.i),
+        z: carried_deep(deep, slope.n, slope.a.z, slope.b.z),
     }
 }
 
-// The number of what is carried.
-pub(crate) fn whole(k: u64) -> u16
-    ensures { result ≡ k / carried_one }
+// What is carried over twice as many steps. `picture` has one that goes on to a pixel besides: by it this would be a call with two numbers, 0 and 2, and no plainer.
+fn double(number: Carried) -> Carried
+    ensures { result ≡ doubled number }
 {
-    (k >> 48) as u16
-}
-
-// What is carried over twice as many steps.
-fn double(c: Carried) -> Carried
-    ensures { result ≡ doubled c }
-{
-    let add = std::num::wrapping_add_u64(c.add, c.add);
     Carried {
-        first: c.first,
-        add,
+        add: number.add.wrapping_add(number.add),
+        ..number
     }
 }
 
-// The same walk, twice as many steps at once.
-pub(crate) fn twice(w: Walk) -> Walk
-    requires { w.stride ≤ 2 }
-    ensures { result ≡ twice_of w }
-{
-    let side = double(w.side);
-    let i = double(w.i);
-    let z = double(w.z);
-    Walk {
-        stride: w.stride + w.stride,
-        side,
-        i,
-        z,
+impl Walk {
+    // The same walk, twice as many steps at once.
+    pub(crate) fn twice(self) -> Walk
+        requires { self.stride ≤ 2 }
+        ensures { result ≡ twice_of self }
+    {
+        Walk {
+            stride: self.stride + self.stride,
+            side: double(self.side),
+            i: double(self.i),
+            z: double(self.z),
+        }
     }
-}
 
-// A stride on.
-pub(crate) fn next(w: Walk, p: Step) -> Step
-    requires { (p.k ≤ 65535) × (w.stride ≤ 4) }
-    ensures { result ≡ next_of w p }
-{
-    let side = std::num::wrapping_add_u64(p.side, w.side.add);
-    let i = std::num::wrapping_add_u64(p.i, w.i.add);
-    let z = std::num::wrapping_add_u64(p.z, w.z.add);
-    Step {
-        k: p.k + w.stride,
-        side,
-        i,
-        z,
+    // A stride on.
+    pub(crate) fn next(self, step: Step) -> Step
+        requires { (step.k ≤ 65535) × (self.stride ≤ 4) }
+        ensures { result ≡ next_of self step }
+    {
+        Step {
+            k: step.k + self.stride,
+            side: step.side.wrapping_add(self.side.add),
+            i: step.i.wrapping_add(self.i.add),
+            z: step.z.wrapping_add(self.z.add),
+        }
     }
-}
 
-// The first step that is drawn: a segment that is joined to the one before it leaves out step 0.
-pub(crate) fn begin(w: Walk, joined: bool) -> Step
-    requires { w.stride ≡ 1 }
-    ensures { Stands w result × (result.k ≡ first_of joined) }
-{
-    let p = Step {
-        k: 0,
-        side: w.side.first,
-        i: w.i.first,
-        z: w.z.first,
-    };
-    if joined {
-        return next(w, p);
+    // The first step that is drawn: a segment that is joined to the one before it leaves out step 0.
+    pub(crate) fn begin(self, joined: bool) -> Step
+        requires { self.stride ≡ 1 }
+        ensures { Stands self result × (result.k ≡ first_of joined) }
+    {
+        let step = Step {
+            k: 0,
+            side: self.side.first,
+            i: self.i.first,
+            z: self.z.first,
+        };
+        if joined { self.next(step) } else { step }
     }
-    p
 }

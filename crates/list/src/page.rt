@@ -3,21 +3,15 @@ ghost use Rattle.std.specs.Prelude.{◌≤◌, length};
 ghost use Rattle.report.specs.Calls.{Stands};
 ghost use Rattle.list.specs.List.{page_of};
 
-use ground::least;
 use listing::write::list;
-use report::Written;
 
-// Puts the lines of the words from `from` on. They always fit, so that the last case never comes.
+// Puts the lines of the words from `from` on. They always fit.
 pub(crate) fn put_page(words: &[u32], from: usize, page: &mut [u8; 65536]) -> usize
     requires from_in_bounds { from ≤ length words.now }
     requires words_len_bound { length words.now ≤ 419430 }
     ensures { Stands (page_of words.now from) page.old page.new result }
 {
     let rest = &words[from..];
-    let n = least(rest.len(), 2520);
-    let answer = list(from as u32, &rest[..n], page);
-    match answer {
-        Written::Done(size) => size,
-        Written::NoRoom => 0,
-    }
+    let n = rest.len().min(2520);
+    list(from as u32, &rest[..n], page).unwrap()
 }

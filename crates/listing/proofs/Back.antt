@@ -11,7 +11,8 @@ use Rattle.stream.proofs.Round.{unpack_fits, pack_unpack}
 use Rattle.report.specs.Calls.{Put}
 use Rattle.report.proofs.Putting.{put_byte, put_append, put_over}
 use Rattle.listing.specs.declared.read.Mood.TheVariants.{Words, Remark}
-use Rattle.listing.specs.Text.{glyph, digits, names, name_of, placed, line, lines, listing}
+use Rattle.report.specs.Text.{glyph, last_digits}
+use Rattle.listing.specs.Text.{names, name_of, placed, line, lines, listing}
 use Rattle.listing.specs.Reading.{Reading, reading, reader, digit_of, is_end, grown, stored, closed, passed, ended, in_words, remarked, taken, read_on, words_in, at_start}
 
 -- ---- reading on, in parts
@@ -81,8 +82,8 @@ quiet_drop zero q = q
 quiet_drop (suc n) none = none
 quiet_drop (suc n) (more e q) = quiet_drop n q
 
-quiet_digits : (base k n : ℕ) → Quiet (digits base k n)
-unfolding digits
+quiet_digits : (base k n : ℕ) → Quiet (last_digits base k n)
+unfolding last_digits
 quiet_digits base zero n = none
 quiet_digits base (suc k) n = quiet_append (quiet_digits base k (n / base)) (more (glyph_quiet (n % base)) none)
 
@@ -126,13 +127,13 @@ module _ (held ln : ℕ) (ws : List ℕ) where
       takes_digit (v / 16) n (v % 16) (mod-lt v (omega arith)) l ∙ ap (λ (u : ℕ). begun u (n + 1)) e
 
   -- the digits of a number, one after the other
-  takes_digits : (k v : ℕ) → v < 2 ^ 20 → k ≤ 5 → v < 16 ^ k → read_on (begun 0 0) (digits 16 k v) ≡ begun v k
-  unfolding read_on digits
+  takes_digits : (k v : ℕ) → v < 2 ^ 20 → k ≤ 5 → v < 16 ^ k → read_on (begun 0 0) (last_digits 16 k v) ≡ begun v k
+  unfolding read_on last_digits
   takes_digits zero v h l low =
       let none : 0 ≡ v = omega (arith, low) in ap (λ (u : ℕ). begun u 0) none
   takes_digits (suc k) v h l low =
       let less : v / 16 < 16 ^ k = (div-lt_iff_lt-mul {k = 16} {x = v} {y = 16 ^ k} (omega arith)).1 (subst (λ (m : ℕ). v < m) (pow-succ' 16 k ∙ mul_comm 16 (16 ^ k)) low) in
-      reads (begun 0 0) (digits 16 k (v / 16)) (glyph (v % 16) ∷ []) (takes_digits k (v / 16) (omega (arith, h)) (omega (arith, l)) less) (takes_last v k h (omega (arith, l)))
+      reads (begun 0 0) (last_digits 16 k (v / 16)) (glyph (v % 16) ∷ []) (takes_digits k (v / 16) (omega (arith, h)) (omega (arith, l)) less) (takes_last v k h (omega (arith, l)))
       ∙ ap (λ (n : ℕ). begun v n) (add-one k)
 
   -- a space stores the word
@@ -168,11 +169,11 @@ pub read_line : (held ln index w : ℕ) (ws : List ℕ) → w < 2 ^ 20 → held 
 unfolding line placed begun read_on
 read_line held ln index w ws h room =
     let s = reading (reader Words 0 0 held ln) ws in
-    let word = digits 16 5 w in
+    let word = last_digits 16 5 w in
     let mark : List ℕ = 32 ∷ 35 ∷ 32 ∷ [] in
-    let place = digits 10 7 index in
+    let place = last_digits 10 7 index in
     let name = name_of (w / 65536 % 16) in
-    let operand = digits 16 4 w in
+    let operand = last_digits 16 4 w in
     let marked = reads s word mark (takes_digits held ln ws 5 w h (omega arith) h) (takes_marked held ln ws w room) in
     let placed = reads s (word ++ mark) place marked (takes_remark (held + 1) ln (set ws held w) (quiet_digits 10 7 index)) in
     let named = reads s (word ++ mark ++ place) name placed (takes_remark (held + 1) ln (set ws held w) (quiet_name (w / 65536 % 16))) in

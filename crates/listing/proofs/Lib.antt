@@ -5,3 +5,4 @@ pub mod Kept
 pub mod Settled
 pub mod Back
 pub mod Pages
+mod Tables

@@ -1,30 +1,8 @@
--- How long digits, names and lines are, and how they are put. Assumes nothing.
-use Rattle.std.proofs.Common.{◌≡◌, ℕ, zero, suc, ◌+◌, ◌*◌, ◌/◌, ◌%◌, ◌≤◌, List, [], ◌∷◌, ◌++◌, length, get_or, take, drop, set, refl, ◌∙◌, suc-mul, add-one, arith, length-append, length-drop, length-take-le}
-use lib.Seq.{sets}
-use Rattle.report.proofs.Putting.{store_first}
-use Rattle.listing.specs.Text.{glyph, digits, names, name_of, placed, line, lines, listing}
-
--- ---- digits, stored from the last to the first
-
--- the last k digits of a number are k bytes, in any base
-pub length_digits : (base k n : ℕ) → length (digits base k n) ≡ k
-unfolding digits
-length_digits base zero n = refl
-length_digits base (suc k) n =
-    length-append (digits base k (n / base)) (glyph (n % base) ∷ []) ∙ rw (length_digits base k (n / base)) (add-one k)
-
--- the last of k + 1 digits stored, the others of the number without it are left to put
-pub put_last : (base k n at : ℕ) (out : List ℕ) {g : ℕ} → g ≡ glyph (n % base)
-    → sets (set out (at + k) g) at (digits base k (n / base)) ≡ sets out at (digits base (k + 1) n)
-unfolding digits
-put_last base k n at out {g} e =
-    let here : at + k ≡ at + length (digits base k (n / base)) = omega (arith, length_digits base k (n / base)) in
-    rw (here, e, add-one k) (store_first (digits base k (n / base)) out at (glyph (n % base)))
-
--- none is left
-pub put_all : (base n at : ℕ) (out : List ℕ) → sets out at (digits base 0 n) ≡ out
-unfolding digits
-put_all base n at out = refl
+-- How long names and lines are. Assumes nothing.
+use Rattle.std.proofs.Common.{◌≡◌, ℕ, zero, suc, ◌+◌, ◌*◌, ◌/◌, ◌%◌, ◌≤◌, List, [], ◌∷◌, ◌++◌, length, get_or, take, drop, refl, suc-mul, add-one, arith, length-append, length-drop, length-take-le}
+use Rattle.report.proofs.Decimal.{length_digits}
+use Rattle.report.specs.Text.{last_digits}
+use Rattle.listing.specs.Text.{names, name_of, placed, line, lines, listing}
 
 -- ---- part of a text
 
@@ -44,13 +22,13 @@ length_name word = length_part names (6 * (word / 65536 % 16)) 6 (omega arith)
 pub length_placed : (index word : ℕ) → length (placed index word) ≡ 15
 unfolding placed
 length_placed index word =
-    let marked = digits 16 5 word ++ (32 ∷ 35 ∷ 32 ∷ []) in
-    let whole : length (placed index word) ≡ length (marked ++ digits 10 7 index) = refl in
+    let marked = last_digits 16 5 word ++ (32 ∷ 35 ∷ 32 ∷ []) in
+    let whole : length (placed index word) ≡ length (marked ++ last_digits 10 7 index) = refl in
     omega (
       arith,
       whole,
-      length-append (digits 16 5 word) (32 ∷ 35 ∷ 32 ∷ []),
-      length-append marked (digits 10 7 index),
+      length-append (last_digits 16 5 word) (32 ∷ 35 ∷ 32 ∷ []),
+      length-append marked (last_digits 10 7 index),
       length_digits 16 5 word,
       length_digits 10 7 index,
     )
@@ -61,14 +39,14 @@ unfolding line
 length_line index word =
     let name = name_of (word / 65536 % 16) in
     let named = placed index word ++ name in
-    let whole : length (line index word) ≡ length (named ++ digits 16 4 word ++ (10 ∷ [])) = refl in
+    let whole : length (line index word) ≡ length (named ++ last_digits 16 4 word ++ (10 ∷ [])) = refl in
     omega (
       arith,
       whole,
       length_placed index word,
       length-append (placed index word) name,
-      length-append named (digits 16 4 word),
-      length-append (named ++ digits 16 4 word) (10 ∷ []),
+      length-append named (last_digits 16 4 word),
+      length-append (named ++ last_digits 16 4 word) (10 ∷ []),
       length_digits 16 4 word,
       length_name word,
     )

@@ -4,9 +4,11 @@ use Rattle.ground.proofs.Truth.{either}
 use Rattle.listing.specs.declared.trace.Meaning.{Meaning}
 use Rattle.listing.specs.declared.trace.Traced.{Traced}
 use Rattle.listing.specs.declared.trace.Numbers.{Numbers}
-use Rattle.listing.specs.Text.{digits, name_of, placed}
+use Rattle.report.specs.Text.{last_digits}
+use Rattle.listing.specs.Text.{name_of, placed}
 use Rattle.listing.specs.Trace.{meanings, meaning_name, share, meaning_text, number_text, answer_text, traced_text, numbers_text, trace_line, watch_line}
-use Rattle.listing.proofs.Lines.{length_digits, length_part, length_placed, length_name}
+use Rattle.report.proofs.Decimal.{length_digits}
+use Rattle.listing.proofs.Lines.{length_part, length_placed, length_name}
 
 -- ---- lengths
 
@@ -15,12 +17,12 @@ pub length_row : (row : ℕ) → length (meaning_name row) ≡ 12
 unfolding meaning_name meanings
 length_row row = length_part meanings (12 * (row % 32)) 12 (omega arith)
 
-length_some : (came wanted : ℕ) → length (digits 10 1 came ++ (47 ∷ []) ++ digits 10 1 wanted) ≡ 3
+length_some : (came wanted : ℕ) → length (last_digits 10 1 came ++ (47 ∷ []) ++ last_digits 10 1 wanted) ≡ 3
 length_some came wanted =
     omega (
       arith,
-      length-append (digits 10 1 came) (47 ∷ []),
-      length-append (digits 10 1 came ++ (47 ∷ [])) (digits 10 1 wanted),
+      length-append (last_digits 10 1 came) (47 ∷ []),
+      length-append (last_digits 10 1 came ++ (47 ∷ [])) (last_digits 10 1 wanted),
       length_digits 10 1 came,
       length_digits 10 1 wanted,
     )
@@ -38,7 +40,7 @@ length_meaning m =
 -- a number of so many digits, with the blank before it, has one byte more than digits
 pub length_number : (count n : ℕ) → length (number_text count n) ≡ 1 + count
 unfolding number_text
-length_number count n = omega (arith, length-append (32 ∷ []) (digits 10 count n), length_digits 10 count n)
+length_number count n = omega (arith, length-append (32 ∷ []) (last_digits 10 count n), length_digits 10 count n)
 
 length_answer : (refusal passed : ℕ) → length (answer_text refusal passed) ≡ 11
 unfolding answer_text
@@ -51,12 +53,12 @@ unfolding traced_text
 length_traced t =
     let name = name_of (t.word / 65536 % 16) in
     let named = placed t.index t.word ++ name in
-    let listed = named ++ digits 16 4 t.word in
+    let listed = named ++ last_digits 16 4 t.word in
     let meant = listed ++ meaning_text t.meaning in
     omega (
       arith,
       length-append (placed t.index t.word) name,
-      length-append named (digits 16 4 t.word),
+      length-append named (last_digits 16 4 t.word),
       length-append listed (meaning_text t.meaning),
       length-append meant (answer_text t.refusal t.passed),
       length_placed t.index t.word,

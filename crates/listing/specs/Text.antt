@@ -1,16 +1,8 @@
 -- A recording as text: a line for each word, with the word in hexadecimal and, as a remark, its index, the command's name and the data.
 --   F0000 # 0000000 INIT 0000
 -- Bytes are in ASCII, of which 32 is a space, 35 is # and 10 ends a line.
-use Rattle.std.specs.Prelude.{ℕ, zero, suc, ◌+◌, ◌*◌, ◌/◌, ◌%◌, cond, List, [], ◌∷◌, ◌++◌, length, take, drop, nat_lt, slice_index}
-
--- a digit's character: 0 to 9, then A to F
-unfoldable pub glyph : ℕ → ℕ
-glyph d = cond (nat_lt d 10) (48 + d) (55 + d)
-
--- the last k digits of a number in a base, the most significant first
-unfoldable pub digits : ℕ → ℕ → ℕ → List ℕ
-digits base zero n = []
-digits base (suc k) n = digits base k (n / base) ++ (glyph (n % base) ∷ [])
+use Rattle.std.specs.Prelude.{ℕ, zero, suc, ◌+◌, ◌*◌, ◌/◌, ◌%◌, List, [], ◌∷◌, ◌++◌, length, take, drop, slice_index}
+use Rattle.report.specs.Text.{last_digits}
 
 -- the names of the commands 0 to F hex (the sheet's table of commands), each in six columns, a row for each
 unfoldable pub names : List ℕ
@@ -38,11 +30,11 @@ name_of command = take 6 (drop (6 * command) names)
 
 -- a word, and the index that its remark begins with
 unfoldable pub placed : ℕ → ℕ → List ℕ
-placed index word = digits 16 5 word ++ (32 ∷ 35 ∷ 32 ∷ []) ++ digits 10 7 index
+placed index word = last_digits 16 5 word ++ (32 ∷ 35 ∷ 32 ∷ []) ++ last_digits 10 7 index
 
 -- the line of the word with an index
 unfoldable pub line : ℕ → ℕ → List ℕ
-line index word = placed index word ++ name_of (word / 65536 % 16) ++ digits 16 4 word ++ (10 ∷ [])
+line index word = placed index word ++ name_of (word / 65536 % 16) ++ last_digits 16 4 word ++ (10 ∷ [])
 
 -- the lines of the first n words, the first of which has the index `from`
 unfoldable pub lines : ℕ → List ℕ → ℕ → List ℕ

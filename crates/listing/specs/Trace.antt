@@ -6,7 +6,8 @@ use Rattle.std.specs.Prelude.{ℕ, ◌*◌, ◌/◌, ◌%◌, cond, List, [], �
 use Rattle.listing.specs.declared.trace.Meaning.{Meaning}
 use Rattle.listing.specs.declared.trace.Traced.{Traced}
 use Rattle.listing.specs.declared.trace.Numbers.{Numbers}
-use Rattle.listing.specs.Text.{digits, name_of, placed}
+use Rattle.report.specs.Text.{last_digits}
+use Rattle.listing.specs.Text.{name_of, placed}
 
 -- ---- what a word means
 
@@ -53,7 +54,7 @@ meaning_name row = take 12 (drop (12 * (row % 32)) meanings)
 
 -- which of how many parameters: `2/5`, `0/5` while none has come, and `-` where there are none
 unfoldable pub share : ℕ → ℕ → List ℕ
-share came wanted = cond (wanted == 0) (45 ∷ 32 ∷ 32 ∷ []) (digits 10 1 came ++ (47 ∷ []) ++ digits 10 1 wanted)
+share came wanted = cond (wanted == 0) (45 ∷ 32 ∷ 32 ∷ []) (last_digits 10 1 came ++ (47 ∷ []) ++ last_digits 10 1 wanted)
 
 -- what a word means, and behind it which of how many parameters the word is
 unfoldable pub meaning_text : Meaning → List ℕ
@@ -63,7 +64,7 @@ meaning_text m = meaning_name m.row ++ share m.came m.wanted
 
 -- a blank, and a number of so many digits
 unfoldable pub number_text : ℕ → ℕ → List ℕ
-number_text count n = (32 ∷ []) ++ digits 10 count n
+number_text count n = (32 ∷ []) ++ last_digits 10 count n
 
 -- the number that refuses a word, and how many pixels passed
 unfoldable pub answer_text : ℕ → ℕ → List ℕ
@@ -72,7 +73,7 @@ answer_text refusal passed = number_text 2 refusal ++ number_text 7 passed
 -- a word with what the machine made of it
 unfoldable pub traced_text : Traced → List ℕ
 traced_text t =
-    placed t.index t.word ++ name_of (t.word / 65536 % 16) ++ digits 16 4 t.word ++ meaning_text t.meaning ++ answer_text t.refusal t.passed
+    placed t.index t.word ++ name_of (t.word / 65536 % 16) ++ last_digits 16 4 t.word ++ meaning_text t.meaning ++ answer_text t.refusal t.passed
 
 -- the two numbers of a pixel
 unfoldable pub numbers_text : Numbers → List ℕ

@@ -1,11 +1,12 @@
 // Text to words, byte by byte: a text may come in pieces.
-ghost use Rattle.std.specs.Prelude.{◌≡◌, ◌<◌};
-ghost use Rattle.listing.specs.Reading.{digit_of, is_end, in_mood, lined, grown, passed, passed_in, remarked};
+ghost use Rattle.std.specs.Prelude.{◌≡◌, ◌<◌, SomeIff};
+ghost use Rattle.listing.specs.Reading.{digit_of, is_end, lined, grown, passed, passed_in, remarked};
 ghost use Rattle.listing.specs.Reading.{reading, stored, closed, in_words, taken, at_start, read_on};
 
 // What the next byte is part of; or why reading has stopped: something that is no word of five digits, or a word more than the buffer has
-// room for.
-#[derive(Clone, Copy)]
+// room for. These two are moods and no errors, since whoever reads a text in pieces goes on with the reader that has stopped, for its line and its
+// words: an `Err` would need both beside it.
+#[derive(Clone, Copy, Debug, PartialEq, Eq)]
 pub enum Mood {
     Words,
     Remark,
@@ -15,7 +16,7 @@ pub enum Mood {
 
 // How far reading has come: the digits of the word that has begun and how many they are, how many words are stored, and the number of
 // the line, from 1 on.
-#[derive(Clone, Copy)]
+#[derive(Clone, Copy, Debug, PartialEq, Eq)]
 pub struct Reader {
     pub mood: Mood,
     pub value: u32,
@@ -37,177 +38,156 @@ pub fn start() -> Reader
     }
 }
 
-// The digit that a byte is, or 16.
-fn digit_of(b: u8) -> u32
-    ensures { result ≡ digit_of b }
+// The digit that a byte is, if it is one.
+#[tactic(auto, unfolding(crate::specs::Reading::digit_of))]
+fn digit_of(b: u8) -> Option<u32>
+    ensures { SomeIff result (digit_of b < 16) (digit_of b) }
 {
-    if b < 48 {
-        return 16;
-    }
-    if b < 58 {
-        return b as u32 - 48;
-    }
-    if b < 65 {
-        return 16;
-    }
-    if b < 71 {
-        return b as u32 - 55;
-    }
-    if b < 97 {
-        return 16;
-    }
-    if b < 103 {
-        return b as u32 - 87;
-    }
-    16
+    char::from(b).to_digit(16)
 }
 
 // Whether a byte ends a word.
+#[tactic(auto, unfolding(crate::specs::Reading::is_end))]
 fn is_end(b: u8) -> bool
     ensures { result ≡ is_end b }
 {
-    (b == 32) | (b == 9) | (b == 13) | (b == 10) | (b == 35)
+    matches!(b, b' ' | b'\t' | b'\r' | b'\n' | b'#')
 }
 
-// The same reader, in another mood.
-fn in_mood(mood: Mood, r: Reader) -> Reader
-    ensures { result ≡ in_mood mood r }
-{
-    Reader {
-        mood: mood,
-        value: r.value,
-        digits: r.digits,
-        held: r.held,
-        line: r.line,
+impl Reader {
+    // A digit more: a word has five.
+    #[tactic(auto, unfolding(crate::specs::Reading::grown))]
+    fn grow(self, digit: u32) -> Reader
+        requires { digit < 16 }
+        ensures { result ≡ grown self digit }
+    {
+        if self.digits < 5 {
+            return Reader {
+                value: self.value % 65536 * 16 + digit,
+                digits: self.digits + 1,
+                ..self
+            };
+        }
+        Reader {
+            mood: Mood::NotWord,
+            ..self
+        }
     }
-}
 
-// A digit more: a word has five.
-fn grow(r: Reader, d: u32) -> Reader
-    requires { d < 16 }
-    ensures { result ≡ grown r d }
-{
-    if r.digits < 5 {
-        let mood = r.mood;
-        return Reader {
-            mood: mood,
-            value: r.value % 65536 * 16 + d,
-            digits: r.digits + 1,
-            held: r.held,
-            line: r.line,
-        };
+    // Stores a word, if there is room.
+    #[tactic(auto, unfolding(crate::specs::Reading::stored))]
+    fn store(self, words: &mut [u32]) -> Reader
+        ensures { reading result words.new ≡ stored (reading self words.old) }
+    {
+        if self.held < words.len() {
+            words[self.held] = self.value;
+            return Reader {
+                mood: Mood::Words,
+                value: 0,
+                digits: 0,
+                held: self.held + 1,
+                ..self
+            };
+        }
+        Reader {
+            mood: Mood::NoRoom,
+            ..self
+        }
     }
-    in_mood(Mood::NotWord, r)
-}
 
-// Stores a word, if there is room.
-fn store(r: Reader, words: &mut [u32]) -> Reader
-    ensures { reading result words.new ≡ stored (reading r words.old) }
-{
-    let held = r.held;
-    if held < words.len() {
-        words[held] = r.value;
-        return Reader {
+    // A word's end: five digits are a word, no digits are nothing, and any other number of digits is no word.
+    #[tactic(auto, unfolding(crate::specs::Reading::closed))]
+    fn close(self, words: &mut [u32]) -> Reader
+        ensures { reading result words.new ≡ closed (reading self words.old) }
+    {
+        match self.digits {
+            0 => self,
+            5 => self.store(words),
+            _ => Reader {
+                mood: Mood::NotWord,
+                ..self
+            },
+        }
+    }
+
+    // The next line.
+    fn next_line(self) -> Reader
+        ensures { result ≡ lined self }
+    {
+        Reader {
             mood: Mood::Words,
-            value: 0,
-            digits: 0,
-            held: held + 1,
-            line: r.line,
-        };
+            line: self.line.wrapping_add(1),
+            ..self
+        }
     }
-    in_mood(Mood::NoRoom, r)
-}
 
-// A word's end: five digits are a word, no digits are nothing, and any other number of digits is no word.
-fn close(r: Reader, words: &mut [u32]) -> Reader
-    ensures { reading result words.new ≡ closed (reading r words.old) }
-{
-    if r.digits == 0 {
-        return r;
+    // A byte that ends words, once the word before it is stored.
+    #[tactic(auto, unfolding(crate::specs::Reading::passed))]
+    fn pass(self, b: u8) -> Reader
+        ensures { result ≡ passed self b }
+    {
+        match b {
+            b'#' => Reader {
+                mood: Mood::Remark,
+                ..self
+            },
+            b'\n' => self.next_line(),
+            _ => self,
+        }
     }
-    if r.digits == 5 {
-        return store(r, words);
-    }
-    in_mood(Mood::NotWord, r)
-}
 
-// The next line.
-fn next_line(r: Reader) -> Reader
-    ensures { result ≡ lined r }
-{
-    Reader {
-        mood: Mood::Words,
-        value: r.value,
-        digits: r.digits,
-        held: r.held,
-        line: std::num::wrapping_add_u64(r.line, 1),
+    // The same, where storing it may have failed.
+    fn go_on(self, b: u8) -> Reader
+        ensures { result ≡ passed_in self.mood self b }
+    {
+        match self.mood {
+            Mood::Words => self.pass(b),
+            Mood::Remark | Mood::NotWord | Mood::NoRoom => self,
+        }
     }
-}
 
-// A byte that ends words, once the word before it is stored.
-fn pass(r: Reader, b: u8) -> Reader
-    ensures { result ≡ passed r b }
-{
-    if b == 35 {
-        return in_mood(Mood::Remark, r);
+    // A byte outside of remarks.
+    #[tactic(auto, unfolding(crate::specs::Reading::in_words, crate::specs::Reading::ended))]
+    fn take_in_words(self, b: u8, words: &mut [u32]) -> Reader
+        ensures { reading result words.new ≡ in_words (reading self words.old) b }
+    {
+        if let Some(digit) = digit_of(b) {
+            return self.grow(digit);
+        }
+        if is_end(b) {
+            return self.close(words).go_on(b);
+        }
+        Reader {
+            mood: Mood::NotWord,
+            ..self
+        }
     }
-    if b == 10 {
-        return next_line(r);
-    }
-    r
-}
 
-// The same, where storing it may have failed.
-fn go_on(r: Reader, b: u8) -> Reader
-    ensures { result ≡ passed_in r.mood r b }
-{
-    let mood = r.mood;
-    match mood {
-        Mood::Words => pass(r, b),
-        Mood::Remark => r,
-        Mood::NotWord => r,
-        Mood::NoRoom => r,
+    // A byte of a remark.
+    #[tactic(auto, unfolding(crate::specs::Reading::remarked))]
+    fn take_in_remark(self, b: u8) -> Reader
+        ensures { result ≡ remarked self b }
+    {
+        match b {
+            b'\n' => self.next_line(),
+            b'\r' => Reader {
+                mood: Mood::Words,
+                ..self
+            },
+            _ => self,
+        }
     }
-}
 
-// A byte outside of remarks.
-fn take_in_words(r: Reader, b: u8, words: &mut [u32]) -> Reader
-    ensures { reading result words.new ≡ in_words (reading r words.old) b }
-{
-    let d = digit_of(b);
-    if d < 16 {
-        return grow(r, d);
-    }
-    if is_end(b) {
-        let shut = close(r, words);
-        return go_on(shut, b);
-    }
-    in_mood(Mood::NotWord, r)
-}
-
-// A byte of a remark.
-fn take_in_remark(r: Reader, b: u8) -> Reader
-    ensures { result ≡ remarked r b }
-{
-    if b == 10 {
-        return next_line(r);
-    }
-    if b == 13 {
-        return in_mood(Mood::Words, r);
-    }
-    r
-}
-
-// A byte more.
-fn take(r: Reader, b: u8, words: &mut [u32]) -> Reader
-    ensures { reading result words.new ≡ taken (reading r words.old) b }
-{
-    let mood = r.mood;
-    match mood {
-        Mood::Words => take_in_words(r, b, words),
-        Mood::Remark => take_in_remark(r, b),
-        Mood::NotWord => r,
-        Mood::NoRoom => r,
+    // A byte more.
+    #[tactic(auto, unfolding(crate::specs::Reading::taken))]
+    fn take(self, b: u8, words: &mut [u32]) -> Reader
+        ensures { reading result words.new ≡ taken (reading self words.old) b }
+    {
+        match self.mood {
+            Mood::Words => self.take_in_words(b, words),
+            Mood::Remark => self.take_in_remark(b),
+            Mood::NotWord | Mood::NoRoom => self,
+        }
     }
 }
 
@@ -217,10 +197,8 @@ pub fn read(r: Reader, text: &[u8], words: &mut [u32]) -> Reader
     ensures { reading result words.new ≡ read_on (reading r words.old) text.now }
 {
     let mut reader = r;
-    let mut k = 0;
-    while k < text.len() {
-        reader = take(reader, text[k], words);
-        k += 1;
+    for b in text {
+        reader = reader.take(*b, words);
     }
     reader
 }

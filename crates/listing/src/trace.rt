@@ -1,12 +1,14 @@
 // A word with what the machine made of it, as a line of text.
-ghost use Rattle.std.specs.Prelude.{◌+◌, ◌≤◌, length};
-ghost use Rattle.report.specs.Calls.{Put, Laid};
-ghost use Rattle.listing.specs.Trace.{meaning_name, share, meaning_text, number_text, answer_text, traced_text, numbers_text, trace_line, watch_line};
+ghost use Rattle.std.specs.Prelude.{◌≡◌, ◌+◌, ◌*◌, ◌<◌, take, drop};
+ghost use Rattle.report.specs.Calls.{Adds, Lays, Room};
+ghost use Rattle.listing.specs.Trace.{meanings, meaning_name, share, meaning_text, number_text, answer_text, traced_text, numbers_text, trace_line, watch_line};
 
-use crate::write::{put_digits, put_name, put_part, put_word};
-use report::has_room;
+use crate::write::{put_name, put_word};
+use report::{Page, has_room};
 
-// What a word means: a row of the table of meanings, and which of how many parameters it is, 0 of 0 where there are none.
+// What a word means: a row of the table of meanings, and which of how many parameters it is, 0 of 0 where there are none. The row is a number: up to 15
+// it is AUX's own, and IMG's behind those, so that an enum of 32 rows would be made of numbers only to be told by them again. Its two numbers are no flag with a value: a subcommand may want no
+// parameters, so that an `Option` of the two would be made by a test for 0 where `put_share` has that test now, and taken apart there besides.
 #[derive(Clone, Copy)]
 pub struct Meaning {
     pub row: u64,
@@ -14,7 +16,8 @@ pub struct Meaning {
     pub wanted: u64,
 }
 
-// A word with what the machine made of it: its index, what it means, the number that refuses it or 0, and how many pixels passed.
+// A word with what the machine made of it: its index, what it means, the number that refuses it or 0, and how many pixels passed. Each line has both
+// numbers, whatever came of the word: a `Result` would only be taken apart again.
 #[derive(Clone, Copy)]
 pub struct Traced {
     pub index: u64,
@@ -31,102 +34,146 @@ pub struct Numbers {
     pub z: u16,
 }
 
-// Puts a row of the table of meanings, in twelve columns.
-fn put_row(row: u64, out: &mut [u8], at: usize) -> usize
-    requires { at + 12 ≤ length out.old }
-    ensures { Put (meaning_name row) out.old at out.new result }
+// The meanings, each in twelve columns, in the order of their rows.
+const MEANINGS: [[u8; 12]; 32] = [
+    *b" PMODE      ",
+    *b" LMODE      ",
+    *b" IMODE      ",
+    *b" ZCONTROL   ",
+    *b" HCONTROL   ",
+    *b" TPATTERN   ",
+    *b" WINDOW     ",
+    *b" SECTION    ",
+    *b" COLOR      ",
+    *b" LPATTERN   ",
+    *b" MASK       ",
+    *b" unmodelled ",
+    *b" LSTATUS    ",
+    *b" nothing    ",
+    *b" load       ",
+    *b" save       ",
+    *b" gouraud    ",
+    *b" constant   ",
+    *b" line0      ",
+    *b" line1      ",
+    *b" line2      ",
+    *b" strip      ",
+    *b" fan        ",
+    *b" line       ",
+    *b" start      ",
+    *b" intensity  ",
+    *b" depth      ",
+    *b" row        ",
+    *b" pixelI     ",
+    *b" pixelZ     ",
+    *b" reserved   ",
+    *b" unknown    ",
+];
+
+// A row of the table of meanings, in twelve columns. (Beside `name_of`: each looks up a table of its own, and promises what its own definition has there.)
+#[tactic(auto, unfolding(crate::specs::Trace::meanings))]
+fn meaning_at(row: usize) -> [u8; 12]
+    requires { row < 32 }
+    ensures { result ≡ take 12 (drop (12 * row) meanings) }
 {
-    put_part(
-        b" PMODE       LMODE       IMODE       ZCONTROL    HCONTROL    TPATTERN    WINDOW      SECTION     COLOR       LPATTERN    MASK        unmodelled  LSTATUS     nothing     load        save        gouraud     constant    line0       line1       line2       strip       fan         line        start       intensity   depth       row         pixelI      pixelZ      reserved    unknown    ",
-        12 * (row % 32) as usize,
-        12,
-        out,
-        at,
-    )
+    MEANINGS[row]
+}
+
+// Puts a row of the table of meanings.
+#[tactic(auto, unfolding(crate::specs::Trace::meaning_name))]
+fn put_row(row: u64, page: &mut Page<'_>)
+    requires { Room 12 page.old }
+    ensures { Adds (meaning_name row) page.old page.new }
+{
+    page.put_bytes(&meaning_at((row % 32) as usize));
 }
 
 // Puts which of how many parameters it is.
-fn put_share(came: u64, wanted: u64, out: &mut [u8], at: usize) -> usize
-    requires { at + 3 ≤ length out.old }
-    ensures { Put (share came wanted) out.old at out.new result }
+fn put_share(came: u64, wanted: u64, page: &mut Page<'_>)
+    requires { Room 3 page.old }
+    ensures { Adds (share came wanted) page.old page.new }
 {
     if wanted == 0 {
-        return put_part(b"-  ", 0, 3, out, at);
+        page.put_bytes(b"-  ");
+        return;
     }
-    let slash = put_digits(came, 10, 1, out, at);
-    let last = put_part(b"/", 0, 1, out, slash);
-    put_digits(wanted, 10, 1, out, last)
-}
-
-// Puts what a word means.
-fn put_meaning(m: Meaning, out: &mut [u8], at: usize) -> usize
-    requires { at + 15 ≤ length out.old }
-    ensures { Put (meaning_text m) out.old at out.new result }
-{
-    let next = put_row(m.row, out, at);
-    put_share(m.came, m.wanted, out, next)
+    page.put_digits(came, 10, 1);
+    page.put_byte(b'/');
+    page.put_digits(wanted, 10, 1);
 }
 
 // Puts a blank and a number of so many digits.
-fn put_number(n: u64, count: usize, out: &mut [u8], at: usize) -> usize
-    requires { at + (1 + count) ≤ length out.old }
-    ensures { Put (number_text count n) out.old at out.new result }
+fn put_number(n: u64, count: usize, page: &mut Page<'_>)
+    requires { Room (1 + count) page.old }
+    ensures { Adds (number_text count n) page.old page.new }
 {
-    let next = put_part(b" ", 0, 1, out, at);
-    put_digits(n, 10, count, out, next)
+    page.put_byte(b' ');
+    page.put_digits(n, 10, count);
 }
 
 // Puts the number that refuses a word, and how many pixels passed.
-fn put_answer(refusal: u64, passed: u64, out: &mut [u8], at: usize) -> usize
-    requires { at + 11 ≤ length out.old }
-    ensures { Put (answer_text refusal passed) out.old at out.new result }
+fn put_answer(refusal: u64, passed: u64, page: &mut Page<'_>)
+    requires { Room 11 page.old }
+    ensures { Adds (answer_text refusal passed) page.old page.new }
 {
-    let next = put_number(refusal, 2, out, at);
-    put_number(passed, 7, out, next)
+    put_number(refusal, 2, page);
+    put_number(passed, 7, page);
 }
 
-// Puts a word with what the machine made of it, and no line's end.
-fn put_traced(t: Traced, out: &mut [u8], at: usize) -> usize
-    requires { at + 51 ≤ length out.old }
-    ensures { Put (traced_text t) out.old at out.new result }
-{
-    let meaning = t.meaning;
-    let name = put_word(t.index, t.word, out, at);
-    let operand = put_name((t.word / 65536 % 16) as usize, out, name);
-    let means = put_digits(t.word as u64, 16, 4, out, operand);
-    let answer = put_meaning(meaning, out, means);
-    put_answer(t.refusal, t.passed, out, answer)
-}
-
-// Puts the two numbers of a pixel.
-fn put_numbers(n: Numbers, out: &mut [u8], at: usize) -> usize
-    requires { at + 12 ≤ length out.old }
-    ensures { Put (numbers_text n) out.old at out.new result }
-{
-    let next = put_number(n.i as u64, 5, out, at);
-    put_number(n.z as u64, 5, out, next)
-}
-
-// Lays the line of a word at a place of `out`, and tells the place after it; where it has no room there, it is left out.
-pub fn trace_line(t: Traced, out: &mut [u8], at: usize) -> usize
-    ensures { Laid (trace_line t) out.old at out.new result }
-{
-    if !has_room(out.len(), 52, at) {
-        return at;
+impl Meaning {
+    // Puts what a word means.
+    fn put(self, page: &mut Page<'_>)
+        requires { Room 15 page.old }
+        ensures { Adds (meaning_text self) page.old page.new }
+    {
+        put_row(self.row, page);
+        put_share(self.came, self.wanted, page);
     }
-    let end = put_traced(t, out, at);
-    put_part(b"\n", 0, 1, out, end)
+}
+
+impl Traced {
+    // Puts a word with what the machine made of it, and no line's end. (As in write.rt no `parts`, which asks for a word of 20 bits: a line has any word.)
+    fn put(self, page: &mut Page<'_>)
+        requires { Room 51 page.old }
+        ensures { Adds (traced_text self) page.old page.new }
+    {
+        put_word(self.index, self.word, page);
+        put_name((self.word / 65536 % 16) as usize, page);
+        page.put_digits(self.word as u64, 16, 4);
+        self.meaning.put(page);
+        put_answer(self.refusal, self.passed, page);
+    }
+}
+
+impl Numbers {
+    // Puts the two numbers of a pixel.
+    fn put(self, page: &mut Page<'_>)
+        requires { Room 12 page.old }
+        ensures { Adds (numbers_text self) page.old page.new }
+    {
+        put_number(self.i as u64, 5, page);
+        put_number(self.z as u64, 5, page);
+    }
+}
+
+// Lays the line of a word on a page; where it has no room there, it is left out.
+pub fn trace_line(t: Traced, page: &mut Page<'_>)
+    ensures { Lays (trace_line t) page.old page.new }
+{
+    if has_room(page.out.len(), 52, page.at) {
+        t.put(page);
+        page.put_byte(b'\n');
+    }
 }
 
 // Lays the line of a word with a pixel's numbers before and after it.
-pub fn watch_line(t: Traced, before: Numbers, after: Numbers, out: &mut [u8], at: usize) -> usize
-    ensures { Laid (watch_line t before after) out.old at out.new result }
+pub fn watch_line(t: Traced, before: Numbers, after: Numbers, page: &mut Page<'_>)
+    ensures { Lays (watch_line t before after) page.old page.new }
 {
-    if !has_room(out.len(), 76, at) {
-        return at;
+    if has_room(page.out.len(), 76, page.at) {
+        t.put(page);
+        before.put(page);
+        after.put(page);
+        page.put_byte(b'\n');
     }
-    let first = put_traced(t, out, at);
-    let second = put_numbers(before, out, first);
-    let end = put_numbers(after, out, second);
-    put_part(b"\n", 0, 1, out, end)
 }

@@ -1,11 +1,22 @@
--- The two memories that a call is lent, as it finds them and as it leaves them.
+-- The two memories that a call is lent, as it finds them and as it leaves them: each by itself, or both in one struct.
+use Rattle.std.specs.Prelude.{ℕ, List}
+use Rattle.std.specs.Borrow.{MutBor}
+use Rattle.picture.specs.declared.Memories.{Memories as Both}
 use Rattle.picture.specs.Lent.{Lent}
 use Rattle.machine.specs.Machine.{Memories, memories}
 
+-- what two borrowed memories hold
+abbrev pub holding : MutBor (List ℕ) → MutBor (List ℕ) → Memories
+holding i z = memories i.now z.now
+
 -- the two memories as a call finds them
 abbrev pub found : Lent → Lent → Memories
-found im zm = memories im.entry.now zm.entry.now
+found im zm = holding im.entry zm.entry
 
 -- the two memories as a call leaves them
 abbrev pub left : Lent → Lent → Memories
-left im zm = memories im.exit.now zm.exit.now
+left im zm = holding im.exit zm.exit
+
+-- what the two memories hold that are lent in one struct
+abbrev pub held_in : Both → Memories
+held_in m = holding m.i m.z

@@ -4,21 +4,20 @@
 #![tactic(auto)]
 
 mod say;
-mod space;
 
 ghost use Rattle.std.specs.Prelude.{◌≤◌, length};
 ghost use Rattle.mend.specs.Mend.{Enough, Repairs};
 
 use console::args::count;
-use console::say::{fail, say, write};
-use console::{Taken, recording, take};
+use console::say::{fail, say, tell};
+use console::{recording, room, take};
 use mending::{Mended, dextolumen_mend};
 use say::{say_list, say_summary};
-use space::{index_room, number_room};
+use std::io;
 use stream::read::held;
 
 // Mends over memories without places: what is kept and dropped is the same over any two memories of one length, so nothing need be drawn.
-// There is room enough, so that nothing is refused.
+// There is room enough, so that nothing is refused. (The list of dropped words is two memories, as C lends them.)
 fn repair(bytes: &[u8], out: &mut [u8], indices: &mut [u64], numbers: &mut [u8]) -> Mended
     requires { Enough bytes.now out.old indices.old numbers.old }
     ensures { Repairs bytes out indices numbers result }
@@ -28,49 +27,46 @@ fn repair(bytes: &[u8], out: &mut [u8], indices: &mut [u64], numbers: &mut [u8])
     dextolumen_mend(bytes, out, indices, numbers, &mut im, &mut zm)
 }
 
-// Writes the new stream and says what was mended, if anything was.
-fn write_mended(stdout: &impl Print, stderr: &impl Print, bytes: &[u8])
+// Writes the new stream and says what was mended, if anything was. A recording of 1,048,576 bytes has 419,430 words.
+fn write_mended(rt: &(impl Print + Eprint), bytes: &[u8]) -> io::Result<()>
     requires { length bytes.now ≤ 1048576 }
 {
     let mut out = recording();
-    let mut indices = index_room();
-    let mut numbers = number_room();
+    let mut indices = room::<u64, 419430>(0);
+    let mut numbers = room::<u8, 419430>(0);
     let told = repair(bytes, &mut out, &mut indices, &mut numbers);
-    let size = told.size;
-    let dropped = told.dropped;
-    if !write(stdout, stderr, b"mend: standard output", &out[..size]) {
-        return;
+    let stream = &out[..told.size];
+    rt.write_all(stream)?;
+    let whole = (told.dropped == 0) & (told.cut == 0) & (told.cleared == 0);
+    if !whole {
+        say_list(
+            rt,
+            bytes,
+            &indices[..told.dropped],
+            &numbers[..told.dropped],
+        );
+        say_summary(rt, held(stream), told);
     }
-    let whole = (dropped == 0) & (told.cut == 0) & (told.cleared == 0);
-    if whole {
-        return;
-    }
-    say_list(stderr, bytes, &indices[..dropped], &numbers[..dropped]);
-    say_summary(stderr, held(&out[..size]), dropped, told.cut, told.cleared);
+    Ok(())
 }
 
 // Mends the bytes that were read.
-fn mend_read(stdout: &impl Print, stderr: &impl Print, bytes: &[u8]) {
+fn mend(rt: &(impl Print + Eprint), bytes: &[u8]) {
     if 1048576 < bytes.len() {
-        say(
-            stderr,
-            b"mend: the recording is longer than 1048576 bytes\n",
-        );
+        say(rt, "mend: the recording is longer than 1048576 bytes");
         return;
     }
-    write_mended(stdout, stderr, bytes);
+    tell(rt, "mend: standard output", write_mended(rt, bytes));
 }
 
 fn main(rt: HostRuntime) {
-    let stderr = rt.stderr();
     if 1 < count(&rt) {
-        say(&stderr, b"usage: mend < DAMAGED > RECORDING\n");
+        say(&rt, "usage: mend < DAMAGED > RECORDING");
         return;
     }
     let mut bytes = recording();
-    let taken = take(&rt, &mut bytes);
-    match taken {
-        Taken::Bytes(n) => mend_read(&rt, &stderr, &bytes[..n]),
-        Taken::Failed(error) => fail(&stderr, b"mend: standard input", error),
+    match take(&rt, &mut bytes) {
+        Ok(n) => mend(&rt, &bytes[..n]),
+        Err(error) => fail(&rt, "mend: standard input", error),
     }
 }

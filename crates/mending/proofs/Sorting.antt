@@ -11,10 +11,10 @@ use native.Mathlib.Omega.{arith}
 use borrow.Author.Tests.{eq-eqb, ne_eqb}
 use lib.ListN.{length, get_or, take, drop, set, length-drop, drop_of_length-le, length-map, get_or-map}
 use lib.Seq.{sets, sets-eq, set_at, take_all, take-suc, drop-cons, drop-drop, get_or-drop, length-take-le}
+use Rattle.std.specs.Prelude.{Option, None, Some, Result, Ok}
+use Rattle.ground.specs.declared.Refusal.{Refusal}
 use Rattle.stream.specs.Format.{fit, unpack_of, pack_of, word_at}
 use Rattle.stream.specs.Calls.{over, coded_told, packing}
-use Rattle.stream.specs.declared.Coded.{Coded}
-use Rattle.stream.specs.declared.Coded.TheVariants.{Done}
 use Rattle.stream.proofs.Stream.{parity, length_pack}
 use Rattle.stream.proofs.Filling.{front, front_all, pack_turn, pack_last}
 use Rattle.stream.proofs.Calls.{pack_done}
@@ -24,7 +24,6 @@ use Rattle.registers.specs.declared.Registers.{Registers}
 use Rattle.registers.specs.Record.{reset_of}
 use Rattle.registers.specs.Word.{word_of}
 use Rattle.refusals.specs.Refusal.{next}
-use Rattle.refusals.proofs.Refusals.{given_most}
 use Rattle.machine.specs.Run.{Outcome, outcome}
 use Rattle.machine.specs.Machine.{Memories, memories, step_of}
 use Rattle.machine.specs.Offers.{next_in}
@@ -32,7 +31,7 @@ use Rattle.machine.proofs.Steps.{step_number}
 use Rattle.machine.proofs.Offers.{step_registers}
 use Rattle.chip.specs.Chip.{chip}
 use Rattle.mending.specs.Mend.{kept_in, Dropped, dropped, dropped_in, kept_of, mended_of, dropped_of, indices_of, numbers_of}
-use Rattle.mending.specs.Sort.{Judged, put_waiting, Room, Sorted}
+use Rattle.mending.specs.Sort.{Judged, put_waiting, Waits, word_in, next_waiting, Room, Sorted}
 use Rattle.mending.proofs.Words.{kept_accepted, kept_refused, dropped_accepted, dropped_refused}
 
 -- ---- a word
@@ -45,10 +44,6 @@ judged r w says =
       refusal = ap (λ (o : Outcome Registers Memories). o.refusal) says ∙ step_number chip r (word_of w) (memories [] []);
       registers = ap (λ (o : Outcome Registers Memories). o.registers) says ∙ step_registers chip r (word_of w) (memories [] []);
     }
-
--- its number fits a byte
-pub number_small : {r : Registers} {w n : ℕ} {q : Registers} → Judged r w n q → n < 256
-number_small {r} {w} says = omega (arith, says.refusal, given_most 0 0 r (word_of w))
 
 -- ---- what is left
 
@@ -159,20 +154,25 @@ module _ (words : List ℕ) (j : ℕ) (out : List ℕ) where
 
   -- the waiting word is packed behind the pairs
   pub put_odd : j % 2 ≡ 1 → fit 20 words ≡ true → 5 * (j / 2) + (length words * 5 + 1) / 2 ≤ length out
-      → (answer : Coded) {left : List ℕ} → coded_told answer left ≡ packing words (take (length out - 5 * (j / 2)) (drop (5 * (j / 2)) out))
+      → (answer : Result ℕ Refusal) {left : List ℕ} → coded_told answer left ≡ packing words (take (length out - 5 * (j / 2)) (drop (5 * (j / 2)) out))
       → take (5 * (j / 2)) out ++ (left ++ drop (length out - 5 * (j / 2)) (drop (5 * (j / 2)) out)) ≡ put_waiting words j out
   unfolding put_waiting over
   put_odd e f room answer {left} says =
       let at = 5 * (j / 2) in
       let whole : take (length out - at) (drop at out) ≡ drop at out = take_all (length out - at) (drop at out) (omega (arith, length-drop at out)) in
       let stored : left ≡ pack_of words ++ drop (length (pack_of words)) (drop at out) =
-      (settled {r = answer} {r' = Done (length (pack_of words))} (says ∙ ap (packing words) whole) (pack_done words (drop at out) f (omega (arith, length-drop at out, length_pack words)) refl refl)).1 in
+      (settled {r = answer} {r' = Ok (length (pack_of words))} (says ∙ ap (packing words) whole) (pack_done words (drop at out) f (omega (arith, length-drop at out, length_pack words)) refl refl)).1 in
       let past : drop (length out - at) (drop at out) ≡ [] = drop_of_length-le (drop at out) {i = length out - at} (omega (arith, length-drop at out)) in
       rw (eq-eqb _ _ e)
       (ap₂ (λ (a b : List ℕ). take at out ++ (a ++ b)) stored past
       ∙ ap (λ (l : List ℕ). take at out ++ l) (append-nil (pack_of words ++ drop (length (pack_of words)) (drop at out)) ∙ ap (λ (l : List ℕ). pack_of words ++ l) (drop-drop (length (pack_of words)) at out))
       ∙ sym (append_assoc (take at out) (pack_of words) (drop (at + length (pack_of words)) out))
       ∙ sym (sets-eq (pack_of words) out at (omega (arith, length_pack words))))
+
+-- a word more waits, or is packed with the one that waited
+pub waits_next : (waiting : Option ℕ) (j w : ℕ) → Waits waiting j → Waits (next_waiting waiting w) (j + 1)
+waits_next None j w even = omega arith
+waits_next (Some v) j w odd = omega arith
 
 -- the next of a list is stored
 front_set : (d : ℕ) (new old : List ℕ) {out : List ℕ} {v : ℕ} → d < length new → length new ≤ length old → v ≡ get_or new d 0 → out ≡ front d new old
@@ -195,6 +195,21 @@ module _ (bytes out₀ indices₀ numbers₀ : List ℕ) where
     pub stream : out ≡ front (5 * (j / 2)) (mended_of bytes 0) out₀
     pub places : indices ≡ front d (indices_of (dropped_of bytes 0)) indices₀
     pub reasons : numbers ≡ front d (numbers_of (dropped_of bytes 0)) numbers₀
+
+  -- the word that waits behind one word more: none does behind a pair
+  pub sorted_waits : {out indices numbers : List ℕ} {q : Registers} {w d : ℕ} (waiting : Option ℕ) (j : ℕ) → Waits waiting j
+      → SortedTo out indices numbers q w (j + 1) d → SortedTo out indices numbers q (word_in (next_waiting waiting w)) (j + 1) d
+  sorted_waits None j even so = so
+  sorted_waits (Some v) j odd so =
+      record {
+        kept = so.kept;
+        dropped = so.dropped;
+        waits = λ e. absurd (omega arith);
+        small = omega arith;
+        stream = so.stream;
+        places = so.places;
+        reasons = so.reasons;
+      }
 
   -- before the first word nothing is kept, dropped or waiting, and what was lent is as it was
   pub sorted_start : {r : Registers} → r ≡ reset_of → SortedTo out₀ indices₀ numbers₀ r 0 0 0

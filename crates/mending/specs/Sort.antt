@@ -1,5 +1,5 @@
 -- Sorting a recording's words on registers alone, over memories without places.
-use Rattle.std.specs.Prelude.{◌≡◌, ℕ, ◌*◌, ◌/◌, ◌%◌, ◌≤◌, cond, List, length, eqb}
+use Rattle.std.specs.Prelude.{◌≡◌, ℕ, Option, None, Some, ◌*◌, ◌/◌, ◌%◌, ◌≤◌, cond, List, length, eqb}
 use Rattle.std.proofs.lemmas.List.Edits.{sets}
 use denote.Triple.Both.{Both}
 use Rattle.std.specs.Borrow.{Bor}
@@ -17,6 +17,21 @@ pub record Judged (r : Registers) (w number : ℕ) (left : Registers) : Type 0 w
 -- where j is odd, the last of j kept words waits for the next: some words, packed behind the pairs before it
 unfoldable pub put_waiting : List ℕ → ℕ → List ℕ → List ℕ
 put_waiting words j out = cond (eqb (j % 2) 1) (sets out (5 * (j / 2)) (pack_of words)) out
+
+-- a word waits exactly where j is odd
+abbrev pub Waits : Option ℕ → ℕ → Type 0
+Waits None j = j % 2 ≡ 0
+Waits (Some w) j = j % 2 ≡ 1
+
+-- the word that waits; 0 where none does
+abbrev pub word_in : Option ℕ → ℕ
+word_in None = 0
+word_in (Some w) = w
+
+-- what waits behind one word more: that word, or none where one waited for it
+abbrev pub next_waiting : Option ℕ → ℕ → Option ℕ
+next_waiting None w = Some w
+next_waiting (Some v) w = None
 
 -- there is room for the new stream and the list
 pub record Room (bytes out indices numbers : List ℕ) : Type 0 where

@@ -5,11 +5,13 @@
 mod sort;
 
 ghost use Rattle.std.specs.Prelude.{◌≡◌};
+ghost use Rattle.ground.specs.Refusal.{number};
 ghost use Rattle.mending.specs.Mend.{cut_of, cleared_of, refused, outcome_over, mending_over};
 
 use crate::sort::{kept, sort};
 use chip::run::run;
-use stream::read::{flaw, held};
+use ground::Refusal;
+use stream::read::{checked, held};
 
 // What mending tells: the number that refused it, 0 for none; the length of the new stream; how many words were dropped; how many bits
 // were cut from the end; and whether a closing half byte that was not 0 was cleared, 1 or 0. All are numbers of 64 bits, as C takes them.
@@ -24,29 +26,29 @@ pub struct Mended {
 }
 
 // How many bits are cut from the end.
+#[tactic(auto, unfolding(crate::specs::Mend::cut_of))]
 fn cut_bits(bytes: &[u8]) -> u64
     ensures { result ≡ cut_of bytes.now }
 {
-    let table = [0u64, 8, 16, 0, 12];
-    table[bytes.len() % 5]
+    [0u64, 8, 16, 0, 12][bytes.len() % 5]
 }
 
-// Whether there is a closing half byte to clear: 12 is told of no other stream.
+// Whether there is a closing half byte to clear, as C takes it: no other stream is refused for its tail.
 fn half_cleared(bytes: &[u8]) -> u64
     ensures { result ≡ cleared_of bytes.now }
 {
-    if flaw(bytes) == 12 {
-        return 1;
+    match checked(bytes) {
+        Err(refusal) => u64::from(refusal == Refusal::BadTail),
+        Ok(()) => 0,
     }
-    0
 }
 
 // A refusal.
-fn refusing(number: u64) -> Mended
-    ensures { result ≡ refused number }
+fn refusing(refusal: Refusal) -> Mended
+    ensures { result ≡ refused (number refusal) }
 {
     Mended {
-        refusal: number,
+        refusal: refusal.into(),
         size: 0,
         dropped: 0,
         cut: 0,
@@ -68,23 +70,22 @@ pub extern "C" fn dextolumen_mend(
     ensures { outcome_over result out indices numbers im zm ≡ mending_over bytes out indices numbers im zm }
 {
     if im.len() != zm.len() {
-        return refusing(2);
+        return refusing(Refusal::Unsound);
     }
     let count = kept(bytes);
+    // rounded up by hand, as `Room` and `outcome` of specs/ have it
     let size = (count * 5 + 1) / 2;
     let dropped = held(bytes) - count;
     if (out.len() < size) | (indices.len() < dropped) | (numbers.len() < dropped) {
-        return refusing(13);
+        return refusing(Refusal::NoRoom);
     }
     sort(bytes, out, indices, numbers);
     run(&out[..size], im, zm);
-    let cut = cut_bits(bytes);
-    let cleared = half_cleared(bytes);
     Mended {
         refusal: 0,
-        size: size,
-        dropped: dropped,
-        cut: cut,
-        cleared: cleared,
+        size,
+        dropped,
+        cut: cut_bits(bytes),
+        cleared: half_cleared(bytes),
     }
 }

@@ -1,4 +1,4 @@
-// The call of the crate mending for a host in C.
+// The call of the crate mending for a host in C. (Said again here: a static library exports the marked functions of its own crate alone.)
 #![tactic(auto)]
 
 ghost use Rattle.std.specs.Prelude.{◌≡◌};

@@ -6,14 +6,13 @@ use Prim.Native.Nat.{ℕ, suc, ◌+◌, ◌*◌, ◌≤◌, ◌<◌}
 use native.Mathlib.Nat.{add-zero, zero-add}
 use native.Mathlib.Omega.{arith}
 use lib.ListN.{length, length-append}
-use lib.Seq.{length-sets}
-use Rattle.report.specs.Calls.{Put}
-use Rattle.report.proofs.Putting.{put_append, put_over}
+use Rattle.report.specs.Calls.{Adds, Room}
+use Rattle.report.specs.declared.page.Page.{Page}
+use Rattle.report.proofs.Putting.{add_after, room_after, put_over}
 use Rattle.report.proofs.Calls.{stands}
 use Rattle.tally.specs.declared.Tally.{Tally}
-use Rattle.tally.specs.declared.Entry.{Entry}
 use Rattle.tally.specs.Tally.{no_tally, total_of, added, kept, EachWithin}
-use Rattle.tally.specs.Overdraw.{entry_of, tally_of, tallies_of}
+use Rattle.tally.specs.Overdraw.{Entered, entry_of, tally_of, tallies_of}
 use Rattle.tally.proofs.Adding.{each_more, added_each, kept_same, total_more}
 use Rattle.tally.proofs.Overdraw.{stream_each, streams_small}
 use Rattle.overdraw.specs.declared.page.Reached.{Reached}
@@ -69,65 +68,60 @@ length_part streams = omega (arith, length-append heading (lines_from 0 streams)
 -- ---- how far it has come
 
 -- with the heading alone it has come through no recording
-pub come_none : {old new : List ℕ} {r : Reached} → 418474 ≤ length old → Put heading old 0 new r.end → r.files ≡ 0 → r.total ≡ no_tally → Come old new r
+pub come_none : {old new : Page} {r : Reached} → old.at ≡ 0 → 418474 ≤ length old.out.now → Adds heading old new → r.files ≡ 0 → r.total ≡ no_tally → Come old new r
 unfolding part_of lines_from total_of
-come_none {old} {new} {r} long p none sums =
-    record { streams = []; files = none; few = omega (arith, none); long = long; text = subst (λ (t : List ℕ). Put t old 0 new r.end) (sym (append-nil heading)) p; total = sums }
+come_none {old} {new} front long p none sums =
+    record { streams = []; files = none; few = omega (arith, none); front = front; long = long; text = subst (λ (t : List ℕ). Adds t old new) (sym (append-nil heading)) p; total = sums }
 
 -- one more, from its parts
-pub one_more : (r : Reached) (bytes : List ℕ) {room : ℕ} {old new name : List ℕ} {e : Entry} {n : ℕ} {sum : Tally} → Ready room r → name ≡ name_of r.files
-    → e ≡ entry_of bytes → Put (entry_lines name e) old r.end new n → sum ≡ kept (added r.total e.tally)
-    → More r bytes old new (record { files = r.files + 1; end = n; total = sum })
-one_more r bytes {room} {old} {new} {name} {e} {n} {sum} ready named is put sums =
+pub one_more : (r : Reached) (bytes : List ℕ) {room old new : Page} {name : List ℕ} {e : Entered} {sum : Tally} → Ready room r → name ≡ name_of r.files
+    → e ≡ entry_of bytes → Adds (entry_lines name e) old new → sum ≡ kept (added r.total e.tally)
+    → More r bytes old new (record { files = r.files + 1; total = sum })
+one_more r bytes {room} {old} {new} {name} {e} {sum} ready named is put sums =
     record {
       files = refl;
       text =
-          subst (λ (x : Entry). Put (entry_lines (name_of r.files) x) old r.end new n) is
-          (subst (λ (x : List ℕ). Put (entry_lines x e) old r.end new n) named put);
+          subst (λ (x : Entered). Adds (entry_lines (name_of r.files) x) old new) is
+          (subst (λ (x : List ℕ). Adds (entry_lines x e) old new) named put);
       total =
           sums
-          ∙ ap (λ (x : Entry). kept (added r.total x.tally)) is
+          ∙ ap (λ (x : Entered). kept (added r.total x.tally)) is
           ∙ kept_same (3276000 + 3276) (added r.total (tally_of bytes)) (omega arith) (added_each 3276000 3276 r.total (tally_of bytes) ready.small (stream_each bytes));
     }
 
-module _ {old mid : List ℕ} {r : Reached} (so : Come old mid r) where
-  same_room : length mid ≡ length old
-  same_room = ap (length {A = ℕ}) so.text.stands ∙ length-sets old 0 (part_of so.streams)
-
-  ends : r.end ≡ length (part_of so.streams)
-  ends = so.text.ends ∙ zero-add (length (part_of so.streams))
-
+module _ {old mid : Page} {r : Reached} (so : Come old mid r) where
   small : EachWithin 3276000 r.total
   small =
       subst (EachWithin 3276000) (sym so.total)
       (each_more (length so.streams * 3276) 3276000 (tallies_of so.streams) (omega (arith, so.few, so.files)) (streams_small so.streams))
 
   -- there is room for another
-  pub come_ready : r.files < 1000 → Ready (length mid) r
+  pub come_ready : r.files < 1000 → Ready mid r
   come_ready few =
       record {
         few = few;
-        fits = omega (arith, so.long, same_room, few, ends, so.files, length_part so.streams);
+        fits = room_after 418 so.text (omega (arith, so.front, so.long, few, so.files, length_part so.streams));
         small = small;
       }
 
   -- and with it, the report has come through one more
-  pub come_more : {bytes new : List ℕ} {q : Reached} → r.files < 1000 → More r bytes mid new q → Come old new q
+  pub come_more : {bytes : List ℕ} {new : Page} {q : Reached} → r.files < 1000 → More r bytes mid new q → Come old new q
   come_more {bytes} {new} {q} few more =
       record {
         streams = so.streams ++ (bytes ∷ []);
         files = omega (arith, more.files, so.files, length-append so.streams (bytes ∷ []));
         few = omega (arith, few, more.files);
+        front = so.front;
         long = so.long;
         text =
-            subst (λ (t : List ℕ). Put t old 0 new q.end) (sym (part_more so.streams bytes))
-            (put_append so.text (subst (λ (n : ℕ). Put (entry_lines (name_of n) (entry_of bytes)) mid r.end new q.end) so.files more.text));
+            subst (λ (t : List ℕ). Adds t old new) (sym (part_more so.streams bytes))
+            (add_after so.text (subst (λ (n : ℕ). Adds (entry_lines (name_of n) (entry_of bytes)) mid new) so.files more.text));
         total = more.total ∙ ap (λ (t : Tally). added t (tally_of bytes)) so.total ∙ sym (tallies_more so.streams bytes);
       }
 
   -- there is room for the total
-  pub come_room : EachWithin 3276000 r.total × (r.end + 395 ≤ length mid)
-  come_room = (small, omega (arith, so.long, same_room, so.few, ends, so.files, length_part so.streams))
+  pub come_room : EachWithin 3276000 r.total × Room 395 mid
+  come_room = (small, room_after 395 so.text (omega (arith, so.front, so.long, so.few, so.files, length_part so.streams)))
 
   length_report : length (report_of so.streams) ≡ length (part_of so.streams) + 395
   unfolding report_of
@@ -135,16 +129,16 @@ module _ {old mid : List ℕ} {r : Reached} (so : Come old mid r) where
       omega (arith, length-append (part_of so.streams) (tally_lines total_name (tallies_of so.streams)), length_tally total_name (tallies_of so.streams))
 
   -- with it the report is whole
-  pub come_whole : {new : List ℕ} {n : ℕ} → Put (tally_lines total_name r.total) mid r.end new n → Printed old new n
+  pub come_whole : {new : Page} {first last : List ℕ} → old.out.now ≡ first → Adds (tally_lines total_name r.total) mid new → new.out.now ≡ last → Printed first last new.at
   unfolding report_of
-  come_whole {new} {n} p =
-      let put : Put (report_of so.streams) old 0 new n =
-      put_append so.text (subst (λ (t : Tally). Put (tally_lines total_name t) mid r.end new n) so.total p) in
-      let all = put_over (omega (arith, so.long, so.few, length_report, so.files, length_part so.streams)) put in
+  come_whole {new} e p g =
+      let added : Adds (report_of so.streams) old new =
+      add_after so.text (subst (λ (t : Tally). Adds (tally_lines total_name t) mid new) so.total p) in
+      let all = put_over (omega (arith, ap (length {A = ℕ}) e, so.long, so.few, length_report, so.files, length_part so.streams)) (rw (e, so.front, g) at added.put) in
       record { streams = so.streams; whole = true; text = stands all.0 all.1 }
 
   -- or it ends here
-  pub come_part : Printed old mid r.end
-  come_part =
-      let all = put_over (omega (arith, so.long, so.few, so.files, length_part so.streams)) so.text in
+  pub come_part : {first last : List ℕ} → old.out.now ≡ first → mid.out.now ≡ last → Printed first last mid.at
+  come_part e g =
+      let all = put_over (omega (arith, ap (length {A = ℕ}) e, so.long, so.few, so.files, length_part so.streams)) (rw (e, so.front, g) at so.text.put) in
       record { streams = so.streams; whole = false; text = stands all.0 all.1 }

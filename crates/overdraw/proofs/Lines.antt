@@ -1,17 +1,19 @@
 -- How long the parts of a line are, and how a number is put into columns. Assumes nothing.
-use mathlib.Core.Path.{◌≡◌, refl, ap, ◌∙◌}
+use mathlib.Core.Path.{◌≡◌, refl, sym, ap, ◌∙◌}
 use mathlib.Core.Bool.{Bool, true, false, cond}
 use mathlib.Core.List.{List, [], ◌∷◌, ◌++◌}
 use Prim.Native.Nat.{ℕ, zero, suc, ◌+◌, ◌-◌, ◌*◌, ◌/◌, ◌%◌, ◌≤◌}
+use native.Mathlib.Nat.{div-zero}
 use native.Mathlib.Numerals.{add-one}
 use native.Mathlib.Omega.{arith}
 use lib.ListN.{length, set, length-append}
 use lib.Dec.{eqb}
 use lib.Seq.{sets}
 use Rattle.report.proofs.Putting.{store_first}
+use Rattle.report.specs.declared.page.Page.{Page}
 use Rattle.tally.specs.declared.Count.{Count}
 use Rattle.tally.specs.declared.Tally.{Tally}
-use Rattle.tally.specs.declared.Entry.{Entry}
+use Rattle.tally.specs.Overdraw.{Entered}
 use Rattle.overdraw.specs.Text.{
   glyph,
   front,
@@ -56,6 +58,13 @@ module _ (k n at : ℕ) (out : List ℕ) where
   unfolding front
   put_next e = rw (here, e, add-one k) (store_first (front k (n / 10)) out at (glyph n))
 
+-- a page while a number is stored, from the last column to the first: what is left of it, put into the first k columns over what stands, gives what the
+-- whole number gives, put over what stood; the next byte's place and the buffer are what they were
+pub record Storing (width n k rest : ℕ) (old new : Page) : Type 0 where
+  pub put : sets new.out.now old.at (front k rest) ≡ sets old.out.now old.at (front width n)
+  pub at : new.at ≡ old.at
+  pub same : new.out.ghost_name ≡ old.out.ghost_name
+
 -- nothing is left
 pub put_all : (n at : ℕ) (out : List ℕ) → sets out at (front 0 n) ≡ out
 unfolding front
@@ -66,6 +75,11 @@ pub columns_parts : (k n : ℕ) → 1 ≤ k → columns k n ≡ front (k - 1) (n
 unfolding columns
 columns_parts zero n h = absurd (omega (arith, h))
 columns_parts (suc k) n h = let same : k ≡ suc k - 1 = omega arith in ap (λ (j : ℕ). front j (n / 10) ++ ((48 + n % 10) ∷ [])) same
+
+-- of no pixels none are hidden: a number div 0 is 0
+pub percent_none : (c : Count) → c.offered ≡ 0 → 0 ≡ percent_of c
+unfolding percent_of
+percent_none c e = rw e (sym (div-zero (c.hidden * 100)))
 
 -- ---- lines
 
@@ -151,7 +165,7 @@ module _ (name : List ℕ) where
       omega (arith, whole, length-append name too_long_name, length-append (name ++ too_long_name) (10 ∷ []))
 
   -- the lines of a recording have at most 382 bytes and six times those of the name
-  pub length_entry : (e : Entry) → length (entry_lines name e) ≤ length name * 6 + 382
+  pub length_entry : (e : Entered) → length (entry_lines name e) ≤ length name * 6 + 382
   unfolding entry_lines
   length_entry e = go e.long
     where

@@ -1,26 +1,9 @@
--- How many bytes of a file come. Assumes nothing.
-use Prim.Native.Nat.{ℕ, zero, suc}
-use native.Mathlib.Omega.{arith}
-use lib.ListN.{take}
+-- Text of the console in ASCII: a file's path, and what is said of one that cannot be read. Assumes nothing.
+use Rattle.std.proofs.Common.{◌≡◌, ℕ, zero, suc, Bool, true, ◌&&◌, ltb, List, [], ◌∷◌, ◌++◌, take, sym, subst, refl, arith, ltb-true}
 use Rattle.std.specs.Str.{IsAscii}
-use Rattle.console.specs.declared.Taken.{Taken}
-use Rattle.console.specs.declared.Taken.TheVariants.{Bytes as Came, Failed}
-use Rattle.console.specs.Taken.{Within as TakenWithin}
-use Rattle.overdraw.specs.declared.file.Found.{Found}
-use Rattle.overdraw.specs.declared.file.Found.TheVariants.{Bytes, Missing, Unreadable}
-use Rattle.overdraw.specs.Read.{found_of, Within}
+use Rattle.std.proofs.lemmas.Str.{IsAscii-append}
+use Rattle.ground.proofs.Truth.{both}
 use Rattle.overdraw.specs.Text.{name_of}
-
--- none fit everywhere
-pub within_none : (room : ℕ) (f : Found) → Within 0 f → Within room f
-within_none room (Bytes n) h = omega (arith, h)
-within_none room Missing h = tt
-within_none room Unreadable h = tt
-
--- as many as were read
-pub found_within : (room : ℕ) (t : Taken) → TakenWithin room t → Within room (found_of t)
-found_within room (Came n) h = h
-found_within room (Failed error) h = tt
 
 -- a file's path is three digits
 pub path_ascii : (k : ℕ) → IsAscii (take 3 (name_of k))
@@ -28,3 +11,21 @@ path_ascii k zero = omega arith
 path_ascii k (suc zero) = omega arith
 path_ascii k (suc (suc zero)) = omega arith
 path_ascii k (suc (suc (suc i))) = omega arith
+
+-- a test of each byte
+abbrev are_low : List ℕ → Bool
+are_low [] = true
+are_low (b ∷ bs) = ltb b 128 && are_low bs
+
+low_ascii : (bs : List ℕ) → are_low bs ≡ true → IsAscii bs
+low_ascii [] e i = omega arith
+low_ascii (b ∷ bs) e zero = ltb-true b 128 (both (ltb b 128) (are_low bs) e).0
+low_ascii (b ∷ bs) e (suc i) = low_ascii bs (both (ltb b 128) (are_low bs) e).1 i
+
+-- `overdraw: no totals: cannot read `
+abbrev pub unread : List ℕ
+unread = 111 ∷ 118 ∷ 101 ∷ 114 ∷ 100 ∷ 114 ∷ 97 ∷ 119 ∷ 58 ∷ 32 ∷ 110 ∷ 111 ∷ 32 ∷ 116 ∷ 111 ∷ 116 ∷ 97 ∷ 108 ∷ 115 ∷ 58 ∷ 32 ∷ 99 ∷ 97 ∷ 110 ∷ 110 ∷ 111 ∷ 116 ∷ 32 ∷ 114 ∷ 101 ∷ 97 ∷ 100 ∷ 32 ∷ []
+
+-- and a file's path behind it
+pub unread_ascii : (k : ℕ) {path : List ℕ} → path ≡ take 3 (name_of k) → IsAscii (unread ++ path)
+unread_ascii k {path} e = subst (λ (l : List ℕ). IsAscii (unread ++ l)) (sym e) (IsAscii-append unread (take 3 (name_of k)) (low_ascii unread refl) (path_ascii k))

@@ -4,7 +4,7 @@
 use Rattle.std.specs.Prelude.{ℕ, zero, suc, ◌+◌, ◌*◌, ◌/◌, ◌%◌, cond, List, [], ◌∷◌, ◌++◌, eqb}
 use Rattle.tally.specs.declared.Count.{Count}
 use Rattle.tally.specs.declared.Tally.{Tally}
-use Rattle.tally.specs.declared.Entry.{Entry}
+use Rattle.tally.specs.Overdraw.{Entered}
 
 -- ---- numbers
 
@@ -101,5 +101,5 @@ unfoldable pub too_long_line : List ℕ → List ℕ
 too_long_line name = name ++ too_long_name ++ (10 ∷ [])
 
 -- the lines of a recording: that it is too long, or a line a kind and its refusal
-unfoldable pub entry_lines : List ℕ → Entry → List ℕ
+unfoldable pub entry_lines : List ℕ → Entered → List ℕ
 entry_lines name e = cond e.long (too_long_line name) (tally_lines name e.tally ++ refusal_line name e.refusal)

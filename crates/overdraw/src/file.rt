@@ -1,74 +1,49 @@
-// The files where the program stands, by their numbers. One that cannot be read is told on standard error.
-ghost use Rattle.std.specs.Prelude.{◌≡◌, length, take};
+// The files where the program stands, by their numbers.
+ghost use Rattle.std.specs.Prelude.{length};
 ghost use Rattle.std.specs.Str.{IsAscii};
-ghost use Rattle.overdraw.specs.Read.{found_of, Within};
+ghost use Rattle.overdraw.specs.Read.{Within};
 
 use crate::text::name_of;
 use console::say::fail;
-use console::{Taken, take_from};
-use std::io::{Error, ErrorKind};
+use console::take_from;
+use std::io::{Eprint, Error, ErrorKind};
 use std::rt::Files;
 use std::{fs, str};
 
-// What looking for a file comes to: so many of its bytes, or it is missing, or it cannot be read.
-#[derive(Clone, Copy)]
-pub(crate) enum Found {
-    Bytes(usize),
+// Why a file's bytes do not come: it is missing, or it is there and cannot be read.
+#[derive(Debug, Drop)]
+pub(crate) enum Lost {
     Missing,
-    Unreadable,
+    Unreadable(Error),
 }
 
-// Says that a file cannot be read, and why.
-fn say_unread(stderr: &impl Print, name: [u8; 6], error: Error) {
-    let mut what = *b"overdraw: no totals: cannot read 000";
-    what[33] = name[0];
-    what[34] = name[1];
-    what[35] = name[2];
-    fail(stderr, &what, error);
-}
-
-// A file that could not be opened: missing, or there and not readable.
-fn unopened(stderr: &impl Print, name: [u8; 6], error: Error) -> Found
-    ensures { Within 0 result }
+// Bytes in ASCII, as text.
+fn text_of(bytes: &[u8]) -> &str
+    requires { IsAscii bytes.now }
 {
+    str::from_utf8(bytes).unwrap()
+}
+
+// Why a file could not be opened.
+fn unopened(error: Error) -> Lost {
     if error.kind() == ErrorKind::NotFound {
-        return Found::Missing;
+        return Lost::Missing;
     }
-    say_unread(stderr, name, error);
-    Found::Unreadable
+    Lost::Unreadable(error)
 }
 
-// A file that could be opened, and what reading it came to.
-fn opened(stderr: &impl Print, name: [u8; 6], taken: Taken) -> Found
-    ensures { result ≡ found_of taken }
-{
-    match taken {
-        Taken::Bytes(n) => Found::Bytes(n),
-        Taken::Failed(error) => {
-            say_unread(stderr, name, error);
-            Found::Unreadable
-        }
-    }
-}
-
-// A file's path: the first three bytes of its name in six columns.
-fn path_of(name: &[u8; 6]) -> &str
-    requires { IsAscii (take 3 name.now) }
-{
-    let path = str::from_utf8(&name[..3]);
-    path.unwrap()
-}
-
-// Looks for the file with number k, and reads it until it ends or the buffer is full.
-pub(crate) fn find(rt: &impl Files, stderr: &impl Print, k: u64, bytes: &mut [u8]) -> Found
+// Looks for the file with number k, and reads it until it ends or the buffer is full: so many bytes came.
+pub(crate) fn find(rt: &impl Files, k: u64, bytes: &mut [u8]) -> Result<usize, Lost>
     ensures { Within (length bytes.old) result }
 {
     let name = name_of(k);
-    let got = fs::open(rt, path_of(&name));
-    let mut file = match got {
-        Ok(file) => file,
-        Err(error) => return unopened(stderr, name, error),
-    };
-    let taken = take_from(&mut file, bytes);
-    opened(stderr, name, taken)
+    let mut file = fs::open(rt, text_of(&name[..3])).map_err(unopened)?;
+    take_from(&mut file, bytes).map_err(Lost::Unreadable)
+}
+
+// Says that the file with number k cannot be read, and why. (`fail` takes a text that stands, so that the name is laid into one.)
+pub(crate) fn say_unread(rt: &impl Eprint, k: u64, error: Error) {
+    let mut what = *b"overdraw: no totals: cannot read 000";
+    what[33..].copy_from_slice(&name_of(k)[..3]);
+    fail(rt, text_of(&what), error);
 }

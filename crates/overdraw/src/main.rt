@@ -7,77 +7,67 @@ mod file;
 mod page;
 mod text;
 
-ghost use Rattle.overdraw.specs.Report.{Come, Printed};
+ghost use Rattle.std.specs.Prelude.{◌≡◌, ◌≤◌, length};
+ghost use Rattle.overdraw.specs.Report.{Gathered, Printed};
 
 use console::args::count;
-use console::say::{say, write};
-use file::{Found, find};
-use page::{Reached, add, begin, finish};
+use console::say::{say, tell};
+use file::{Lost, find, say_unread};
+use page::Reached;
+use report::Page;
+use std::io::Eprint;
 use std::rt::Files;
 
-// What was gathered: how far the report has come, and whether no file is left out.
-#[derive(Clone, Copy)]
-struct Gathered {
-    reached: Reached,
-    whole: bool,
-}
-
-// Whether a report may end where this was found.
-fn is_whole(found: Found) -> bool {
-    match found {
-        Found::Bytes(_) => true,
-        Found::Missing => true,
-        Found::Unreadable => false,
-    }
-}
+// Why a report has no total: a file cannot be read. Its lines end where its page had come to.
+#[derive(Clone, Copy, Debug, PartialEq, Eq)]
+struct Cut;
 
 // Reads and reports file after file, until one is missing or cannot be read. One byte more than a recording may have is enough to tell that it is
-// too long.
-fn gather(rt: &impl Files, stderr: &impl Print, out: &mut [u8; 418474]) -> Gathered
-    ensures { Come out.old out.new result.reached }
+// too long. (No range counts the files: the report counts them, and that it has fewer than a thousand is what `add` asks for. A range's number would have to be shown to
+// be the report's at each file.)
+fn gather(rt: &(impl Files + Eprint), page: &mut Page<'_>) -> Result<Reached, Cut>
+    requires at_front { page.old.at ≡ 0 }
+    requires long { 418474 ≤ length page.old.out.now }
+    ensures { Gathered page.old page.new result }
 {
-    let mut r = begin(out);
+    let mut reached = Reached::begin(page);
     let mut bytes = [0u8; 8193];
-    while r.files < 1000 {
-        let found = find(rt, stderr, r.files, &mut bytes);
-        let Found::Bytes(n) = found else {
-            let whole = is_whole(found);
-            return Gathered {
-                reached: r,
-                whole: whole,
-            };
-        };
-        let next = add(r, &bytes[..n], out);
-        r = next;
+    while reached.files < 1000 {
+        match find(rt, reached.files, &mut bytes) {
+            Ok(n) => reached = reached.add(&bytes[..n], page),
+            Err(Lost::Missing) => return Ok(reached),
+            Err(Lost::Unreadable(error)) => {
+                say_unread(rt, reached.files, error);
+                return Err(Cut);
+            }
+        }
     }
-    Gathered {
-        reached: r,
-        whole: true,
-    }
+    Ok(reached)
 }
 
 // The report, at the front of a buffer, and its length.
-fn reported(rt: &impl Files, stderr: &impl Print, out: &mut [u8; 418474]) -> usize
+fn reported(rt: &(impl Files + Eprint), out: &mut [u8; 418474]) -> usize
     ensures { Printed out.old out.new result }
 {
-    let g = gather(rt, stderr, out);
-    let r = g.reached;
-    if g.whole {
-        return finish(r, out);
+    let mut page = Page { out, at: 0 };
+    match gather(rt, &mut page) {
+        Ok(reached) => {
+            reached.finish(&mut page);
+            page.at
+        }
+        Err(Cut) => page.at,
     }
-    r.end
 }
 
 fn main(rt: HostRuntime) {
-    let stderr = rt.stderr();
     if 1 < count(&rt) {
         say(
-            &stderr,
-            b"usage: overdraw, where the recordings 000, 001 and so on stand\n",
+            &rt,
+            "usage: overdraw, where the recordings 000, 001 and so on stand",
         );
         return;
     }
     let mut out = [0u8; 418474];
-    let n = reported(&rt, &stderr, &mut out);
-    write(&rt, &stderr, b"overdraw: standard output", &out[..n]);
+    let n = reported(&rt, &mut out);
+    tell(&rt, "overdraw: standard output", rt.write_all(&out[..n]));
 }

@@ -1,58 +1,52 @@
-// The lines of the report, put at a place of a buffer. Each tells the place after it.
-ghost use Rattle.std.specs.Prelude.{◌≡◌, ◌+◌, ◌≤◌, length};
-ghost use Rattle.report.specs.Calls.{Put};
+// The lines of the report, put on its page.
+ghost use Rattle.std.specs.Prelude.{◌≡◌, ◌≤◌};
+ghost use Rattle.report.specs.Calls.{Adds, Room};
+ghost use Rattle.ground.specs.Refusal.{number};
 ghost use Rattle.tally.specs.Tally.{EachWithin};
+ghost use Rattle.tally.specs.Overdraw.{entered};
 ghost use Rattle.overdraw.specs.Text.{glyph, front, columns, percent_of, name_of, heading, numbers, count_line, tally_lines, refusal_line, too_long_line, entry_lines};
 
-use report::lay;
-use tally::{Count, Entry, Tally};
-
-// Puts a text, for which there is room.
-fn put_text(text: &[u8], out: &mut [u8], at: usize) -> usize
-    requires { at + length text.now ≤ length out.old }
-    ensures { Put text.now out.old at out.new result }
-{
-    lay(text, out, at)
-}
+use ground::Refusal;
+use report::Page;
+use tally::{Count, Entry, Stop, Tally};
 
 // The last digit of a number, or a blank where nothing is left of it.
+#[tactic(auto, unfolding(crate::specs::Text::glyph))]
 fn glyph_of(n: u64) -> u8
     ensures { result ≡ glyph n }
 {
     if n == 0 {
         return b' ';
     }
-    48 + (n % 10) as u8
+    b'0' + (n % 10) as u8
 }
 
 // Puts a number into `width` columns, as it stands in front of another digit. The digits come from the last to the first, so that one division finds
-// each.
-fn put_front(n: u64, width: usize, out: &mut [u8], at: usize) -> usize
-    requires { at + width ≤ length out.old }
-    ensures { Put (front width n) out.old at out.new result }
+// each. (report's `put_digits` puts zeros where this puts blanks: to call it, the digits would have to be counted first.)
+fn put_front(n: u64, width: usize, page: &mut Page<'_>)
+    requires { Room width page.old }
+    ensures { Adds (front width n) page.old page.new }
 {
     let mut rest = n;
-    let mut k = width;
-    while 0 < k {
-        k -= 1;
-        out[at + k] = glyph_of(rest);
+    for k in (0..width).rev() {
+        page.out[page.at + k] = glyph_of(rest);
         rest /= 10;
     }
-    at + width
+    page.at += width;
 }
 
 // Puts a number into `width` columns.
-fn put_columns(n: u64, width: usize, out: &mut [u8], at: usize) -> usize
+fn put_columns(n: u64, width: usize, page: &mut Page<'_>)
     requires le_width { 1 ≤ width }
-    requires width_in_bounds { at + width ≤ length out.old }
-    ensures { Put (columns width n) out.old at out.new result }
+    requires width_in_bounds { Room width page.old }
+    ensures { Adds (columns width n) page.old page.new }
 {
-    let next = put_front(n / 10, width - 1, out, at);
-    out[next] = 48 + (n % 10) as u8;
-    next + 1
+    put_front(n / 10, width - 1, page);
+    page.put_byte(b'0' + (n % 10) as u8);
 }
 
-// The share that is hidden.
+// The share that is hidden. (What is asked of `hidden` is said again of each count on its way here: so many, times a hundred, is still a number of 64 bits.)
+#[tactic(auto, using(crate::proofs::Lines::percent_none), unfolding(crate::specs::Text::percent_of))]
 fn percent(c: Count) -> u64
     requires { c.hidden ≤ 100000000000000000 }
     ensures { result ≡ percent_of c }
@@ -63,14 +57,14 @@ fn percent(c: Count) -> u64
     c.hidden * 100 / c.offered
 }
 
-// A file's name, in six columns.
+// A file's name, in six columns. (Digit by digit, as `name_of` of specs/Text.antt has it.)
 pub(crate) fn name_of(k: u64) -> [u8; 6]
     ensures { result ≡ name_of k }
 {
     [
-        48 + (k / 100 % 10) as u8,
-        48 + (k / 10 % 10) as u8,
-        48 + (k % 10) as u8,
+        b'0' + (k / 100 % 10) as u8,
+        b'0' + (k / 10 % 10) as u8,
+        b'0' + (k % 10) as u8,
         b' ',
         b' ',
         b' ',
@@ -78,89 +72,98 @@ pub(crate) fn name_of(k: u64) -> [u8; 6]
 }
 
 // Puts the heading.
-pub(crate) fn put_heading(out: &mut [u8], at: usize) -> usize
-    requires { at + 79 ≤ length out.old }
-    ensures { Put heading out.old at out.new result }
+#[tactic(auto, unfolding(crate::specs::Text::heading))]
+pub(crate) fn put_heading(page: &mut Page<'_>)
+    requires { Room 79 page.old }
+    ensures { Adds heading page.old page.new }
 {
-    put_text(
+    page.put_bytes(
         b"file  kind     figures         offered          passed          hidden percent\n",
-        out,
-        at,
-    )
+    );
 }
 
 // Puts the numbers of a count.
-fn put_numbers(c: Count, out: &mut [u8], at: usize) -> usize
+fn put_numbers(c: Count, page: &mut Page<'_>)
     requires hidden_bound { c.hidden ≤ 100000000000000000 }
-    requires at_in_bounds { at + 64 ≤ length out.old }
-    ensures { Put (numbers c) out.old at out.new result }
+    requires at_in_bounds { Room 64 page.old }
+    ensures { Adds (numbers c) page.old page.new }
 {
-    let first = put_columns(c.figures, 8, out, at);
-    let second = put_columns(c.offered, 16, out, first);
-    let third = put_columns(c.passed, 16, out, second);
-    let fourth = put_columns(c.hidden, 16, out, third);
-    put_columns(percent(c), 8, out, fourth)
+    put_columns(c.figures, 8, page);
+    put_columns(c.offered, 16, page);
+    put_columns(c.passed, 16, page);
+    put_columns(c.hidden, 16, page);
+    put_columns(percent(c), 8, page);
 }
 
 // Puts the line of a kind.
-fn put_count(name: [u8; 6], kind: [u8; 8], c: Count, out: &mut [u8], at: usize) -> usize
+fn put_count(name: [u8; 6], kind: [u8; 8], c: Count, page: &mut Page<'_>)
     requires hidden_bound { c.hidden ≤ 100000000000000000 }
-    requires at_in_bounds { at + 79 ≤ length out.old }
-    ensures { Put (count_line name kind c) out.old at out.new result }
+    requires at_in_bounds { Room 79 page.old }
+    ensures { Adds (count_line name kind c) page.old page.new }
 {
-    let first = put_text(&name, out, at);
-    let second = put_text(&kind, out, first);
-    let third = put_numbers(c, out, second);
-    put_text(b"\n", out, third)
+    page.put_bytes(&name);
+    page.put_bytes(&kind);
+    put_numbers(c, page);
+    page.put_byte(b'\n');
 }
 
 // Puts a line a kind.
-pub(crate) fn put_tally(name: [u8; 6], t: Tally, out: &mut [u8], at: usize) -> usize
+pub(crate) fn put_tally(name: [u8; 6], t: Tally, page: &mut Page<'_>)
     requires each_within { EachWithin 3276000 t }
-    requires at_in_bounds { at + 395 ≤ length out.old }
-    ensures { Put (tally_lines name t) out.old at out.new result }
+    requires at_in_bounds { Room 395 page.old }
+    ensures { Adds (tally_lines name t) page.old page.new }
 {
-    let first = put_count(name, *b"gouraud ", t.gouraud, out, at);
-    let second = put_count(name, *b"constant", t.constant, out, first);
-    let third = put_count(name, *b"line0   ", t.line0, out, second);
-    let fourth = put_count(name, *b"line1   ", t.line1, out, third);
-    put_count(name, *b"line2   ", t.line2, out, fourth)
+    put_count(name, *b"gouraud ", t.gouraud, page);
+    put_count(name, *b"constant", t.constant, page);
+    put_count(name, *b"line0   ", t.line0, page);
+    put_count(name, *b"line1   ", t.line1, page);
+    put_count(name, *b"line2   ", t.line2, page);
 }
 
-// Puts the line of a refusal, if there is one.
-fn put_refusal(name: [u8; 6], refusal: u64, out: &mut [u8], at: usize) -> usize
-    requires { at + 23 ≤ length out.old }
-    ensures { Put (refusal_line name refusal) out.old at out.new result }
+// Puts the line of a refusal.
+fn put_refusal(name: [u8; 6], refusal: Refusal, page: &mut Page<'_>)
+    requires { Room 23 page.old }
+    ensures { Adds (refusal_line name (number refusal)) page.old page.new }
 {
-    if refusal == 0 {
-        return at;
-    }
-    let first = put_text(&name, out, at);
-    let second = put_text(b"refusal ", out, first);
-    let third = put_columns(refusal, 8, out, second);
-    put_text(b"\n", out, third)
+    page.put_bytes(&name);
+    page.put_bytes(b"refusal ");
+    put_columns(refusal.into(), 8, page);
+    page.put_byte(b'\n');
 }
 
 // Puts the line of a recording that is too long.
-fn put_too_long(name: [u8; 6], out: &mut [u8], at: usize) -> usize
-    requires { at + 15 ≤ length out.old }
-    ensures { Put (too_long_line name) out.old at out.new result }
+fn put_too_long(name: [u8; 6], page: &mut Page<'_>)
+    requires { Room 15 page.old }
+    ensures { Adds (too_long_line name) page.old page.new }
 {
-    let first = put_text(&name, out, at);
-    let second = put_text(b"too long", out, first);
-    put_text(b"\n", out, second)
+    page.put_bytes(&name);
+    page.put_bytes(b"too long");
+    page.put_byte(b'\n');
+}
+
+// Puts the lines of a recording that was not run to its end.
+fn put_stopped(name: [u8; 6], tally: Tally, why: Stop, page: &mut Page<'_>)
+    requires each_within { EachWithin 3276 tally }
+    requires at_in_bounds { Room 418 page.old }
+    ensures { Adds (entry_lines name (entered (record { outcome = Err why; tally = tally }))) page.old page.new }
+{
+    match why {
+        Stop::TooLong => put_too_long(name, page),
+        Stop::Refused(refusal) => {
+            put_tally(name, tally, page);
+            put_refusal(name, refusal, page);
+        }
+    }
 }
 
 // Puts the lines of a recording.
-pub(crate) fn put_entry(name: [u8; 6], e: Entry, out: &mut [u8], at: usize) -> usize
+pub(crate) fn put_entry(name: [u8; 6], e: Entry, page: &mut Page<'_>)
     requires each_within { EachWithin 3276 e.tally }
-    requires at_in_bounds { at + 418 ≤ length out.old }
-    ensures { Put (entry_lines name e) out.old at out.new result }
+    requires at_in_bounds { Room 418 page.old }
+    ensures { Adds (entry_lines name (entered e)) page.old page.new }
 {
-    if e.long {
-        return put_too_long(name, out, at);
+    match e.outcome {
+        Ok(()) => put_tally(name, e.tally, page),
+        Err(why) => put_stopped(name, e.tally, why, page),
     }
-    let t = e.tally;
-    let next = put_tally(name, t, out, at);
-    put_refusal(name, e.refusal, out, next)
 }

@@ -1,15 +1,12 @@
 -- Runs of pixels that all have the same two numbers, of which nothing but a nearer depth decides: eight that are read before any of them is written
 -- are eight drawn one after the other, since their places differ; and pixels that are drawn again change nothing, since none is nearer than itself.
 -- Assumes nothing.
-use Rattle.std.proofs.Common.{◌≡◌, ℕ, zero, suc, ◌+◌, ◌-◌, ◌<◌, ◌≤◌, Bool, true, false, cond, ltb, ◌≢◌, List, length, get_or, set, sym, refl, ap, ◌∙◌, subst, ap₂, add-zero, arith, get_or-set_other, get_or-set_same, below_more, ltb-false, le-ltb}
+use Rattle.std.proofs.Common.{◌≡◌, ℕ, zero, suc, ◌+◌, ◌-◌, ◌<◌, ◌≤◌, Bool, true, false, cond, ltb, ◌≢◌, List, length, get_or, set, sym, refl, ap, ◌∙◌, ap₂, add-zero, arith, get_or-set_other, get_or-set_same, below_more, ltb-false, le-ltb}
+use Rattle.std.proofs.lemmas.List.FromFn.{fill_by_all}
 use Rattle.picture.specs.declared.Carried.{Carried}
-use Rattle.picture.specs.declared.Eight.{Eight}
-use Rattle.picture.specs.declared.Frame.{Frame}
-use Rattle.picture.specs.declared.Kind.TheVariants.{Gouraud}
-use Rattle.picture.specs.declared.Run.{Run}
-use Rattle.picture.specs.Picture.{Picture, picture, compared_of, drawn}
-use Rattle.picture.specs.Draw.{carried_to, nearer_pen, span_offers, steady_of}
-use Rattle.picture.specs.Loops.{Beside, is_nearer, nearer_at, run_over, eight_at, eight_set, each_of, pick_eight, count_eight, sum_of}
+use Rattle.picture.specs.Picture.{Picture, picture, compared_of}
+use Rattle.picture.specs.Draw.{carried_to, steady_of}
+use Rattle.picture.specs.Loops.{is_nearer, nearer_at, run_over, for_eight, eight_at, eight_set, each_of, pick_eight, count_eight, sum_of}
 use Rattle.picture.proofs.Rows.{nearer_is, nearer_fail, chosen_nearer}
 use Rattle.picture.proofs.Runs.{Ran, run_zero, run_suc, run_more, run_z}
 
@@ -179,47 +176,52 @@ one_counted : (b : Bool) (n : ℕ) → cond b (n + 1) n ≡ n + cond b 1 0
 one_counted true n = refl
 one_counted false n = sym (add-zero n)
 
+-- eight numbers summed up, one by one
+eight_sum : (n : List ℕ) → length n ≡ 8
+    → sum_of n ≡ get_or n 0 0 + get_or n 1 0 + get_or n 2 0 + get_or n 3 0 + get_or n 4 0 + get_or n 5 0 + get_or n 6 0 + get_or n 7 0
+eight_sum n eight =
+    let whole : n ≡ for_eight (λ k. get_or n k 0) = fill_by_all (λ k. get_or n k 0) n 8 0 eight (λ k l. refl) in
+    ap sum_of whole ∙ omega arith
+
 -- eight counts, each one more where its test holds, sum up to as many more as hold
-eight_hits : (b : ℕ → Bool) (n : Eight)
-    → cond (b 0) (n.a + 1) n.a + cond (b 1) (n.b + 1) n.b + cond (b 2) (n.c + 1) n.c + cond (b 3) (n.d + 1) n.d
-    + cond (b 4) (n.e + 1) n.e + cond (b 5) (n.f + 1) n.f + cond (b 6) (n.g + 1) n.g + cond (b 7) (n.h + 1) n.h
-    ≡ sum_of n + hits b 8
+eight_hits : (b : ℕ → Bool) (n : List ℕ) → length n ≡ 8
+    → sum_of (for_eight (λ k. cond (b k) (get_or n k 0 + 1) (get_or n k 0))) ≡ sum_of n + hits b 8
 unfolding hits
-eight_hits b n =
+eight_hits b n eight =
     omega (
       arith,
-      one_counted (b 0) n.a,
-      one_counted (b 1) n.b,
-      one_counted (b 2) n.c,
-      one_counted (b 3) n.d,
-      one_counted (b 4) n.e,
-      one_counted (b 5) n.f,
-      one_counted (b 6) n.g,
-      one_counted (b 7) n.h,
+      eight_sum n eight,
+      one_counted (b 0) (get_or n 0 0),
+      one_counted (b 1) (get_or n 1 0),
+      one_counted (b 2) (get_or n 2 0),
+      one_counted (b 3) (get_or n 3 0),
+      one_counted (b 4) (get_or n 4 0),
+      one_counted (b 5) (get_or n 5 0),
+      one_counted (b 6) (get_or n 6 0),
+      one_counted (b 7) (get_or n 7 0),
     )
 
-module _ (at i z : ℕ) (im zm : List ℕ) (n : Eight) (ilow : i ≤ 65535) (zlow : z ≤ 65535) where
+module _ (at i z : ℕ) (im zm n : List ℕ) (eight : length n ≡ 8) (ilow : i ≤ 65535) (zlow : z ≤ 65535) where
   -- so what is chosen for each of eight pixels and stored, and counted for each, is a run of eight
   eight_run : picture (eight_set at (pick_eight z (eight_at at zm) i (eight_at at im)) im) (eight_set at (pick_eight z (eight_at at zm) z (eight_at at zm)) zm)
       (sum_of (count_eight z (eight_at at zm) n))
       ≡ run_over (λ j. at + j) (steady_of i) (steady_of z) 8 (picture im zm (sum_of n))
   unfolding eight_set eight_at each_of stored
   eight_run =
-      simp add-zero at
-      (ap (picture (stored (new_i_lem at i z im zm (sum_of n) ilow zlow) at 8 im) (stored (new_z_lem at i z im zm (sum_of n) ilow zlow) at 8 zm))
-      (eight_hits (λ k. ltb z (get_or zm (at + k) 0)) n)
-      ∙ stored_run at i z im zm (sum_of n) ilow zlow 8)
+      ap (picture (stored (new_i_lem at i z im zm (sum_of n) ilow zlow) at 8 im) (stored (new_z_lem at i z im zm (sum_of n) ilow zlow) at 8 zm))
+      (eight_hits (λ k. ltb z (get_or zm (at + k) 0)) n eight)
+      ∙ stored_run at i z im zm (sum_of n) ilow zlow 8
 
   -- the same of what was read, chosen, stored and counted one after the other
-  pub eight_drawn : {deep stood depths numbers n' : Eight} {im' zm' : List ℕ} → deep ≡ eight_at at zm → stood ≡ eight_at at im
+  pub eight_drawn : {deep stood depths numbers n' im' zm' : List ℕ} → deep ≡ eight_at at zm → stood ≡ eight_at at im
       → depths ≡ pick_eight z deep z deep → numbers ≡ pick_eight z deep i stood → zm' ≡ eight_set at depths zm → im' ≡ eight_set at numbers im
       → n' ≡ count_eight z deep n → picture im' zm' (sum_of n') ≡ run_over (λ j. at + j) (steady_of i) (steady_of z) 8 (picture im zm (sum_of n))
   eight_drawn {n' = n'} d s ez ei wz wi c =
-      let all_i = wi ∙ ap (λ (v : Eight). eight_set at v im) (ei ∙ ap₂ (λ (u v : Eight). pick_eight z u i v) d s) in
-      let all_z = wz ∙ ap (λ (v : Eight). eight_set at v zm) (ez ∙ ap (λ (v : Eight). pick_eight z v z v) d) in
+      let all_i = wi ∙ ap (λ (v : List ℕ). eight_set at v im) (ei ∙ ap₂ (λ (u v : List ℕ). pick_eight z u i v) d s) in
+      let all_z = wz ∙ ap (λ (v : List ℕ). eight_set at v zm) (ez ∙ ap (λ (v : List ℕ). pick_eight z v z v) d) in
       ap₂ (λ (k l : List ℕ). picture k l (sum_of n')) all_i all_z
-      ∙ ap (λ (m : Eight). picture (eight_set at (pick_eight z (eight_at at zm) i (eight_at at im)) im) (eight_set at (pick_eight z (eight_at at zm) z (eight_at at zm)) zm) (sum_of m))
-      (c ∙ ap (λ (v : Eight). count_eight z v n) d)
+      ∙ ap (λ (m : List ℕ). picture (eight_set at (pick_eight z (eight_at at zm) i (eight_at at im)) im) (eight_set at (pick_eight z (eight_at at zm) z (eight_at at zm)) zm) (sum_of m))
+      (c ∙ ap (λ (v : List ℕ). count_eight z v n) d)
       ∙ eight_run
 
 -- ---- a turn of the loop
@@ -244,15 +246,3 @@ module _ (base i z : ℕ) {im₀ zm₀ im zm im' zm' : List ℕ} {n n' done : �
             ∙ run_over_lem base i z from m k low (picture im₀ zm₀ 0) (omega (arith, fits, so_far_lem))
             ∙ ap (λ (a : ℕ). run_over (λ j. base + j) (steady_of i) (steady_of z) a (picture im₀ zm₀ 0)) all;
       }
-
--- ---- what is drawn of a row
-
--- pixels side by side with numbers that stay are what is drawn of the row with them
-pub beside_steady : {frame : Frame} {lo hi y i z : ℕ} {ki kz : Carried} {run : Run} → ki ≡ steady_of i → kz ≡ steady_of z → i ≤ 65535 → z ≤ 65535
-    → Beside frame lo hi y ki kz run → (rows : ℕ) → y < rows → (p : Picture)
-    → run_over (λ j. run.base + j) (steady_of i) (steady_of z) run.count p
-    ≡ drawn (nearer_pen frame) (span_offers (nearer_pen frame) rows Gouraud lo hi y (steady_of i) (steady_of z)) p
-beside_steady {frame} {lo} {hi} {y} {i} {z} {ki} {kz} {run} ei ez ilow zlow beside rows used p =
-    let b : Beside frame lo hi y (steady_of i) (steady_of z) run = subst (λ k. Beside frame lo hi y k (steady_of z) run) ei (subst (λ k. Beside frame lo hi y ki k run) ez beside) in
-    ap₂ (λ (k l : Carried). run_over (λ j. run.base + j) k l run.count p) (sym (b.i_stays refl (omega (arith, ilow)))) (sym (b.z_stays refl (omega (arith, zlow))))
-    ∙ b.same rows used p

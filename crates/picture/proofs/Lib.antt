@@ -28,8 +28,6 @@ pub mod Stores
 pub mod Strides
 -- how a loop goes through pixels of which nothing but a nearer depth decides, and that these are what is drawn of a row
 pub mod Runs
--- a number so many times, modulo 2 ^ 64, is found by doublings
-pub mod Carries
 -- a number in some planes and in the others is the number
 pub mod Planes
 -- what is read of a picture after a pixel is stored, and that one stored where it was read changes nothing

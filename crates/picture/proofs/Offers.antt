@@ -4,7 +4,7 @@ use lib.Seq.{set-get_or}
 use Rattle.picture.specs.declared.Pen.{Pen}
 use Rattle.picture.specs.declared.Kind.{Kind}
 use Rattle.picture.specs.declared.Kind.TheVariants.{Line2}
-use Rattle.picture.specs.declared.Compared.TheVariants.{Nearer, Equal, Farther}
+use Rattle.std.proofs.Common.{Ordering, Less, Equal, Greater, nat_cmp}
 use Rattle.picture.specs.Place.{lies_plain, place_of, rows_of, in_memory}
 use Rattle.picture.specs.Offer.{Offer, offer, lets_through, in_window, offered, keep}
 use Rattle.picture.specs.Picture.{is_deep, compared_of, wins, passes, in_planes, new_i, new_z, Picture, picture, step_at, draw_one, drawn}
@@ -89,20 +89,26 @@ module _ (pen : Pen) (l : List ℕ) (at : ℕ) where
   unfolding new_i
   keep_i i h = rw h (sym (set-get_or l at 0))
 
-  -- with the Z enable on, a passed pixel of a kind with depth leaves its depth in Z
-  pub store_z : (kind : Kind) (z : ℕ) → pen.zenable && is_deep kind ≡ true → set l at z ≡ set l at (new_z pen kind z (get_or l at 0))
-  unfolding new_z
-  store_z kind z h = rw h
-
   -- with the Z enable off, or by a kind without depth, a passed pixel leaves Z as it was
   pub keep_z : (kind : Kind) (z : ℕ) → pen.zenable && is_deep kind ≡ false → l ≡ set l at (new_z pen kind z (get_or l at 0))
   unfolding new_z
   keep_z kind z h = rw h (sym (set-get_or l at 0))
 
+-- a depth that is stored where its enable is on and its kind has depth
+pub new_z_is : (pen : Pen) (kind : Kind) (l : List ℕ) (at z : ℕ) {deep : Bool} {l' : List ℕ} → deep ≡ is_deep kind
+    → l' ≡ set l at (cond (pen.zenable && deep) z (get_or l at 0)) → l' ≡ set l at (new_z pen kind z (get_or l at 0))
+unfolding new_z
+new_z_is pen kind l at z e h = rw e at h
+
 -- ---- how depths compare
 
+-- std's comparison of two numbers is that of two depths
+pub compared_is : (new old : ℕ) {how : Ordering} → how ≡ nat_cmp new old → how ≡ compared_of new old
+unfolding compared_of
+compared_is new old e = e
+
 -- a depth below the old one is nearer
-pub compared_nearer : (new old : ℕ) → new < old → compared_of new old ≡ Nearer
+pub compared_nearer : (new old : ℕ) → new < old → compared_of new old ≡ Less
 unfolding compared_of
 compared_nearer new old h = rw (lt-ltb new old h)
 
@@ -112,7 +118,7 @@ unfolding compared_of
 compared_equal new old e = rw (le-ltb new old (omega (arith, e)), eq-eqb new old e)
 
 -- a depth that is neither below the old one nor equal to it is farther
-pub compared_farther : (new old : ℕ) → old ≤ new → new ≢ old → compared_of new old ≡ Farther
+pub compared_farther : (new old : ℕ) → old ≤ new → new ≢ old → compared_of new old ≡ Greater
 unfolding compared_of
 compared_farther new old h e = rw (le-ltb new old h, ne_eqb new old e)
 

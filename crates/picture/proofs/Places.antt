@@ -1,5 +1,5 @@
 -- Where pixels lie: a pixel inside the memory has a place of its own, below the lent lengths. Assumes nothing.
-use Rattle.std.proofs.Common.{◌≡◌, ℕ, ◌+◌, ◌-◌, ◌*◌, ◌/◌, ◌%◌, ◌<◌, ◌≤◌, min, Bool, true, false, cond, ◌&&◌, ◌||◌, eqb, ltb, leb, sym, refl, ap, ◌∙◌, zero-le, add_assoc, mul-le-mul_right, mul-le-mul, zero-add, arith, ltb-false, ltb-true, lt-ltb, eq-eqb, eqb-true, le-leb, leb-true}
+use Rattle.std.proofs.Common.{not, ne_eqb, ◌≡◌, ℕ, ◌+◌, ◌-◌, ◌*◌, ◌/◌, ◌%◌, ◌<◌, ◌≤◌, min, Bool, true, false, cond, ◌&&◌, ◌||◌, eqb, ltb, leb, sym, refl, ap, ◌∙◌, zero-le, add_assoc, mul-le-mul_right, mul-le-mul, zero-add, arith, ltb-false, ltb-true, lt-ltb, eq-eqb, eqb-true, le-leb, leb-true}
 use native.Mathlib.Nat.{min-le_right}
 use borrow.Author.Tests.{eqb-false}
 use Rattle.ground.proofs.Truth.{both, neither, same_test}
@@ -228,6 +228,20 @@ tiled_mine frame x e = rw (lies_tiled_lem frame e)
 or_other : (a b : Bool) → a || b ≡ true → b ≡ false → a ≡ true
 or_other true b e f = refl
 or_other false b e f = sym f ∙ e
+
+-- that there are units needs no test where there are two or more
+pub some_ways : (a b : Bool) (ways : ℕ) → 2 ≤ ways → a && b ≡ a && not (eqb ways 0) && b
+some_ways true b ways h = rw (ne_eqb ways 0 (λ e. absurd (omega (arith, e, h))))
+some_ways false b ways h = refl
+
+-- in rows and in tiles, the places of a row are as many as the line length says
+pub whole_width : (frame : Frame) → lies_plain frame || lies_tiled frame ≡ true → width_of (layout_of frame) frame.line ≡ frame.line
+unfolding width_of
+whole_width frame h = go (lies_plain frame) refl h
+  where
+    go : (b : Bool) → lies_plain frame ≡ b → b || lies_tiled frame ≡ true → width_of (layout_of frame) frame.line ≡ frame.line
+    go true e t = rw (lies_plain_lem frame e)
+    go false e t = rw (lies_tiled_lem frame t)
 
 -- in rows and in tiles, how far apart those of the first row lie, and that the memory has every column
 module _ (frame : Frame) (x : ℕ) (e : lies_plain frame || lies_tiled frame ≡ true) where

@@ -7,14 +7,14 @@ use Rattle.picture.specs.declared.Frame.{Frame}
 use Rattle.picture.specs.declared.Pen.{Pen}
 use Rattle.picture.specs.declared.Kind.{Kind}
 use Rattle.picture.specs.declared.Kind.TheVariants.{Gouraud}
-use Rattle.picture.specs.declared.Compared.{Compared}
-use Rattle.picture.specs.declared.Compared.TheVariants.{Nearer, Equal, Farther}
+use Rattle.std.proofs.Common.{Ordering, Less, Equal, Greater}
 use Rattle.picture.specs.declared.Carried.{Carried}
 use Rattle.picture.specs.Place.{layout_of, place_of, mine, in_memory}
 use Rattle.picture.specs.Offer.{Offer, offer, lets_through, is_masked, shows}
 use Rattle.picture.specs.Picture.{is_deep, compared_of, is_edge, wins, passes, in_planes, new_i, new_z, Picture, picture, step_at, draw_one, drawn}
 use Rattle.picture.specs.Draw.{carried_one, shown, seen, carried_to, span_pixel, span_offers, is_plain, nearer_pen}
-use Rattle.picture.specs.Loops.{Plain, is_nearer, nearer_at}
+use Rattle.picture.specs.declared.Stretch.{Stretch}
+use Rattle.picture.specs.Loops.{after, Part, Plain, is_nearer, nearer_at}
 use Rattle.ground.proofs.Truth.{both}
 use Rattle.picture.proofs.Fold.{drawn_nil}
 use Rattle.picture.proofs.Spans.{spans_stop, spans_none, spans_alike}
@@ -39,10 +39,10 @@ unfolding in_planes
 in_all_planes old new h = rw (and_zero_r old, or_zero_l) (and_mask new 16 ∙ mod-eq_of_lt (omega arith))
 
 -- a kind that is no edge wins where it is nearer
-pub strict_wins : (kind : Kind) (how : Compared) → is_edge kind ≡ false → wins kind how ≡ is_nearer how
-strict_wins kind Nearer e = refl
+pub strict_wins : (kind : Kind) (how : Ordering) → is_edge kind ≡ false → wins kind how ≡ is_nearer how
+strict_wins kind Less e = refl
 strict_wins kind Equal e = e
-strict_wins kind Farther e = refl
+strict_wins kind Greater e = refl
 
 -- where nothing but a nearer depth decides, an offer of a 16-bit number stores both of its numbers whole if it is nearer, and else nothing
 pub step_nearer : (pen : Pen) (kind : Kind) → Plain pen kind → (at i z : ℕ) → i ≤ 65535 → (p : Picture) → step_at pen kind at i z p ≡ nearer_at at i z p
@@ -66,7 +66,7 @@ unfolding compared_of
 nearer_is z old true t = rw t
 nearer_is z old false t = rw t (go (eqb z old))
   where
-    go : (e : Bool) → is_nearer (cond e Equal Farther) ≡ false
+    go : (e : Bool) → is_nearer (cond e Equal Greater) ≡ false
     go true = refl
     go false = refl
 
@@ -188,6 +188,33 @@ module _ (pen : Pen) (rows : ℕ) (kind : Kind) (lo y : ℕ) (i z : Carried) whe
   unfolding span_offers
   span_empty hi h = spans_none _ (hi - lo) (λ j k. absurd (omega arith))
 
+-- so what a memory has of a stretch is offered as the whole is, and of a stretch of which it has nothing nothing is offered
+module _ {frame : Frame} (rows : ℕ) (s : Stretch) where
+  stopped : (pen : Pen) (kind : Kind) → pen.frame ≡ frame
+      → span_offers pen rows kind s.lo s.hi s.y s.i s.z ≡ span_offers pen rows kind s.lo (min s.hi frame.line) s.y s.i s.z
+  stopped pen kind e =
+      span_right pen rows kind s.lo s.y s.i s.z s.hi
+      ∙ ap (λ (f : Frame). span_offers pen rows kind s.lo (min s.hi f.line) s.y s.i s.z) e
+
+  pub part_some : {hi : ℕ} → hi ≡ min s.hi frame.line → s.lo < hi → ltb s.y rows ≡ true
+      → Part frame rows s (record { lo = s.lo; hi = hi; y = s.y; i = s.i; z = s.z })
+  part_some is some used =
+      record {
+        some = some;
+        low = omega arith;
+        used = ltb-true s.y rows used;
+        i = refl;
+        z = refl;
+        same = λ pen kind e. ap (λ (h : ℕ). span_offers pen rows kind s.lo h s.y s.i s.z) is ∙ sym (stopped pen kind e);
+      }
+
+  pub part_none : {hi : ℕ} (a b : Bool) → hi ≡ min s.hi frame.line → ltb s.lo hi ≡ a → ltb s.y rows ≡ b → a && b ≡ false
+      → (pen : Pen) (kind : Kind) → pen.frame ≡ frame → span_offers pen rows kind s.lo s.hi s.y s.i s.z ≡ []
+  part_none {hi} false b is t u none pen kind e =
+      stopped pen kind e
+      ∙ span_empty pen rows kind s.lo s.y s.i s.z (min s.hi frame.line) (omega (arith, is, ltb-false s.lo hi t))
+  part_none true b is t u none pen kind e = span_above pen rows kind s.lo s.y s.i s.z s.hi (u ∙ none)
+
 -- ---- a run of which nothing but a nearer depth decides
 
 -- a carried number has 16 bits
@@ -245,23 +272,46 @@ pub carried_at : (c : Carried) (j m : ℕ) → m ≡ (c.first + j * c.add) % 2 ^
 unfolding carried_to
 carried_at c j m e = ap (λ (a : ℕ). a / carried_one) e
 
--- so far, and four pixels on
-pub carried_four : (k g j r m w : ℕ) → m ≡ (k + j * g) % 2 ^ 64 → w ≡ (4 * g) % 2 ^ 64 → r ≡ (m + w) % 2 ^ 64 → r ≡ (k + (j + 4) * g) % 2 ^ 64
-carried_four k g j r m w e f h =
-    h
-    ∙ ap₂ (λ (a b : ℕ). (a + b) % 2 ^ 64) e f
-    ∙ add-mod-mod ((k + j * g) % 2 ^ 64) (4 * g) (2 ^ 64)
-    ∙ mod-add-mod (k + j * g) (2 ^ 64) (4 * g)
-    ∙ ap (λ (a : ℕ). a % 2 ^ 64) (add_assoc k (j * g) (4 * g) ∙ ap (λ (a : ℕ). k + a) (sym (add-mul j 4 g)))
+-- so far, and so many pixels on
+carried_more : (k g j d m : ℕ) → m ≡ (k + j * g) % 2 ^ 64 → (m + (d * g) % 2 ^ 64) % 2 ^ 64 ≡ (k + (j + d) * g) % 2 ^ 64
+carried_more k g j d m e =
+    ap (λ (a : ℕ). (a + (d * g) % 2 ^ 64) % 2 ^ 64) e
+    ∙ add-mod-mod ((k + j * g) % 2 ^ 64) (d * g) (2 ^ 64)
+    ∙ mod-add-mod (k + j * g) (2 ^ 64) (d * g)
+    ∙ ap (λ (a : ℕ). a % 2 ^ 64) (add_assoc k (j * g) (d * g) ∙ ap (λ (a : ℕ). k + a) (sym (add-mul j d g)))
 
 -- numbers that are carried on from pixel k
-pub carried_on : (c : Carried) (k m : ℕ) → m ≡ (c.first + k * c.add) % 2 ^ 64 → (j : ℕ) → carried_to (carry m c.add) j ≡ carried_to c (k + j)
+carried_on : (c : Carried) (k m : ℕ) → m ≡ (c.first + k * c.add) % 2 ^ 64 → (j : ℕ) → carried_to (carry m c.add) j ≡ carried_to c (k + j)
 unfolding carried_to
 carried_on c k m e j =
     ap (λ (n : ℕ). n / carried_one)
     (ap (λ (a : ℕ). (a + j * c.add) % 2 ^ 64) e
     ∙ mod-add-mod (c.first + k * c.add) (2 ^ 64) (j * c.add)
     ∙ ap (λ (a : ℕ). a % 2 ^ 64) (add_assoc c.first (k * c.add) (j * c.add) ∙ ap (λ (a : ℕ). c.first + a) (sym (add-mul k j c.add))))
+
+-- what is carried so many pixels on, at one sum
+after_first : (c : Carried) (j : ℕ) → (after c j).first ≡ (c.first + j * c.add) % 2 ^ 64
+after_first c j = add-mod-mod c.first (j * c.add) (2 ^ 64)
+
+after_is : (c : Carried) (j : ℕ) → after c j ≡ carry ((c.first + j * c.add) % 2 ^ 64) c.add
+after_is c j = ap (λ (a : ℕ). carry a c.add) (after_first c j)
+
+-- none on, a number of 64 bits is as it is
+pub after_none : (c : Carried) → c.first < 2 ^ 64 → c ≡ after c 0
+after_none c h = ap (λ (a : ℕ). carry a c.add) (carried_start c h) ∙ sym (after_is c 0)
+
+-- so many on, and as many more
+pub after_more : (c : Carried) (j d : ℕ) → after (after c j) d ≡ after c (j + d)
+after_more c j d =
+    ap (λ (a : ℕ). carry a c.add) (carried_more c.first c.add j d (after c j).first (after_first c j)) ∙ sym (after_is c (j + d))
+
+-- what is carried so many on, without its part, is the number there
+pub after_at : (c : Carried) (j : ℕ) → (after c j).first / carried_one ≡ carried_to c j
+after_at c j = carried_at c j (after c j).first (after_first c j)
+
+-- and so from there on
+pub after_to : (c : Carried) (k j : ℕ) → carried_to (after c k) j ≡ carried_to c (k + j)
+after_to c k j = carried_on c k (after c k).first (after_first c k) j
 
 -- ---- a turn of the loop over a row
 

@@ -4,8 +4,8 @@ use mathlib.Core.List.{foldl}
 use Rattle.picture.specs.declared.Pen.{Pen}
 use Rattle.picture.specs.declared.Kind.{Kind}
 use Rattle.picture.specs.declared.Kind.TheVariants.{Gouraud, Constant, Line0, Line1, Line2}
-use Rattle.picture.specs.declared.Compared.{Compared}
-use Rattle.picture.specs.declared.Compared.TheVariants.{Nearer, Equal, Farther}
+use Rattle.std.specs.declared.cmp.Ordering.{Ordering}
+use Rattle.std.specs.declared.cmp.Ordering.TheVariants.{Less, Equal, Greater}
 use Rattle.picture.specs.Place.{place_of}
 use Rattle.picture.specs.Offer.{Offer}
 
@@ -17,9 +17,9 @@ is_deep Line0 = false
 is_deep Line1 = false
 is_deep Line2 = true
 
--- how a new depth stands to the old one
-unfoldable pub compared_of : ℕ → ℕ → Compared
-compared_of new old = cond (nat_lt new old) Nearer (cond (new == old) Equal Farther)
+-- how a new depth stands to the old one: nearer where it is less, equal, or farther where it is greater
+unfoldable pub compared_of : ℕ → ℕ → Ordering
+compared_of new old = cond (nat_lt new old) Less (cond (new == old) Equal Greater)
 
 -- edges lie over faces: lines of mode 2 pass at equal depth (document 02, [10]), triangles do not
 abbrev pub is_edge : Kind → Bool
@@ -30,10 +30,10 @@ is_edge Line1 = false
 is_edge Line2 = true
 
 -- a pixel whose depth stands so passes the depth test
-abbrev pub wins : Kind → Compared → Bool
-wins kind Nearer = true
+abbrev pub wins : Kind → Ordering → Bool
+wins kind Less = true
 wins kind Equal = is_edge kind
-wins kind Farther = false
+wins kind Greater = false
 
 -- an offer passes where a depth stands: tested, it wins; everything else passes
 unfoldable pub passes : Pen → Kind → ℕ → ℕ → Bool

@@ -1,59 +1,54 @@
 // Numbers carried along a row, modulo 2^64.
-ghost use Rattle.picture.specs.Draw.{carried_one};
-ghost use Rattle.std.specs.Prelude.{◌≡◌, ◌*◌, ◌/◌, ◌%◌, ◌^◌, ◌<◌, ◌⊎◌, if◌then◌else◌};
-ghost use Rattle.picture.specs.Loops.{stridden};
+ghost use Rattle.std.specs.Prelude.{◌≡◌, ◌/◌, if◌then◌else◌};
+ghost use Rattle.picture.specs.Draw.{carried_one, steady_of};
+ghost use Rattle.picture.specs.Loops.{after, stridden};
 
-use crate::Carried;
+use crate::{CARRIED_ONE, Carried};
 
-// The whole part of a carried number.
-pub(crate) fn whole(k: u64) -> u16
+// The number that is carried, without its part.
+pub fn whole(k: u64) -> u16
     ensures { result ≡ k / carried_one }
 {
     (k >> 48) as u16
 }
 
 // One of two numbers. It is a choice and no branch.
-fn either(b: bool, n: u64, m: u64) -> u64
-    ensures { result ≡ (if b then n else m) }
+pub(crate) fn pick<N: Copy>(first: bool, n: N, m: N) -> N
+    ensures { result ≡ (if first then n else m) }
 {
-    if b { n } else { m }
+    if first { n } else { m }
 }
 
-// Twice a number.
-fn twice(n: u64) -> u64
-    ensures { result ≡ (2 * n) % 2 ^ 64 }
-{
-    std::num::wrapping_add_u64(n, n)
-}
+impl Carried {
+    // A number that stays the same along a row.
+    pub fn steady(v: u16) -> Carried
+        ensures { result ≡ steady_of v }
+    {
+        Carried {
+            first: (v as u64) * CARRIED_ONE,
+            add: 0,
+        }
+    }
 
-// Four times a number.
-pub(crate) fn four_times(n: u64) -> u64
-    ensures { result ≡ (4 * n) % 2 ^ 64 }
-{
-    let two = twice(n);
-    twice(two)
-}
+    // What is carried so many pixels on.
+    pub(crate) fn after(self, pixels: u16) -> Carried
+        ensures { result ≡ after self pixels }
+    {
+        Carried {
+            first: self
+                .first
+                .wrapping_add((pixels as u64).wrapping_mul(self.add)),
+            ..self
+        }
+    }
 
-// None of a number up to three times as much.
-fn few_times(n: u64, k: u16) -> u64
-    requires { k < 4 }
-    ensures { result ≡ (k * n) % 2 ^ 64 }
-{
-    let odd = either(k % 2 == 1, n, 0);
-    let even = either(2 <= k, twice(n), 0);
-    std::num::wrapping_add_u64(even, odd)
-}
-
-// A carried number of each of two or four pixels, from pixel `first` on.
-pub(crate) fn strided(c: Carried, first: u16, ways: u16) -> Carried
-    requires { ((ways ≡ 2) ⊎ (ways ≡ 4)) × (first < ways) }
-    ensures { result ≡ stridden c first ways }
-{
-    let skipped = few_times(c.add, first);
-    let start = std::num::wrapping_add_u64(c.first, skipped);
-    let add = either(ways == 2, twice(c.add), four_times(c.add));
-    Carried {
-        first: start,
-        add: add,
+    // What is carried to each of two or four pixels, from pixel `first` on.
+    pub(crate) fn strided(self, first: u16, ways: u16) -> Carried
+        ensures { result ≡ stridden self first ways }
+    {
+        Carried {
+            add: (ways as u64).wrapping_mul(self.add),
+            ..self.after(first)
+        }
     }
 }

@@ -2,7 +2,7 @@
 // passes and is stored (Picture), and what pictures store (Store).
 #![tactic(auto)]
 
-mod carry;
+pub mod carry;
 pub mod draw;
 pub mod limits;
 pub mod nearer;
@@ -14,13 +14,13 @@ pub mod transfer;
 // Where pixels lie: the line length, and the number of the layout (specs/Place.antt), 0 for rows one after the other and 1 for tiles of four by
 // four.
 #[repr(C)]
-#[derive(Clone, Copy)]
+#[derive(Clone, Copy, PartialEq, Eq)]
 pub struct Frame {
     pub line: u16,
     pub layout: u16,
 }
 
-// What the modes say of drawing. The window's borders belong to it.
+// What the modes say of drawing. The window's borders belong to it. (The last three are settings: beside none of them stands a value that it decides about.)
 #[derive(Clone, Copy)]
 pub struct Pen {
     pub frame: Frame,
@@ -36,7 +36,7 @@ pub struct Pen {
 }
 
 // The figures that pixels belong to: Gouraud and constant triangles, lines of the modes 0, 1 and 2.
-#[derive(Clone, Copy)]
+#[derive(Clone, Copy, PartialEq, Eq)]
 pub enum Kind {
     Gouraud,
     Constant,
@@ -45,17 +45,9 @@ pub enum Kind {
     Line2,
 }
 
-// How a new depth stands to the old one.
-#[derive(Clone, Copy)]
-pub enum Compared {
-    Nearer,
-    Equal,
-    Farther,
-}
-
 // A point of a figure, with its two numbers.
 #[repr(C)]
-#[derive(Clone, Copy)]
+#[derive(Clone, Copy, PartialEq, Eq)]
 pub struct Vertex {
     pub x: u16,
     pub y: u16,
@@ -66,6 +58,13 @@ pub struct Vertex {
 // What 1 is as a carried number.
 pub const CARRIED_ONE: u64 = 1 << 48;
 
+// The two memories, lent together: I has the pixels' intensities, Z their depths.
+#[derive(Drop)]
+pub struct Memories<'a> {
+    pub i: &'a mut [u16],
+    pub z: &'a mut [u16],
+}
+
 // A number carried along a row, as 2^48 times itself and a part: what it is at the row's first pixel, and what each pixel adds, modulo
 // 2^64.
 #[derive(Clone, Copy)]
@@ -74,24 +73,31 @@ pub struct Carried {
     pub add: u64,
 }
 
-// Pixels that lie side by side: the place of the first, how many, and their numbers.
+// The pixels of row y from column lo up to and without hi, their numbers carried.
+#[derive(Clone, Copy)]
+pub struct Stretch {
+    pub lo: u16,
+    pub hi: u16,
+    pub y: u16,
+    pub i: Carried,
+    pub z: Carried,
+}
+
+// What a unit of a board has of a stretch: its first column, how many columns, and their numbers.
+#[derive(Clone, Copy)]
+struct Share {
+    x: u16,
+    count: u16,
+    i: Carried,
+    z: Carried,
+}
+
+// Pixels that lie side by side: the place of the first, how many, and their numbers. (That they lie in both memories, `Fits`, stands in the contracts: a run does not
+// hold the memories.)
 #[derive(Clone, Copy)]
 struct Run {
     base: usize,
     count: u16,
     i: Carried,
     z: Carried,
-}
-
-// A number for each of eight pixels that lie side by side.
-#[derive(Clone, Copy)]
-struct Eight {
-    a: u16,
-    b: u16,
-    c: u16,
-    d: u16,
-    e: u16,
-    f: u16,
-    g: u16,
-    h: u16,
 }

@@ -7,30 +7,22 @@ ghost use Rattle.picture.specs.Loops.{along_tiles, PutsNearer, Runs, Fits, FitsT
 ghost use Rattle.picture.specs.Picture.{picture};
 ghost use Rattle.picture.specs.Lent.{Draws};
 
-use crate::carry::{four_times, strided, whole};
-use crate::draw::shorter;
-use crate::pixel::{is_deep, is_edge, is_masked, put_nearer};
-use crate::place::{along_tiles, has_row, lies_plain, lies_tiled, place, until_own, ways_of};
-use crate::{Carried, Frame, Kind, Pen, Run};
+use crate::carry::{pick, whole};
+use crate::pixel::put_nearer;
+use crate::place::{along_tiles, lies_plain, lies_tiled, place, ways_of};
+use crate::{Carried, Frame, Kind, Memories, Pen, Run, Stretch};
 
 // Whether nothing but a nearer depth decides of a figure's pixels, and both numbers are stored whole.
 pub fn is_plain(pen: Pen, kind: Kind) -> bool
     ensures { result ≡ is_plain pen kind }
 {
-    let open = !is_masked(kind) | (pen.transparency == 65535);
-    open & is_deep(kind)
-        & !is_edge(kind)
+    let open = !kind.is_masked() | (pen.transparency == 65535);
+    open & kind.is_deep()
+        & !kind.is_edge()
         & pen.depth
         & pen.ienable
         & pen.zenable
         & (pen.planes == 65535)
-}
-
-// The new number where a pixel is nearer, the old one where it is not. It is a choice and no branch.
-pub(crate) fn pick(near: bool, new: u16, old: u16) -> u16
-    ensures { result ≡ (if near then new else old) }
-{
-    if near { new } else { old }
 }
 
 // One offer at a place. One that does not pass stores what stands there: so nothing branches, and the loop takes several pixels at once. The
@@ -49,20 +41,18 @@ fn put_chosen(at: usize, ki: u64, kz: u64, im: &mut [u16], zm: &mut [u16], n: u1
     pick(near, n + 1, n)
 }
 
-// Pixels that lie side by side.
+// Pixels that lie side by side. The loops of this file and of `steady` take the two memories each by itself, as those of `draw` do and for the same reason.
 pub(crate) fn draw_run(run: Run, im: &mut [u16], zm: &mut [u16]) -> u64
     requires { Fits run (length im.old) (length zm.old) }
     ensures { Runs (λ j. run.base + j) run.i run.z run.count im zm 0 result }
 {
-    let mut ki = run.i.first;
-    let mut kz = run.z.first;
-    let mut j: u16 = 0;
+    let mut i = run.i;
+    let mut z = run.z;
     let mut n: u16 = 0;
-    while j < run.count {
-        n = put_chosen(run.base + (j as usize), ki, kz, im, zm, n);
-        ki = std::num::wrapping_add_u64(ki, run.i.add);
-        kz = std::num::wrapping_add_u64(kz, run.z.add);
-        j += 1;
+    for j in 0..run.count {
+        n = put_chosen(run.base + (j as usize), i.first, z.first, im, zm, n);
+        i = i.after(1);
+        z = z.after(1);
     }
     n as u64
 }
@@ -83,177 +73,120 @@ fn draw_four(at: usize, i: Carried, z: Carried, im: &mut [u16], zm: &mut [u16], 
     requires { (at + 4 ≤ length im.old) × (at + 4 ≤ length zm.old) × (at ≤ 4295229438) × (n ≤ 65531) }
     ensures { (Runs (λ j. at + j) i z 4 im zm n result) × (result ≤ n + 4) }
 {
-    let mut ki = i.first;
-    let mut kz = z.first;
-    let mut j: u16 = 0;
+    let mut ki = i;
+    let mut kz = z;
     let mut passed = n;
-    while j < 4 {
-        passed = put_nearer(at + (j as usize), whole(ki), whole(kz), im, zm, passed);
-        ki = std::num::wrapping_add_u64(ki, i.add);
-        kz = std::num::wrapping_add_u64(kz, z.add);
-        j += 1;
+    for j in 0..4 {
+        passed = put_nearer(at + j, whole(ki.first), whole(kz.first), im, zm, passed);
+        ki = ki.after(1);
+        kz = kz.after(1);
     }
     passed
 }
 
-// The pixels of a row from column lo up to and without hi where they lie in tiles, four by four, and one by one at both ends; base is the row's
-// first place.
-fn draw_tiled(
-    base: usize,
-    lo: u16,
-    hi: u16,
-    i: Carried,
-    z: Carried,
-    im: &mut [u16],
-    zm: &mut [u16],
-) -> u64
-    requires { FitsTiles base lo hi (length im.old) (length zm.old) }
-    ensures { Runs (λ j. base + along_tiles (lo + j)) i z (hi - lo) im zm 0 result }
+// The pixels of a row from column lo up to and without hi where they lie in tiles, four by four, and one by one at both ends, so that a turn
+// is four columns or one, and no `for` over them; base is the row's first place. It is compiled into each of its calls: left to itself, LLVM
+// passes one of them the stretch through memory.
+#[inline(always)]
+fn draw_tiled(base: usize, s: Stretch, im: &mut [u16], zm: &mut [u16]) -> u64
+    requires { FitsTiles base s.lo s.hi (length im.old) (length zm.old) }
+    ensures { Runs (λ j. base + along_tiles (s.lo + j)) s.i s.z (s.hi - s.lo) im zm 0 result }
 {
-    let wide_i = four_times(i.add);
-    let wide_z = four_times(z.add);
-    let mut ki = i.first;
-    let mut kz = z.first;
-    let mut x: u16 = lo;
+    let mut i = s.i;
+    let mut z = s.z;
+    let mut x = s.lo;
     let mut passed: u64 = 0;
-    while x < hi {
-        if (x % 4 == 0) & (x + 4 <= hi) {
-            let four_i = Carried {
-                first: ki,
-                add: i.add,
-            };
-            let four_z = Carried {
-                first: kz,
-                add: z.add,
-            };
-            passed = draw_four(base + along_tiles(x), four_i, four_z, im, zm, passed);
-            ki = std::num::wrapping_add_u64(ki, wide_i);
-            kz = std::num::wrapping_add_u64(kz, wide_z);
+    while x < s.hi {
+        if (x % 4 == 0) & (x + 4 <= s.hi) {
+            passed = draw_four(base + along_tiles(x), i, z, im, zm, passed);
+            i = i.after(4);
+            z = z.after(4);
             x += 4;
         } else {
-            passed = put_nearer(base + along_tiles(x), whole(ki), whole(kz), im, zm, passed);
-            ki = std::num::wrapping_add_u64(ki, i.add);
-            kz = std::num::wrapping_add_u64(kz, z.add);
+            passed = put_nearer(
+                base + along_tiles(x),
+                whole(i.first),
+                whole(z.first),
+                im,
+                zm,
+                passed,
+            );
+            i = i.after(1);
+            z = z.after(1);
             x += 1;
         }
     }
     passed
 }
 
-// The same, and the loop is compiled once more for numbers to which nothing is added.
-fn draw_tiles(
-    base: usize,
-    lo: u16,
-    hi: u16,
-    i: Carried,
-    z: Carried,
-    im: &mut [u16],
-    zm: &mut [u16],
-) -> u64
-    requires { FitsTiles base lo hi (length im.old) (length zm.old) }
-    ensures { Runs (λ j. base + along_tiles (lo + j)) i z (hi - lo) im zm 0 result }
+// The same, and the loop is compiled once more for numbers to which nothing is added: a constant triangle's, of which docs/SPEED.md tells ("Tiles").
+fn draw_tiles(base: usize, s: Stretch, im: &mut [u16], zm: &mut [u16]) -> u64
+    requires { FitsTiles base s.lo s.hi (length im.old) (length zm.old) }
+    ensures { Runs (λ j. base + along_tiles (s.lo + j)) s.i s.z (s.hi - s.lo) im zm 0 result }
 {
-    if (i.add == 0) & (z.add == 0) {
-        let steady_i = Carried {
-            first: i.first,
-            add: 0,
-        };
-        let steady_z = Carried {
-            first: z.first,
-            add: 0,
-        };
-        return draw_tiled(base, lo, hi, steady_i, steady_z, im, zm);
+    if (s.i.add == 0) & (s.z.add == 0) {
+        let i = Carried { add: 0, ..s.i };
+        let z = Carried { add: 0, ..s.z };
+        return draw_tiled(base, Stretch { i, z, ..s }, im, zm);
     }
-    draw_tiled(base, lo, hi, i, z, im, zm)
+    draw_tiled(base, s, im, zm)
 }
 
-// What a unit of a board has of a row from column lo up to and without hi: each of two or four columns, which lie side by side.
-pub(crate) fn own_run(frame: Frame, lo: u16, hi: u16, y: u16, i: Carried, z: Carried) -> Run
-    requires { (lo < hi) × (hi ≤ frame.line) × (lies_plain frame ≡ false) × (lies_tiled frame ≡ false) }
-    ensures { Beside frame lo hi y i z result }
+// What a unit of a board has of a stretch lies side by side.
+fn own_run(frame: Frame, s: Stretch) -> Run
+    requires { (s.lo < s.hi) × (s.hi ≤ frame.line) × (lies_plain frame ≡ false) × (lies_tiled frame ≡ false) }
+    ensures { Beside frame s.lo s.hi s.y s.i s.z result }
 {
-    let ways = ways_of(frame);
-    let first = until_own(frame, ways, lo);
-    let count = hi - lo;
-    if first < count {
-        let base = place(frame, lo + first, y);
-        let own = (count - first - 1) / ways + 1;
-        let si = strided(i, first, ways);
-        let sz = strided(z, first, ways);
+    if let Some(share) = s.share(frame, ways_of(frame)) {
         return Run {
-            base: base,
-            count: own,
-            i: si,
-            z: sz,
+            base: place(frame, share.x, s.y),
+            count: share.count,
+            i: share.i,
+            z: share.z,
         };
     }
     Run {
         base: 0,
         count: 0,
-        i: i,
-        z: z,
+        i: s.i,
+        z: s.z,
     }
 }
 
 // What a memory of rows or a unit has of it.
-fn run_of(frame: Frame, lo: u16, hi: u16, y: u16, i: Carried, z: Carried) -> Run
-    requires { (lo < hi) × (hi ≤ frame.line) × (lies_tiled frame ≡ false) }
-    ensures { Beside frame lo hi y i z result }
+pub(crate) fn run_of(frame: Frame, s: Stretch) -> Run
+    requires { (s.lo < s.hi) × (s.hi ≤ frame.line) × (lies_tiled frame ≡ false) }
+    ensures { Beside frame s.lo s.hi s.y s.i s.z result }
 {
     if lies_plain(frame) {
-        let base = place(frame, lo, y);
-        let count = hi - lo;
         return Run {
-            base: base,
-            count: count,
-            i: i,
-            z: z,
+            base: place(frame, s.lo, s.y),
+            count: s.hi - s.lo,
+            i: s.i,
+            z: s.z,
         };
     }
-    own_run(frame, lo, hi, y, i, z)
+    own_run(frame, s)
 }
 
 // The pixels of a row in use from column lo up to and without hi, which is no more than the line length.
-fn draw_row(
-    frame: Frame,
-    lo: u16,
-    hi: u16,
-    y: u16,
-    i: Carried,
-    z: Carried,
-    im: &mut [u16],
-    zm: &mut [u16],
-) -> u64
-    requires { (lo < hi) × (hi ≤ frame.line) × (y < rows_of frame (length im.old) (length zm.old)) }
-    ensures { Draws (nearer_pen frame) (λ rows. span_offers (nearer_pen frame) rows Gouraud lo hi y i z) im zm 0 result }
+fn draw_row(frame: Frame, s: Stretch, m: &mut Memories) -> u64
+    requires { (s.lo < s.hi) × (s.hi ≤ frame.line) × (s.y < rows_of frame (length m.old.i.now) (length m.old.z.now)) }
+    ensures { Draws (nearer_pen frame) (λ rows. span_offers (nearer_pen frame) rows Gouraud s.lo s.hi s.y s.i s.z) m 0 result }
 {
     if lies_tiled(frame) {
-        let base = place(frame, 0, y);
-        return draw_tiles(base, lo, hi, i, z, im, zm);
+        return draw_tiles(place(frame, 0, s.y), s, m.i, m.z);
     }
-    let run = run_of(frame, lo, hi, y, i, z);
-    draw_beside(run, im, zm)
+    draw_beside(run_of(frame, s), m.i, m.z)
 }
 
 // The pixels of row y from column lo up to and without hi, their numbers carried, with the pen of which nothing but a nearer depth decides.
 // Answers how many passed.
-pub fn span_nearer(
-    frame: Frame,
-    lo: u16,
-    hi: u16,
-    y: u16,
-    i: Carried,
-    z: Carried,
-    im: &mut [u16],
-    zm: &mut [u16],
-) -> u64
-    ensures { Draws (nearer_pen frame) (λ rows. span_offers (nearer_pen frame) rows Gouraud lo hi y i z) im zm 0 result }
+pub fn span_nearer(frame: Frame, s: Stretch, m: &mut Memories) -> u64
+    ensures { Draws (nearer_pen frame) (λ rows. span_offers (nearer_pen frame) rows Gouraud s.lo s.hi s.y s.i s.z) m 0 result }
 {
-    if has_row(frame, y, im.len(), zm.len()) {
-        let end = shorter(hi, frame.line);
-        if lo < end {
-            return draw_row(frame, lo, end, y, i, z, im, zm);
-        }
+    if let Some(part) = s.within(frame, m.i.len(), m.z.len()) {
+        return draw_row(frame, part, m);
     }
     0
 }

@@ -1,49 +1,45 @@
 // One pixel: whether it is offered, whether it passes, and what it then stores.
-ghost use Rattle.std.specs.Prelude.{◌≡◌, ◌+◌, ◌<◌, ◌≤◌, true, length, set, slice_index, slice_set};
+ghost use Rattle.std.specs.Prelude.{◌≡◌, ◌+◌, ◌<◌, ◌≤◌, true, length, if◌then◌else◌, slice_index, slice_set};
 ghost use Rattle.picture.specs.Offer.{is_masked, in_window, shows, offered, offer};
 ghost use Rattle.picture.specs.Place.{rows_of};
-ghost use Rattle.picture.specs.Loops.{is_nearer, Puts, PutsNearer};
-ghost use Rattle.picture.specs.Picture.{is_deep, in_planes, compared_of, is_edge, wins, passes, new_i, new_z};
+ghost use Rattle.picture.specs.Loops.{Puts, PutsNearer};
+ghost use Rattle.picture.specs.Picture.{is_deep, in_planes, is_edge, wins, passes, new_i};
 
 use crate::place::is_inside;
-use crate::{Compared, Kind, Pen};
+use crate::{Kind, Pen};
+use std::cmp::Ordering;
 
-// Whether the transparency pattern concerns figures of this kind.
-pub(crate) fn is_masked(kind: Kind) -> bool
-    ensures { result ≡ is_masked kind }
-{
-    match kind {
-        Kind::Gouraud => false,
-        Kind::Constant => true,
-        Kind::Line0 => true,
-        Kind::Line1 => true,
-        Kind::Line2 => false,
+impl Kind {
+    // Whether the transparency pattern concerns figures of this kind.
+    pub(crate) fn is_masked(self) -> bool
+        ensures { result ≡ is_masked self }
+    {
+        matches!(self, Kind::Constant | Kind::Line0 | Kind::Line1)
     }
-}
 
-// Whether the depth test and the Z memory concern figures of this kind.
-pub(crate) fn is_deep(kind: Kind) -> bool
-    ensures { result ≡ is_deep kind }
-{
-    match kind {
-        Kind::Gouraud => true,
-        Kind::Constant => true,
-        Kind::Line0 => false,
-        Kind::Line1 => false,
-        Kind::Line2 => true,
+    // Whether the depth test and the Z memory concern figures of this kind.
+    pub(crate) fn is_deep(self) -> bool
+        ensures { result ≡ is_deep self }
+    {
+        matches!(self, Kind::Gouraud | Kind::Constant | Kind::Line2)
     }
-}
 
-// Whether figures of this kind pass at equal depth.
-pub(crate) fn is_edge(kind: Kind) -> bool
-    ensures { result ≡ is_edge kind }
-{
-    match kind {
-        Kind::Gouraud => false,
-        Kind::Constant => false,
-        Kind::Line0 => false,
-        Kind::Line1 => false,
-        Kind::Line2 => true,
+    // Whether figures of this kind pass at equal depth.
+    pub(crate) fn is_edge(self) -> bool
+        ensures { result ≡ is_edge self }
+    {
+        self == Kind::Line2
+    }
+
+    // Whether a pixel of a figure passes the depth test where its depth stands so to the old one: nearer is less, and farther greater.
+    fn wins(self, how: Ordering) -> bool
+        ensures { result ≡ wins self how }
+    {
+        match how {
+            Ordering::Less => true,
+            Ordering::Equal => self.is_edge(),
+            Ordering::Greater => false,
+        }
     }
 }
 
@@ -65,9 +61,9 @@ pub fn is_in_window(pen: Pen, x: u16, y: u16) -> bool
 pub(crate) fn is_offered(pen: Pen, kind: Kind, x: u16, y: u16, ni: usize, nz: usize) -> bool
     ensures { result ≡ offered pen (rows_of pen.frame ni nz) (offer kind x y 0 0) }
 {
-    let frame = pen.frame;
-    let inside = is_inside(frame, x, y, ni, nz);
-    is_in_window(pen, x, y) & inside & (!is_masked(kind) | is_shown(pen, x, y))
+    is_in_window(pen, x, y)
+        & is_inside(pen.frame, x, y, ni, nz)
+        & (!kind.is_masked() | is_shown(pen, x, y))
 }
 
 // The new number in the set planes, the old one in the others.
@@ -77,48 +73,13 @@ fn in_planes(planes: u16, old: u16, new: u16) -> u16
     (old & !planes) | (new & planes)
 }
 
-// How a new depth stands to the old one.
-fn compare(new: u16, old: u16) -> Compared
-    ensures { result ≡ compared_of new old }
-{
-    if new < old {
-        return Compared::Nearer;
-    }
-    if new == old {
-        return Compared::Equal;
-    }
-    Compared::Farther
-}
-
-// Whether a pixel whose depth stands so passes the depth test.
-fn is_won(kind: Kind, how: Compared) -> bool
-    ensures { result ≡ wins kind how }
-{
-    match how {
-        Compared::Nearer => true,
-        Compared::Equal => is_edge(kind),
-        Compared::Farther => false,
-    }
-}
-
-// Whether a depth is strictly less.
-fn is_nearer(how: Compared) -> bool
-    ensures { result ≡ is_nearer how }
-{
-    match how {
-        Compared::Nearer => true,
-        Compared::Equal => false,
-        Compared::Farther => false,
-    }
-}
-
 // Whether a pixel passes at a place. The depth memory is read only where the depth is tested.
 fn is_passed(pen: Pen, kind: Kind, at: usize, z: u16, zm: &[u16]) -> bool
     requires { at < length zm.now }
     ensures { result ≡ passes pen kind z (slice_index zm.now at) }
 {
-    if pen.depth & is_deep(kind) {
-        return is_won(kind, compare(z, zm[at]));
+    if pen.depth & kind.is_deep() {
+        return kind.wins(z.cmp(&zm[at]));
     }
     true
 }
@@ -133,17 +94,18 @@ pub(crate) fn store_i(pen: Pen, at: usize, i: u16, im: &mut [u16])
     }
 }
 
-// The passed depth, stored at a place.
-fn store_z(pen: Pen, kind: Kind, at: usize, z: u16, zm: &mut [u16])
+// A depth, stored at a place where that is enabled.
+pub(crate) fn store_z(enabled: bool, at: usize, z: u16, zm: &mut [u16])
     requires { at < length zm.old }
-    ensures { zm.new ≡ slice_set zm.old at (new_z pen kind z (slice_index zm.old at)) }
+    ensures { zm.new ≡ slice_set zm.old at (if enabled then z else slice_index zm.old at) }
 {
-    if pen.zenable & is_deep(kind) {
+    if enabled {
         zm[at] = z;
     }
 }
 
-// One offer at a place; n is the count so far, and the next count is the answer.
+// One offer at a place; n is the count so far, and the next count is the answer. (That the place is in both memories stands in the contracts from here on: it is a
+// fact of a number and of two lent slices, and a type of all three would lend both anew for each pixel.)
 pub(crate) fn put_at(
     pen: Pen,
     kind: Kind,
@@ -159,7 +121,7 @@ pub(crate) fn put_at(
 {
     if is_passed(pen, kind, at, z, zm) {
         store_i(pen, at, i, im);
-        store_z(pen, kind, at, z, zm);
+        store_z(pen.zenable & kind.is_deep(), at, z, zm);
         return n + 1;
     }
     n
@@ -170,7 +132,7 @@ pub(crate) fn put_nearer(at: usize, i: u16, z: u16, im: &mut [u16], zm: &mut [u1
     requires { (at < length im.old) × (at < length zm.old) × (n ≤ 65535) }
     ensures { (PutsNearer at i z im zm n result) × (result ≤ n + 1) }
 {
-    if is_nearer(compare(z, zm[at])) {
+    if z < zm[at] {
         im[at] = i;
         zm[at] = z;
         return n + 1;

@@ -1,13 +1,12 @@
 // Where pixels lie in the lent memories.
 ghost use Rattle.std.specs.Prelude.{◌≡◌, ◌*◌, ◌<◌, ◌≤◌, true, if◌then◌else◌, nat_lt};
 ghost use Rattle.picture.specs.Place.{tiled, lies_plain, lies_tiled, ways_of, layout_of, spot_of, place_of, is_whole, width_of, rows_in, rows_of, mine, in_memory};
-ghost use Rattle.picture.specs.Loops.{band_end, along_tiles, Shares, until_own};
+ghost use Rattle.picture.specs.Loops.{band_end, along_tiles, IsPart, IsPlace, IsShare, Shares, until_own};
 
-use crate::Frame;
 use crate::limits::MOST_ROWS;
-use ground::least;
+use crate::{Frame, Share, Stretch};
 
-// The layout's number of tiles.
+// The layout's number of tiles. It is a number as the record for C has it: `layout_of` of specs/Place.antt says what each tells.
 pub const TILED: u16 = 1;
 
 // Whether rows lie one after the other.
@@ -36,27 +35,22 @@ fn is_whole(frame: Frame) -> bool
     ensures { result ≡ is_whole (layout_of frame) frame.line }
 {
     if lies_plain(frame) {
-        return !(frame.line == 0);
+        return frame.line != 0;
     }
     if lies_tiled(frame) {
-        return !(frame.line == 0) & (frame.line % 4 == 0);
+        return (frame.line != 0) & (frame.line % 4 == 0);
     }
-    let ways = ways_of(frame);
-    !(frame.line == 0) & !(ways == 0) & (frame.line % ways == 0)
+    (frame.line != 0) & (frame.line % ways_of(frame) == 0)
 }
 
 // The places of a row.
 fn width_of(frame: Frame) -> u16
     ensures { result ≡ width_of (layout_of frame) frame.line }
 {
-    if lies_plain(frame) {
+    if lies_plain(frame) | lies_tiled(frame) {
         return frame.line;
     }
-    if lies_tiled(frame) {
-        return frame.line;
-    }
-    let ways = ways_of(frame);
-    frame.line / ways
+    frame.line / ways_of(frame)
 }
 
 // The whole rows, or bands of four rows, that so many places hold.
@@ -71,13 +65,13 @@ fn rows_in(frame: Frame, n: usize) -> usize
     n / width
 }
 
-// The rows in use of two memories of these lengths.
+// The rows in use of two memories of these lengths. (Here and where a pixel is asked about, the lengths are two numbers, as in the definitions: contracts speak of
+// the lengths of what is lent, whatever holds it.)
 pub fn rows_of(frame: Frame, ni: usize, nz: usize) -> usize
     ensures { result ≡ rows_of frame ni nz }
 {
     if is_whole(frame) {
-        let n = least(ni, nz);
-        return least(rows_in(frame, n), MOST_ROWS);
+        return rows_in(frame, ni.min(nz)).min(MOST_ROWS);
     }
     0
 }
@@ -93,7 +87,7 @@ fn band_end(frame: Frame, y: u16) -> usize
 }
 
 // Whether row y is in use, without a division of the lengths.
-pub(crate) fn has_row(frame: Frame, y: u16, ni: usize, nz: usize) -> bool
+fn has_row(frame: Frame, y: u16, ni: usize, nz: usize) -> bool
     ensures { result ≡ nat_lt y (rows_of frame ni nz) }
 {
     if is_whole(frame) {
@@ -103,14 +97,42 @@ pub(crate) fn has_row(frame: Frame, y: u16, ni: usize, nz: usize) -> bool
     false
 }
 
+impl Stretch {
+    // What a memory has of a stretch: the columns up to the line length, where its row is in use; none if it has nothing.
+    pub(crate) fn within(self, frame: Frame, ni: usize, nz: usize) -> Option<Stretch>
+        ensures { IsPart frame (rows_of frame ni nz) self result }
+    {
+        let hi = self.hi.min(frame.line);
+        if (self.lo < hi) & has_row(frame, self.y, ni, nz) {
+            return Some(Stretch { hi, ..self });
+        }
+        None
+    }
+
+    // What a unit of a board has of a stretch inside the line: each of two or four columns; none if it has nothing.
+    pub(crate) fn share(self, frame: Frame, ways: u16) -> Option<Share>
+        requires { (Shares frame ways) × (self.lo < self.hi) × (self.hi ≤ frame.line) }
+        ensures { IsShare frame ways self result }
+    {
+        let first = until_own(frame, ways, self.lo);
+        let count = self.hi - self.lo;
+        if first < count {
+            return Some(Share {
+                x: self.lo + first,
+                count: (count - first - 1) / ways + 1,
+                i: self.i.strided(first, ways),
+                z: self.z.strided(first, ways),
+            });
+        }
+        None
+    }
+}
+
 // Whether the memory has column x.
 fn is_mine(frame: Frame, x: u16) -> bool
     ensures { result ≡ mine (layout_of frame) x }
 {
-    if lies_plain(frame) {
-        return true;
-    }
-    if lies_tiled(frame) {
+    if lies_plain(frame) | lies_tiled(frame) {
         return true;
     }
     let ways = ways_of(frame);
@@ -118,7 +140,7 @@ fn is_mine(frame: Frame, x: u16) -> bool
 }
 
 // How many columns from column lo on the first one that a unit has is.
-pub(crate) fn until_own(frame: Frame, ways: u16, lo: u16) -> u16
+fn until_own(frame: Frame, ways: u16, lo: u16) -> u16
     requires { Shares frame ways }
     ensures { (result ≡ until_own ways frame.layout lo) × (result < ways) }
 {
@@ -154,7 +176,7 @@ pub(crate) fn along(tiled: bool, x: u16) -> usize
     if tiled { along_tiles(x) } else { x as usize }
 }
 
-// The place of pixel (x, y).
+// The place of pixel (x, y). (A pixel is two numbers in the calls about places, as document 01 and the definitions have it: `place_of frame x y`, `offered pen rows kind x y`.)
 pub fn place(frame: Frame, x: u16, y: u16) -> usize
     ensures { (result ≡ place_of frame x y) × (result ≤ 4294967295) }
 {
@@ -166,4 +188,14 @@ pub fn place(frame: Frame, x: u16, y: u16) -> usize
     }
     let ways = ways_of(frame);
     (y as usize) * ((frame.line / ways) as usize) + ((x / ways) as usize)
+}
+
+// The place of pixel (x, y), if it is inside the memory.
+pub(crate) fn place_inside(frame: Frame, x: u16, y: u16, ni: usize, nz: usize) -> Option<usize>
+    ensures { IsPlace frame ni nz x y result }
+{
+    if is_inside(frame, x, y, ni, nz) {
+        return Some(place(frame, x, y));
+    }
+    None
 }

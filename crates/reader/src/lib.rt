@@ -10,6 +10,7 @@ use chip::transfer::read;
 use registers::Registers;
 
 // The answer to a read: the number that refuses it, 0 for accepted, and the pixel. The next registers are in the record.
+// C has the struct, so that its fields are numbers.
 #[repr(C)]
 #[derive(Clone, Copy)]
 pub struct Seen {
@@ -22,11 +23,17 @@ pub struct Seen {
 pub extern "C" fn dextolumen_read(registers: &mut Registers, im: &[u16], zm: &[u16]) -> Seen
     ensures { read_as result.refusal result.pixel registers.new ≡ reading registers.old (memories im.now zm.now) }
 {
-    let a = read(*registers, im, zm);
-    let moved = a.registers;
-    *registers = moved;
-    Seen {
-        refusal: a.refusal,
-        pixel: a.pixel,
+    match read(*registers, im, zm) {
+        Ok(reading) => {
+            *registers = reading.registers;
+            Seen {
+                refusal: 0,
+                pixel: reading.pixel,
+            }
+        }
+        Err(refusal) => Seen {
+            refusal: refusal.into(),
+            pixel: 0,
+        },
     }
 }

@@ -6,60 +6,51 @@
 mod text;
 
 use console::args::count;
-use console::say::{fail, say, write};
-use console::{Taken, piece, take};
+use console::say::{fail, say, tell};
+use console::{piece, take};
 use instalments::{Intake, dextolumen_begin, dextolumen_feed};
 use text::put_received;
 
-// Prints bytes.
-fn print(stdout: &impl Print, stderr: &impl Print, text: &[u8]) {
-    write(stdout, stderr, b"receive: standard output", text);
+// Prints bytes, or says that it cannot.
+fn print(rt: &(impl Print + Eprint), text: &[u8]) {
+    tell(rt, "receive: standard output", rt.write_all(text));
 }
 
 // The end is reached: prints what the recording came to.
-fn end(stdout: &impl Print, stderr: &impl Print, s: Intake, im: &[u16; 8192], zm: &[u16; 8192]) {
+fn end(rt: &(impl Print + Eprint), s: Intake, im: &[u16; 8192], zm: &[u16; 8192]) {
     let mut out = [0u8; 180308];
     let n = put_received(s, im, zm, &mut out);
-    print(stdout, stderr, &out[..n]);
+    print(rt, &out[..n]);
 }
 
 // Reads piece by piece; one that is not full is the last. A loop that is proved to end cannot read for ever: 2^48 full pieces, 2^64 bytes,
-// are too long.
-fn receive(
-    rt: &(impl Input + Print),
-    stderr: &impl Print,
-    im: &mut [u16; 8192],
-    zm: &mut [u16; 8192],
-) {
+// are too long. (The memories are lent one by one, as `dextolumen_feed` takes them.)
+fn receive(rt: &(impl Input + Print + Eprint), im: &mut [u16; 8192], zm: &mut [u16; 8192]) {
     let mut part = piece();
     let mut s = dextolumen_begin();
-    let mut left: u64 = 281474976710656;
-    while 0 < left {
-        let taken = take(rt, &mut part);
-        let n = match taken {
-            Taken::Bytes(n) => n,
-            Taken::Failed(error) => {
-                fail(stderr, b"receive: standard input", error);
+    for _ in 0..281474976710656u64 {
+        let n = match take(rt, &mut part) {
+            Ok(n) => n,
+            Err(error) => {
+                fail(rt, "receive: standard input", error);
                 return;
             }
         };
         s = dextolumen_feed(s, &part[..n], im, zm);
         if n < 65536 {
-            end(rt, stderr, s, im, zm);
+            end(rt, s, im, zm);
             return;
         }
-        left -= 1;
     }
-    print(rt, stderr, b"too long\n");
+    print(rt, b"too long\n");
 }
 
 fn main(rt: HostRuntime) {
-    let stderr = rt.stderr();
     if 1 < count(&rt) {
-        say(&stderr, b"usage: receive < RECORDING\n");
+        say(&rt, "usage: receive < RECORDING");
         return;
     }
     let mut im = [0u16; 8192];
     let mut zm = [65535u16; 8192];
-    receive(&rt, &stderr, &mut im, &mut zm);
+    receive(&rt, &mut im, &mut zm);
 }

@@ -4,11 +4,11 @@ ghost use Rattle.instalments.specs.Instalments.{taking};
 ghost use Rattle.receive.specs.Receive.{received};
 ghost use Rattle.machine.specs.Machine.{memories};
 
-use chip::run::Ran;
 use instalments::{Intake, dextolumen_finish};
-use printing::put_text;
+use printing::put_report;
 
-// The text of a recording that has come so far, once it is told that no more comes.
+// The text of a recording that has come so far, once it is told that no more comes. (`printing`'s `put_text` takes what a run answers; the record of an
+// intake has the number of a refusal, as C takes it.)
 pub(crate) fn put_received(
     s: Intake,
     im: &[u16; 8192],
@@ -18,12 +18,6 @@ pub(crate) fn put_received(
     ensures { Stands (received (taking s (memories im.now zm.now))) out.old out.new result }
 {
     let end = dextolumen_finish(s, im, zm);
-    let registers = end.registers;
-    let so = Ran {
-        refusal: end.refusal,
-        index: end.index,
-        sum: end.sum,
-        registers: registers,
-    };
-    put_text(so, im, zm, out)
+    let line = end.registers.frame.line;
+    put_report(end.index, end.refusal, end.sum, line, im, zm, out)
 }

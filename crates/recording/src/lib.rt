@@ -4,16 +4,18 @@
 #![tactic(auto)]
 
 ghost use Rattle.std.specs.Prelude.{◌≡◌};
+ghost use Rattle.ground.specs.Refusal.{told};
 ghost use Rattle.registers.specs.Record.{reset_as, reset_of};
 ghost use Rattle.machine.specs.Machine.{memories};
 ghost use Rattle.chip.specs.Promises.{RunsFrom};
 ghost use Rattle.machine.specs.Lent.{found, left};
 
-use chip::run::{run, run_tiled};
+use chip::run::{Ran, run, run_tiled};
+use ground::number_of;
 use registers::Registers;
 
 // How a run ended: the number that refused a word or the stream, 0 for none; the index of that word, or how many words there are; the sum
-// of the counts of the words before it, modulo 2^64; and the registers.
+// of the counts of the words before it, modulo 2^64; and the registers. C has the struct, so that its fields are numbers.
 #[repr(C)]
 #[derive(Clone, Copy)]
 pub struct Ended {
@@ -21,6 +23,19 @@ pub struct Ended {
     pub index: u64,
     pub sum: u64,
     pub registers: Registers,
+}
+
+impl From<Ran> for Ended {
+    ghost from_gives = { λ ran ended. ended ≡ record { refusal = told ran.outcome; index = ran.index; sum = ran.sum; registers = ran.registers } };
+
+    fn from(ran: Ran) -> Ended {
+        Ended {
+            refusal: number_of(ran.outcome),
+            index: ran.index,
+            sum: ran.sum,
+            registers: ran.registers,
+        }
+    }
 }
 
 // The record after reset, over memories of rows one after the other.
@@ -44,27 +59,13 @@ pub extern "C" fn dextolumen_reset_tiled() -> Registers
 pub extern "C" fn dextolumen_run(bytes: &[u8], im: &mut [u16], zm: &mut [u16]) -> Ended
     ensures { RunsFrom reset_of bytes.now (found im zm) result.refusal result.index result.sum result.registers (left im zm) }
 {
-    let a = run(bytes, im, zm);
-    let last = a.registers;
-    Ended {
-        refusal: a.refusal,
-        index: a.index,
-        sum: a.sum,
-        registers: last,
-    }
+    Ended::from(run(bytes, im, zm))
 }
 
-// Runs a packed stream from reset, over memories in tiles of four by four.
+// Runs a packed stream from reset, over memories in tiles of four by four. (C has each of the four calls by its name, so that there are two of each here.)
 #[unsafe(no_mangle)]
 pub extern "C" fn dextolumen_run_tiled(bytes: &[u8], im: &mut [u16], zm: &mut [u16]) -> Ended
     ensures { RunsFrom (reset_as 1) bytes.now (found im zm) result.refusal result.index result.sum result.registers (left im zm) }
 {
-    let a = run_tiled(bytes, im, zm);
-    let left = a.registers;
-    Ended {
-        refusal: a.refusal,
-        index: a.index,
-        sum: a.sum,
-        registers: left,
-    }
+    Ended::from(run_tiled(bytes, im, zm))
 }

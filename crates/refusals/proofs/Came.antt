@@ -1,14 +1,17 @@
 -- Parameters that have come: what is so of each of them, and of one more. Assumes nothing.
-use mathlib.Core.Path.{◌≡◌, refl}
-use mathlib.Core.Bool.{Bool, true}
+use mathlib.Core.Path.{◌≡◌, refl, sym, subst, ◌∙◌}
+use mathlib.Core.Bool.{Bool, true, false, true≢false}
 use mathlib.Core.List.{List, [], ◌∷◌}
 use mathlib.Core.Logic.{⊎_elim}
 use Prim.Native.Nat.{ℕ, zero, suc, ◌+◌, ◌≤◌, ◌<◌}
 use native.Mathlib.Nat.{eq-or-lt_of_le, le_of_suc-le-suc, not-suc-le-zero}
 use native.Mathlib.Numerals.{add-one}
 use native.Mathlib.Omega.{arith}
-use lib.ListN.{set}
+use lib.ListN.{set, length, get_or}
 use lib.Seq.{get_or-set_other}
+use Rattle.std.specs.Bool.{MatchBool}
+use Rattle.std.specs.List.{AllWithin, HoldsAt, range_with_len}
+use Rattle.std.proofs.lemmas.List.FromFn.{length-range_with_len, get_or-range_with_len}
 use Rattle.registers.specs.Next.{value}
 use Rattle.refusals.specs.Bounds.{each_came}
 use Rattle.ground.proofs.Truth.{both, and_both}
@@ -26,6 +29,34 @@ module _ (test : ℕ → ℕ → Bool) (l : List ℕ) where
   came_each (suc n) e k h =
       let q = both (each_came test l n) (test n (value l n)) e in
       ⊎_elim (λ same. rw same q.1) (λ below. came_each n q.0 k below) (eq-or-lt_of_le (le_of_suc-le-suc h))
+
+  -- where it is so of all below n, it is so of each that has come
+  came_all : (n : ℕ) → ((k : ℕ) → k < n → test k (value l k) ≡ true) → each_came test l n ≡ true
+  came_all zero so = refl
+  came_all (suc n) so = and_both (came_all n (λ k below. so k (omega (arith, below)))) (so n (omega arith))
+
+  -- where it is not so of one below n, it is not so of each
+  came_not : (n k : ℕ) → k < n → test k (value l k) ≡ false → each_came test l n ≡ false
+  came_not n k below e = go (each_came test l n) refl
+    where
+      go : (b : Bool) → each_came test l n ≡ b → each_came test l n ≡ false
+      go false q = q
+      go true q = absurd (true≢false (sym (came_each n q k below) ∙ e))
+
+  range_at : (n k : ℕ) → k < n → get_or (range_with_len 0 n) k 0 ≡ k
+  range_at n k below = let e = get_or-range_with_len 0 n k 0 below in omega (arith, e)
+
+  -- so a search over the numbers below n tells it
+  pub came_found : (n : ℕ) (r : Bool)
+      → MatchBool r (AllWithin (λ k. test k (value l k) ≡ true) (range_with_len 0 n) 0 (length (range_with_len 0 n)))
+      ((k : ℕ) × (k < length (range_with_len 0 n)) × HoldsAt (λ k. test k (value l k) ≡ false) (range_with_len 0 n) k)
+      → r ≡ each_came test l n
+  came_found n true all =
+      sym (came_all n (λ k below.
+      subst (λ (j : ℕ). test j (value l j) ≡ true) (range_at n k below) (all k 0 (omega arith) (rw (length-range_with_len 0 n) below))))
+  came_found n false (k, below, barred) =
+      let less = rw (length-range_with_len 0 n) at below in
+      sym (came_not n k less (subst (λ (j : ℕ). test j (value l j) ≡ false) (range_at n k less) (barred 0)))
 
   module _ (n v : ℕ) where
     came_set : (k : ℕ) → k ≤ n → each_came test l k ≡ true → each_came test (set l n v) k ≡ true

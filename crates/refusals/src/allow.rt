@@ -22,13 +22,14 @@ pub(crate) const IMG_BITS: u16 = 0x0005;
 const LARGEST_PAGE: u16 = 7;
 
 // INIT's data: chips and unit 0, a page code up to the largest, a line code that is listed.
+#[tactic(auto, unfolding(crate::specs::Allowed::init_allowed))]
 pub(crate) fn is_init_allowed(data: u16) -> bool
     ensures { result ≡ init_allowed «data» }
 {
     (data / 64 % 4 == 0)
         & (data / 16 % 4 == 0)
         & (data % 16 <= LARGEST_PAGE)
-        & !(line_length(data) == 0)
+        & (line_length(data) != 0)
 }
 
 // A parameter of a subcommand of which k have come before it.
@@ -36,21 +37,20 @@ pub(crate) fn is_parameter_allowed(s: Subcommand, k: u16, v: u16) -> bool
     ensures { result ≡ parameter_allowed s k v }
 {
     match s {
-        Subcommand::Nothing => true,
         Subcommand::Pmode => v <= 1,
         Subcommand::Lmode => v <= 2,
         Subcommand::Zcontrol => v & !ZCONTROL_BITS == 0,
         Subcommand::Hcontrol => v & !HCONTROL_BITS == 0,
-        Subcommand::Tpattern => true,
-        Subcommand::Window => if k < 4 { v <= LARGEST_BORDER } else { v == 0 },
-        Subcommand::Section => true,
-        Subcommand::Color => true,
-        Subcommand::Lpattern => true,
-        Subcommand::Mask => true,
         Subcommand::Lstatus => v & !LSTATUS_BITS == 0,
-        Subcommand::Imode => v == 0,
-        Subcommand::Load => v <= LARGEST_COORDINATE,
-        Subcommand::Save => v <= LARGEST_COORDINATE,
+        Subcommand::Window if k < 4 => v <= LARGEST_BORDER,
+        Subcommand::Window | Subcommand::Imode => v == 0,
+        Subcommand::Load | Subcommand::Save => v <= LARGEST_COORDINATE,
+        Subcommand::Nothing
+        | Subcommand::Tpattern
+        | Subcommand::Section
+        | Subcommand::Color
+        | Subcommand::Lpattern
+        | Subcommand::Mask => true,
     }
 }
 
@@ -58,16 +58,7 @@ pub(crate) fn is_parameter_allowed(s: Subcommand, k: u16, v: u16) -> bool
 pub(crate) fn is_coordinate_allowed(c: Coordinate, n: u16) -> bool
     ensures { result ≡ coordinate_allowed c n }
 {
-    match c {
-        Coordinate::I => true,
-        Coordinate::Z => true,
-        Coordinate::Y => n <= LARGEST_COORDINATE,
-        Coordinate::X => n <= LARGEST_COORDINATE,
-        Coordinate::T1x => n <= LARGEST_COORDINATE,
-        Coordinate::T2x => n <= LARGEST_COORDINATE,
-        Coordinate::Lx => n <= LARGEST_COORDINATE,
-        Coordinate::Px => n <= LARGEST_COORDINATE,
-    }
+    matches!(c, Coordinate::I | Coordinate::Z) || n <= LARGEST_COORDINATE
 }
 
 // Whether X fits the open figure in a line mode.
@@ -76,8 +67,7 @@ fn x_fits(shape: Shape, lmode: u16) -> bool
 {
     match shape {
         Shape::Closed => false,
-        Shape::Strip => true,
-        Shape::Fan => true,
+        Shape::Strip | Shape::Fan => true,
         Shape::Line => lmode == 2,
     }
 }
@@ -86,12 +76,7 @@ fn x_fits(shape: Shape, lmode: u16) -> bool
 fn px_fits(shape: Shape, lmode: u16) -> bool
     ensures { result ≡ px_fits shape lmode }
 {
-    match shape {
-        Shape::Closed => false,
-        Shape::Strip => false,
-        Shape::Fan => false,
-        Shape::Line => lmode <= 1,
-    }
+    matches!(shape, Shape::Line) && lmode <= 1
 }
 
 // Whether a coordinate fits the open figure in a line mode.
@@ -99,13 +84,13 @@ pub(crate) fn coordinate_fits(c: Coordinate, shape: Shape, lmode: u16) -> bool
     ensures { result ≡ coordinate_fits c shape lmode }
 {
     match c {
-        Coordinate::I => true,
-        Coordinate::Z => true,
-        Coordinate::Y => true,
         Coordinate::X => x_fits(shape, lmode),
-        Coordinate::T1x => true,
-        Coordinate::T2x => true,
-        Coordinate::Lx => true,
         Coordinate::Px => px_fits(shape, lmode),
+        Coordinate::I
+        | Coordinate::Z
+        | Coordinate::Y
+        | Coordinate::T1x
+        | Coordinate::T2x
+        | Coordinate::Lx => true,
     }
 }

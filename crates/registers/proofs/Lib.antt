@@ -8,7 +8,5 @@ pub mod Effects
 pub mod Layouts
 -- the rule that the table of line lengths keeps
 pub mod Lengths
--- where a parked parameter stands, and when all take effect
-pub mod Parking
 -- a rule that holds at each entry of a list holds at every place of it
 pub mod Table

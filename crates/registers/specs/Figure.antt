@@ -18,6 +18,13 @@ shapes = Closed ∷ Strip ∷ Fan ∷ Line ∷ []
 unfoldable pub shape_of : ℕ → Shape
 shape_of n = get_or shapes n Closed
 
+-- the number of a shape in the record
+abbrev pub shape_number : Shape → ℕ
+shape_number Closed = 0
+shape_number Strip = 1
+shape_number Fan = 2
+shape_number Line = 3
+
 -- a vertex is the X data with the I, Z and Y registers
 abbrev pub vertex_of : Registers → ℕ → Vertex
 vertex_of r x = record { x = x; y = r.latch.y; i = r.latch.i; z = r.latch.z }

@@ -1,8 +1,16 @@
 -- Regions of pictures (request [1]): pixels go from the first corner towards the second, along x first.
 use Rattle.std.specs.Prelude.{ℕ, ◌+◌, ◌-◌, Bool, cond, ltb, eqb}
 use Rattle.registers.specs.declared.Region.{Region}
+use Rattle.registers.specs.declared.regions.Way.{Way}
+use Rattle.registers.specs.declared.regions.Way.TheVariants.{Shut, ToMemory, FromMemory}
 use Rattle.registers.specs.declared.Registers.{Registers}
 use Rattle.registers.specs.Record.{no_region}
+
+-- the number of a way in the record
+abbrev pub way_number : Way → ℕ
+way_number Shut = 0
+way_number ToMemory = 1
+way_number FromMemory = 2
 
 -- a region is open this way: 1 to memory, 2 from memory
 abbrev pub is_open : ℕ → Registers → Bool

@@ -33,14 +33,14 @@ pub(crate) const ALL_BITS: u16 = 65535;
 // The bits of a line's pattern, by which its steps are counted.
 pub const PATTERN_LENGTH: u16 = 32;
 
-// In place of an AUX number: nothing is awaited; IMG's parameters are, for a region to memory; with one more, from memory.
+// What stands in place of an AUX number where nothing is awaited, and where IMG's parameters are, for a region to memory; one more stands for a region from memory.
 pub const NOTHING: u16 = 13;
 
 pub(crate) const LOAD: u16 = 14;
 
 // The words of PMODE, LMODE, ZCONTROL, HCONTROL, LSTATUS, TPATTERN, MASK and SECTION, as they were sent. LX rewrites LSTATUS.
 #[repr(C)]
-#[derive(Clone, Copy)]
+#[derive(Clone, Copy, PartialEq, Eq)]
 pub struct Modes {
     pub pmode: u16,
     pub lmode: u16,
@@ -54,7 +54,7 @@ pub struct Modes {
 
 // The clipping window. Its borders belong to it.
 #[repr(C)]
-#[derive(Clone, Copy)]
+#[derive(Clone, Copy, PartialEq, Eq)]
 pub struct Window {
     pub left: u16,
     pub top: u16,
@@ -64,7 +64,7 @@ pub struct Window {
 
 // What lines of the modes 0 and 1 are drawn with: two colours, and the pattern's bits 31 to 16 and 15 to 0.
 #[repr(C)]
-#[derive(Clone, Copy)]
+#[derive(Clone, Copy, PartialEq, Eq)]
 pub struct Dash {
     pub foreground: u16,
     pub background: u16,
@@ -74,17 +74,17 @@ pub struct Dash {
 
 // The I, Z and Y registers.
 #[repr(C)]
-#[derive(Clone, Copy)]
+#[derive(Clone, Copy, PartialEq, Eq)]
 pub struct Latch {
     pub i: u16,
     pub z: u16,
     pub y: u16,
 }
 
-// The open figure: 0 for none, 1 a strip, 2 a fan, 3 a line. `first` is the vertex that the next one joins; where `pair` is 1, so is `second`.
+// The open figure: 0 for none, 1 a strip, 2 a fan, 3 a line (the numbers of `Shape`: C has the record). `first` is the vertex that the next one joins; where `pair` is 1, so is `second`.
 // Of a line, `steps` is how many it has made since LX, modulo 32, and `dashed` is 1 if its last segment was visible and of mode 0 or 1.
 #[repr(C)]
-#[derive(Clone, Copy)]
+#[derive(Clone, Copy, PartialEq, Eq)]
 pub struct Figure {
     pub shape: u16,
     pub pair: u16,
@@ -96,7 +96,7 @@ pub struct Figure {
 
 // The AUX number whose parameters are awaited, 13 for none, 14 and 15 for IMG's; how many have come, and those.
 #[repr(C)]
-#[derive(Clone, Copy)]
+#[derive(Clone, Copy, PartialEq, Eq)]
 pub struct Parked {
     pub subcommand: u16,
     pub came: u16,
@@ -106,7 +106,7 @@ pub struct Parked {
 // The region of a picture: 0 for none, 1 to memory, 2 from memory; the column of its first corner, its second corner, and the pixel that the
 // next transfer is of.
 #[repr(C)]
-#[derive(Clone, Copy)]
+#[derive(Clone, Copy, PartialEq, Eq)]
 pub struct Region {
     pub way: u16,
     pub x0: u16,
@@ -117,9 +117,10 @@ pub struct Region {
 }
 
 // All registers. Every field is an unsigned number, so that any bits are a record; docs/REGISTERS.md lists the bounds. `started` is 1 once
-// an INIT was accepted.
+// an INIT was accepted. C has the same struct (include/dextolumen.h): so here kinds are numbers, flags are 0 or 1, 0 or `NOTHING` stands for none, and
+// the parked values have their count beside them.
 #[repr(C)]
-#[derive(Clone, Copy)]
+#[derive(Clone, Copy, PartialEq, Eq)]
 pub struct Registers {
     pub started: u16,
     pub frame: Frame,

@@ -17,10 +17,10 @@ const LENGTHS: [u16; 64] = [
     0, 0,
 ];
 
-// The line length that INIT's data name; 0 for a code that is not listed.
+// The line length that INIT's data name; 0 for a code that is not listed. It is no Option, since INIT sets what the table has, also where the
+// code is not listed (`Registers::init` refuses nothing).
 pub fn line_length(data: u16) -> u16
     ensures { result ≡ line_of (code_in «data») }
 {
-    let code = (data / 256 % 64) as usize;
-    LENGTHS[code]
+    LENGTHS[(data / 256 % 64) as usize]
 }

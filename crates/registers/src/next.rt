@@ -1,14 +1,15 @@
 // The record after a word, one method for each family of commands, and the figure that a word completes. Whether a word is refused is
 // asked elsewhere (the crate `refusals`).
 ghost use Rattle.std.specs.Prelude.{◌≡◌};
-ghost use Rattle.registers.specs.Record.{awaiting, with_parked, with_figure, with_region, laid, settings, reset_as, reset_of, init_of};
+ghost use Rattle.registers.specs.Record.{awaiting, with_parked, with_region, laid, settings, reset_as, reset_of, init_of};
 ghost use Rattle.registers.specs.Figure.{vertex_of, figure_after, vertex_completes};
-ghost use Rattle.registers.specs.Next.{effect_of, joined_of, parm_of, open_of, line_open_of, coordinate_of, coordinate_completes, pen_of, img_number, is_deep_picture};
+ghost use Rattle.registers.specs.Next.{effect_of, joined_of, parm_of, coordinate_of, coordinate_completes, pen_of, img_number, is_deep_picture};
 ghost use Rattle.registers.specs.Region.{next_pixel};
 
 use crate::lines::{SHORTEST_LINE, line_length};
-use crate::shape::Completed;
-use crate::subcommand::{Subcommand, subcommand_of, wanted};
+use crate::regions::Way;
+use crate::shape::{Completed, Shape};
+use crate::subcommand::Subcommand;
 use crate::word::Coordinate;
 use crate::{
     ALL_BITS, DEPTH, Dash, END, Figure, I_ENABLE, INV, LOAD, Latch, Modes, NOTHING, Parked, Region,
@@ -26,7 +27,7 @@ impl Parked {
         Parked {
             subcommand: number,
             came: 0,
-            values: [0u16; 5],
+            values: [0; 5],
         }
     }
 
@@ -35,9 +36,8 @@ impl Parked {
         ensures { result ≡ joined_of self value }
     {
         let at = self.came as usize;
-        if at < 5 {
+        if at < self.values.len() {
             self.values[at] = value;
-            return self;
         }
         self
     }
@@ -45,15 +45,13 @@ impl Parked {
 
 impl Registers {
     // What INIT sets.
+    #[tactic(auto, unfolding(crate::specs::Record::settings))]
     fn set(started: u16, frame: Frame) -> Self
         ensures { result ≡ settings started frame }
     {
-        let figure = Figure::none();
-        let parked = Parked::awaited(NOTHING);
-        let region = Region::none();
         Registers {
-            started: started,
-            frame: frame,
+            started,
+            frame,
             modes: Modes {
                 pmode: 0,
                 lmode: 1,
@@ -77,43 +75,39 @@ impl Registers {
                 low: ALL_BITS,
             },
             latch: Latch { i: 0, z: 0, y: 0 },
-            figure: figure,
-            parked: parked,
-            region: region,
+            figure: Figure::none(),
+            parked: Parked::awaited(NOTHING),
+            region: Region::none(),
         }
+    }
+
+    // The record after reset, in a layout.
+    fn reset_in(layout: u16) -> Self
+        ensures { result ≡ reset_as layout }
+    {
+        let line = SHORTEST_LINE;
+        Registers::set(0, Frame { line, layout })
     }
 
     // The record after reset, with rows one after the other.
     pub fn reset() -> Self
         ensures { result ≡ reset_of }
     {
-        let frame = Frame {
-            line: SHORTEST_LINE,
-            layout: 0,
-        };
-        Registers::set(0, frame)
+        Registers::reset_in(0)
     }
 
     // The record after reset, with tiles of four by four.
     pub fn reset_tiled() -> Self
         ensures { result ≡ reset_as 1 }
     {
-        let frame = Frame {
-            line: SHORTEST_LINE,
-            layout: TILED,
-        };
-        Registers::set(0, frame)
+        Registers::reset_in(TILED)
     }
 
     // The record in another layout.
     pub fn in_layout(mut self, layout: u16) -> Self
         ensures { result ≡ laid layout self }
     {
-        let frame = Frame {
-            line: self.frame.line,
-            layout: layout,
-        };
-        self.frame = frame;
+        self.frame.layout = layout;
         self
     }
 
@@ -122,19 +116,14 @@ impl Registers {
         ensures { result ≡ init_of self «data» }
     {
         let line = line_length(data);
-        let frame = Frame {
-            line: line,
-            layout: self.frame.layout,
-        };
-        Registers::set(1, frame)
+        Registers::set(1, Frame { line, ..self.frame })
     }
 
     // AUX: the parameters of a subcommand are awaited.
     pub fn aux(mut self, number: u16) -> Self
         ensures { result ≡ with_parked self (awaiting number) }
     {
-        let p = Parked::awaited(number);
-        self.parked = p;
+        self.parked = Parked::awaited(number);
         self
     }
 
@@ -149,9 +138,7 @@ impl Registers {
     pub fn transferred(mut self) -> Self
         ensures { result ≡ with_region self (next_pixel self.region) }
     {
-        let g = self.region;
-        let h = g.onward();
-        self.region = h;
+        self.region = self.region.onward();
         self
     }
 
@@ -163,101 +150,59 @@ impl Registers {
     }
 
     // What the parameters of a subcommand do.
+    #[tactic(auto, unfolding(crate::specs::Next::effect_of))]
     fn effect(mut self, s: Subcommand, p: [u16; 5]) -> Self
         ensures { result ≡ effect_of self s p }
     {
-        let first = p[0];
-        let second = p[1];
-        let third = p[2];
-        let fourth = p[3];
         match s {
-            Subcommand::Nothing => self,
-            Subcommand::Pmode => {
-                self.modes.pmode = first;
-                self
-            }
-            Subcommand::Lmode => {
-                self.modes.lmode = first;
-                self
-            }
-            Subcommand::Zcontrol => {
-                self.modes.zcontrol = first;
-                self
-            }
-            Subcommand::Hcontrol => {
-                self.modes.hcontrol = first;
-                self
-            }
-            Subcommand::Tpattern => {
-                self.modes.transparency = first;
-                self
-            }
-            Subcommand::Window => {
-                let w = Window {
-                    left: first,
-                    top: second,
-                    right: third,
-                    bottom: fourth,
-                };
-                self.window = w;
-                self
-            }
-            Subcommand::Section => {
-                self.modes.section = first;
-                self
-            }
+            Subcommand::Nothing | Subcommand::Imode => {}
+            Subcommand::Pmode => self.modes.pmode = p[0],
+            Subcommand::Lmode => self.modes.lmode = p[0],
+            Subcommand::Zcontrol => self.modes.zcontrol = p[0],
+            Subcommand::Hcontrol => self.modes.hcontrol = p[0],
+            Subcommand::Tpattern => self.modes.transparency = p[0],
+            Subcommand::Section => self.modes.section = p[0],
+            Subcommand::Mask => self.modes.planes = p[0],
+            Subcommand::Lstatus => self.modes.lstatus = p[0],
             Subcommand::Color => {
-                self.dash.foreground = first;
-                self.dash.background = second;
-                self
+                self.dash.foreground = p[0];
+                self.dash.background = p[1];
             }
             Subcommand::Lpattern => {
-                self.dash.high = first;
-                self.dash.low = second;
-                self
+                self.dash.high = p[0];
+                self.dash.low = p[1];
             }
-            Subcommand::Mask => {
-                self.modes.planes = first;
-                self
+            Subcommand::Window => {
+                self.window = Window {
+                    left: p[0],
+                    top: p[1],
+                    right: p[2],
+                    bottom: p[3],
+                };
             }
-            Subcommand::Lstatus => {
-                self.modes.lstatus = first;
-                self
-            }
-            Subcommand::Imode => self,
-            Subcommand::Load => {
-                let g = Region::open(1, first, second, third, fourth);
-                self.region = g;
-                self
-            }
-            Subcommand::Save => {
-                let g = Region::open(2, first, second, third, fourth);
-                self.region = g;
-                self
-            }
+            Subcommand::Load => self.region = Region::open(Way::ToMemory, p[0], p[1], p[2], p[3]),
+            Subcommand::Save => self.region = Region::open(Way::FromMemory, p[0], p[1], p[2], p[3]),
         }
+        self
     }
 
     // PARM: the parameter is parked, or with the last one all take effect.
+    #[tactic(auto, unfolding(crate::specs::Next::parm_of))]
     pub fn parm(mut self, value: u16) -> Self
         ensures { result ≡ parm_of self value }
     {
-        let parked = self.parked;
-        let p = parked.joined(value);
-        let came = p.came;
-        let s = subcommand_of(p.subcommand);
-        if (came as usize) + 1 < (wanted(s) as usize) {
-            let mut more = p;
-            more.came = came + 1;
-            self.parked = more;
-            self
-        } else {
-            let values = p.values;
-            let mut next = self.effect(s, values);
-            let none = Parked::awaited(NOTHING);
-            next.parked = none;
-            next
+        let p = self.parked.joined(value);
+        let s = Subcommand::from(p.subcommand);
+        if (p.came as usize) + 1 < (s.wanted() as usize) {
+            self.parked = Parked {
+                came: p.came + 1,
+                ..p
+            };
+            return self;
         }
+        let mut next = self.effect(s, p.values);
+        next.parked = Parked::awaited(NOTHING);
+        next
     }
 
     // The vertex that an x makes with the I, Z and Y registers.
@@ -265,93 +210,64 @@ impl Registers {
         ensures { result ≡ vertex_of self x }
     {
         Vertex {
-            x: x,
+            x,
             y: self.latch.y,
             i: self.latch.i,
             z: self.latch.z,
         }
     }
 
-    // T1X, T2X and LX: a figure is opened.
-    fn opening(mut self, shape: u16, x: u16) -> Self
-        ensures { result ≡ open_of self shape x }
-    {
-        let v = self.vertex(x);
-        let f = Figure::open(shape, v);
-        self.figure = f;
-        self
-    }
-
-    // LX: INV 0, END 0.
-    fn line_opening(mut self, x: u16) -> Self
-        ensures { result ≡ line_open_of self x }
-    {
-        self.modes.lstatus = 0;
-        self.opening(3, x)
-    }
-
     // X and PX: the figure after their vertex.
-    fn growing(mut self, x: u16) -> Self
-        ensures { result ≡ with_figure self (figure_after self x) }
+    fn figure_after(self, x: u16) -> Figure
+        ensures { result ≡ figure_after self x }
     {
-        let v = self.vertex(x);
-        let f = self.figure;
         let end = self.modes.lstatus & END != 0;
         let hidden = self.modes.lstatus & INV != 0;
         let dashed = !hidden & (self.modes.lmode <= 1);
-        let g = f.grown(end, dashed, v);
-        self.figure = g;
-        self
+        self.figure.grown(end, dashed, self.vertex(x))
     }
 
     // X and PX: what their vertex completes.
     fn completing(self, x: u16) -> Completed
         ensures { result ≡ vertex_completes self x }
     {
-        let v = self.vertex(x);
-        let f = self.figure;
         let inv = self.modes.lstatus & INV != 0;
-        f.completed(inv, v)
+        self.figure.completed(inv, self.vertex(x))
     }
 
-    // The record after a coordinate.
+    // The record after a coordinate. T1X, T2X and LX open a figure, and LX sets INV 0 and END 0.
+    #[tactic(auto, unfolding(crate::specs::Next::coordinate_of))]
     pub fn coordinate(mut self, c: Coordinate, n: u16) -> Self
         ensures { result ≡ coordinate_of self c n }
     {
         match c {
-            Coordinate::I => {
-                self.latch.i = n;
-                self
+            Coordinate::I => self.latch.i = n,
+            Coordinate::Z => self.latch.z = n,
+            Coordinate::Y => self.latch.y = n,
+            Coordinate::X | Coordinate::Px => self.figure = self.figure_after(n),
+            Coordinate::T1x => self.figure = Figure::open(Shape::Strip, self.vertex(n)),
+            Coordinate::T2x => self.figure = Figure::open(Shape::Fan, self.vertex(n)),
+            Coordinate::Lx => {
+                self.modes.lstatus = 0;
+                self.figure = Figure::open(Shape::Line, self.vertex(n));
             }
-            Coordinate::Z => {
-                self.latch.z = n;
-                self
-            }
-            Coordinate::Y => {
-                self.latch.y = n;
-                self
-            }
-            Coordinate::X => self.growing(n),
-            Coordinate::T1x => self.opening(1, n),
-            Coordinate::T2x => self.opening(2, n),
-            Coordinate::Lx => self.line_opening(n),
-            Coordinate::Px => self.growing(n),
         }
+        self
     }
 
     // The figure that a coordinate completes.
+    #[tactic(auto, unfolding(crate::specs::Next::coordinate_completes))]
     pub fn completed_by(self, c: Coordinate, n: u16) -> Completed
         ensures { result ≡ coordinate_completes self c n }
     {
         match c {
-            Coordinate::I => Completed::Nothing,
-            Coordinate::Z => Completed::Nothing,
-            Coordinate::Y => Completed::Nothing,
-            Coordinate::X => self.completing(n),
-            Coordinate::T1x => Completed::Nothing,
-            Coordinate::T2x => Completed::Nothing,
-            Coordinate::Lx => Completed::Nothing,
-            Coordinate::Px => self.completing(n),
+            Coordinate::X | Coordinate::Px => self.completing(n),
+            Coordinate::I
+            | Coordinate::Z
+            | Coordinate::Y
+            | Coordinate::T1x
+            | Coordinate::T2x
+            | Coordinate::Lx => Completed::Nothing,
         }
     }
 
@@ -359,21 +275,17 @@ impl Registers {
     pub fn pen(self) -> Pen
         ensures { result ≡ pen_of self }
     {
-        let frame = self.frame;
-        let depth = self.modes.zcontrol & DEPTH != 0;
-        let ienable = self.modes.hcontrol & I_ENABLE != 0;
-        let zenable = self.modes.hcontrol & Z_ENABLE != 0;
         Pen {
-            frame: frame,
+            frame: self.frame,
             left: self.window.left,
             right: self.window.right,
             bottom: self.window.bottom,
             top: self.window.top,
             transparency: self.modes.transparency,
             planes: self.modes.planes,
-            depth: depth,
-            ienable: ienable,
-            zenable: zenable,
+            depth: self.modes.zcontrol & DEPTH != 0,
+            ienable: self.modes.hcontrol & I_ENABLE != 0,
+            zenable: self.modes.hcontrol & Z_ENABLE != 0,
         }
     }
 }

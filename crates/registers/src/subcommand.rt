@@ -7,7 +7,7 @@ pub const LARGEST_AUX: u16 = 12;
 
 pub const UNMODELLED_AUX: u16 = 11;
 
-// The subcommands that are modelled, and none.
+// The subcommands that are modelled, and none. (`Shape` says why no Option stands around them.)
 #[derive(Clone, Copy)]
 pub enum Subcommand {
     Nothing,
@@ -28,49 +28,50 @@ pub enum Subcommand {
 }
 
 // The subcommand of an AUX number; nothing for one that is not modelled, and for 13.
-pub fn subcommand_of(number: u16) -> Subcommand
-    ensures { result ≡ subcommand_of number }
-{
-    match number {
-        0 => Subcommand::Pmode,
-        1 => Subcommand::Lmode,
-        2 => Subcommand::Imode,
-        3 => Subcommand::Zcontrol,
-        4 => Subcommand::Hcontrol,
-        5 => Subcommand::Tpattern,
-        6 => Subcommand::Window,
-        7 => Subcommand::Section,
-        8 => Subcommand::Color,
-        9 => Subcommand::Lpattern,
-        10 => Subcommand::Mask,
-        11 => Subcommand::Nothing,
-        12 => Subcommand::Lstatus,
-        13 => Subcommand::Nothing,
-        14 => Subcommand::Load,
-        15 => Subcommand::Save,
-        _ => Subcommand::Nothing,
+impl From<u16> for Subcommand {
+    ghost from_gives = { λ number s. s ≡ subcommand_of number };
+
+    #[tactic(auto, unfolding(crate::specs::Subcommand::subcommand_of))]
+    fn from(number: u16) -> Subcommand {
+        match number {
+            0 => Subcommand::Pmode,
+            1 => Subcommand::Lmode,
+            2 => Subcommand::Imode,
+            3 => Subcommand::Zcontrol,
+            4 => Subcommand::Hcontrol,
+            5 => Subcommand::Tpattern,
+            6 => Subcommand::Window,
+            7 => Subcommand::Section,
+            8 => Subcommand::Color,
+            9 => Subcommand::Lpattern,
+            10 => Subcommand::Mask,
+            12 => Subcommand::Lstatus,
+            14 => Subcommand::Load,
+            15 => Subcommand::Save,
+            _ => Subcommand::Nothing,
+        }
     }
 }
 
-// How many parameters a subcommand takes.
-pub fn wanted(s: Subcommand) -> u16
-    ensures { result ≡ wants s }
-{
-    match s {
-        Subcommand::Nothing => 0,
-        Subcommand::Pmode => 1,
-        Subcommand::Lmode => 1,
-        Subcommand::Zcontrol => 1,
-        Subcommand::Hcontrol => 1,
-        Subcommand::Tpattern => 1,
-        Subcommand::Window => 5,
-        Subcommand::Section => 1,
-        Subcommand::Color => 2,
-        Subcommand::Lpattern => 2,
-        Subcommand::Mask => 1,
-        Subcommand::Lstatus => 1,
-        Subcommand::Imode => 1,
-        Subcommand::Load => 4,
-        Subcommand::Save => 4,
+impl Subcommand {
+    // How many parameters a subcommand takes.
+    pub fn wanted(self) -> u16
+        ensures { result ≡ wants self }
+    {
+        match self {
+            Subcommand::Nothing => 0,
+            Subcommand::Color | Subcommand::Lpattern => 2,
+            Subcommand::Load | Subcommand::Save => 4,
+            Subcommand::Window => 5,
+            Subcommand::Pmode
+            | Subcommand::Lmode
+            | Subcommand::Zcontrol
+            | Subcommand::Hcontrol
+            | Subcommand::Tpattern
+            | Subcommand::Section
+            | Subcommand::Mask
+            | Subcommand::Lstatus
+            | Subcommand::Imode => 1,
+        }
     }
 }

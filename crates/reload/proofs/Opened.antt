@@ -29,7 +29,7 @@ use Rattle.reload.specs.Reload.{Corners, opening, taking, Allowed, Ready}
 -- a word is accepted that draws and stores nothing
 module _ (r : Registers) (w : Word) (m : Memories) (e : refusal_of (length m.i) (length m.z) r w ≡ 0) where
   quiet_step : Nothing ≡ completed_by r w → word_stores (rows_of r.frame (length m.i) (length m.z)) r w ≡ [] → step_of chip r w m ≡ outcome 0 0 (record_after r w) m
-  quiet_step completes unstored = sym (word_quiet r w m.i m.z refl refl e unstored refl completes refl)
+  quiet_step completes unstored = sym (word_quiet r w m.i m.z refl e unstored refl completes refl)
 
   -- the words behind it are taken from there
   quiet_on : Nothing ≡ completed_by r w → word_stores (rows_of r.frame (length m.i) (length m.z)) r w ≡ [] → (ws : List Word)

@@ -30,9 +30,8 @@ use Rattle.machine.specs.Offers.{State, state, onward}
 use Rattle.machine.proofs.Runs.{zero_or_not}
 use Rattle.machine.proofs.Steps.{step_refused, step_either}
 use Rattle.machine.proofs.Kept.{step_length_i, step_length_z}
-use Rattle.chip.specs.declared.transfer.Reading.{Reading}
 use Rattle.chip.specs.Chip.{word_stores, chip}
-use Rattle.chip.specs.Read.{read_as, read_number, reading}
+use Rattle.chip.specs.Read.{ReadOutcome, read_as, read_number, reading}
 use Rattle.chip.proofs.Words.{word_stored}
 use Rattle.chip.proofs.Reading.{read_accepted, read_refused}
 use Rattle.reload.specs.Reload.{Corners, opening, reads, reads_leave, taking, saving, saving_leaves, loading, Allowed, Ready, Word16, apart, size_of, stepped, read_back_of, Reload}
@@ -115,7 +114,7 @@ module _ (r : Registers) (begun : is_cold r ≡ false) (idle : awaits r ≡ fals
     ptrn_step : (v : ℕ) → in_bounds (at 1 g) ≡ true → step_of chip (at 1 g) (Ptrn v) m ≡ outcome 0 0 (with_region r (next_pixel (turned 1 g))) (put g v m)
     unfolding completed_by word_stores record_after
     ptrn_step v s =
-        sym (word_stored (at 1 g) (Ptrn v) m.i m.z refl refl (ptrn_on v s) {i' = (drawn g v m).i} {z' = (drawn g v m).z} refl refl
+        sym (word_stored (at 1 g) (Ptrn v) m.i m.z refl (ptrn_on v s) {i' = (drawn g v m).i} {z' = (drawn g v m).z} refl refl
         (ap (λ (n : ℕ). picture (drawn g v m).i (drawn g v m).z n)
         (sym (filled_passed (pen_of r) (storable (pen_of r) (rows_of r.frame (length m.i) (length m.z)) (pixel_for (is_deep_picture r) g.x g.y v)) (picture m.i m.z 0))))
         refl)
@@ -145,9 +144,9 @@ module _ (r : Registers) (begun : is_cold r ≡ false) (idle : awaits r ≡ fals
   reads_leave_lem zero k m s = record { region = k; is = refl; sound = s }
   reads_leave_lem (suc n) k m s =
       zero_or_not (read_number (with_region r k) m)
-      (λ e. subst (λ (a : Reading). LeftAs (reads_leave n a.registers m)) (sym (read_accepted (with_region r k) m e))
+      (λ e. subst (λ (a : ReadOutcome). LeftAs (reads_leave n a.registers m)) (sym (read_accepted (with_region r k) m e))
       (reads_leave_lem n (next_pixel k) m (read_kept (length m.i) (length m.z) (with_region r k) e)))
-      (λ e. subst (λ (a : Reading). LeftAs (reads_leave n a.registers m)) (sym (read_refused (with_region r k) m e)) (reads_leave_lem n k m s))
+      (λ e. subst (λ (a : ReadOutcome). LeftAs (reads_leave n a.registers m)) (sym (read_refused (with_region r k) m e)) (reads_leave_lem n k m s))
 
   loads_leave : (vs : List ℕ) (k : Region) (m : Memories) → in_bounds (with_region r k) ≡ true → LeftAs (taking (with_region r k) (map Ptrn vs) m).registers
   unfolding record_after
@@ -177,7 +176,7 @@ module _ (r : Registers) (begun : is_cold r ≡ false) (idle : awaits r ≡ fals
           let k = rest (moved g x y) (subst (λ (a : Region). in_bounds (with_region r a) ≡ true) (e 2) (read_next g m same s)) (omega (arith, l, less)) in
           record {
             here = k.here;
-            is = ap (λ (a : Reading). reads_leave n a.registers m) (read_step g m same s) ∙ ap (λ (a : Region). reads_leave n (with_region r a) m) (e 2) ∙ k.is;
+            is = ap (λ (a : ReadOutcome). reads_leave n a.registers m) (read_step g m same s) ∙ ap (λ (a : Region). reads_leave n (with_region r a) m) (e 2) ∙ k.is;
             sound = k.sound;
             less = omega (arith, less, k.less);
           }
@@ -193,7 +192,7 @@ module _ (r : Registers) (begun : is_cold r ≡ false) (idle : awaits r ≡ fals
 
   -- the last pixel's read leaves none open
   read_ends : (g : Region) (m : Memories) → Same m → in_bounds (at 2 g) ≡ true → remaining g ≡ 0 → read_number (reading (at 2 g) m).registers m ≡ 14
-  read_ends g m same s z = ap (λ (a : Reading). read_number a.registers m) (read_step g m same s) ∙ go (goes_of g)
+  read_ends g m same s z = ap (λ (a : ReadOutcome). read_number a.registers m) (read_step g m same s) ∙ go (goes_of g)
     where
       go : Goes g → read_number (with_region r (next_pixel (turned 2 g))) m ≡ 14
       go (ends e q) =
@@ -206,9 +205,9 @@ module _ (r : Registers) (begun : is_cold r ≡ false) (idle : awaits r ≡ fals
       → get_or (reads n (at 2 g) m) k 0 ≡ look m (walked k (turned 2 g)).x (walked k (turned 2 g)).y
   unfolding reads walked
   read_at zero k g m same s l t = absurd (omega (arith, l))
-  read_at (suc n) zero g m same s l t = ap (λ (a : Reading). a.pixel) (read_step g m same s)
+  read_at (suc n) zero g m same s l t = ap (λ (a : ReadOutcome). a.pixel) (read_step g m same s)
   read_at (suc n) (suc k) g m same s l t =
-      ap (λ (a : Reading). get_or (reads n a.registers m) k 0) (read_step g m same s)
+      ap (λ (a : ReadOutcome). get_or (reads n a.registers m) k 0) (read_step g m same s)
       ∙ go (goes_of g) (λ h b u. read_at n k h m same b (omega (arith, l)) u)
     where
       go : Goes g
@@ -286,7 +285,7 @@ module _ (r : Registers) (begun : is_cold r ≡ false) (idle : awaits r ≡ fals
   unfolding reads
   pour m same planes low zero g s₁ s₂ = refl
   pour m same planes low (suc n) g s₁ s₂ =
-      ap (λ (a : Reading). (taking (at 1 g) (Ptrn a.pixel ∷ map Ptrn (reads n a.registers m)) m).memories) (read_step g m same s₂)
+      ap (λ (a : ReadOutcome). (taking (at 1 g) (Ptrn a.pixel ∷ map Ptrn (reads n a.registers m)) m).memories) (read_step g m same s₂)
       ∙ ap (λ (o : Outcome Registers Memories). (taking o.registers (map Ptrn (reads n next m)) o.memories).memories) back
       ∙ go (goes_of g) (λ h a b. pour m same planes low n h a b)
     where
@@ -358,7 +357,7 @@ module _ (r : Registers) (begun : is_cold r ≡ false) (idle : awaits r ≡ fals
     back [] g m same s₁ s₂ low l = refl
     back (v ∷ vs) g m same s₁ s₂ low l =
         ap (λ (o : Outcome Registers Memories). reads (suc (length vs)) (at 2 g) (taking o.registers (map Ptrn vs) o.memories).memories) (ptrn_step g m same v s₁)
-        ∙ ap (λ (a : Reading). a.pixel ∷ reads (length vs) a.registers end) (read_step g end end_same s₂)
+        ∙ ap (λ (a : ReadOutcome). a.pixel ∷ reads (length vs) a.registers end) (read_step g end end_same s₂)
         ∙ go (goes_of g) (λ h s t l'. back vs h (put g v m) (put_same g v m same) s t (λ k. low (suc k)) l')
       where
         rows : ℕ

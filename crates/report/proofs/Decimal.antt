@@ -1,14 +1,15 @@
--- Numbers in decimal: the last digit apart, and how many digits there are. Assumes nothing.
-use mathlib.Core.Path.{◌≡◌, refl, ap}
+-- Numbers in decimal: the last digit apart, how many digits there are, and all of them as the last so many. Assumes nothing.
+use mathlib.Core.Path.{◌≡◌, refl, ap, ◌∙◌}
 use mathlib.Core.Bool.{Bool, true, false, cond}
 use mathlib.Core.List.{List, [], ◌∷◌, ◌++◌}
 use Prim.Native.Nat.{ℕ, zero, suc, ◌+◌, ◌/◌, ◌%◌, ◌^◌, ◌≤◌, ◌<◌}
 use native.Mathlib.Nat.{pow-suc}
 use native.Mathlib.Omega.{arith}
+use native.Mathlib.Numerals.{add-one}
 use borrow.Author.Tests.{lt-ltb, le-ltb, ltb-true, ltb-false}
 use lib.ListN.{length, length-append}
 use lib.Dec.{ltb}
-use Rattle.report.specs.Text.{digits, decimal}
+use Rattle.report.specs.Text.{glyph, last_digits, digits, decimal}
 
 -- once there are enough digits, how many are allowed does not matter
 digits_enough : (k m n : ℕ) → n < k → n < m → digits k n ≡ digits m n
@@ -61,3 +62,33 @@ decimal_some n = go (ltb n 10) refl
     go : (b : Bool) → ltb n 10 ≡ b → 1 ≤ length (decimal n)
     go true t = omega (arith, length_small n (ltb-true n 10 t))
     go false t = omega (arith, length_more n (ltb-false n 10 t))
+
+-- ---- the last digits
+
+-- the last k digits of a number are k bytes, in any base
+pub length_digits : (base k n : ℕ) → length (last_digits base k n) ≡ k
+unfolding last_digits
+length_digits base zero n = refl
+length_digits base (suc k) n =
+    length-append (last_digits base k (n / base)) (glyph (n % base) ∷ []) ∙ rw (length_digits base k (n / base)) (add-one k)
+
+-- a digit below 10 in ASCII
+small_glyph : (n : ℕ) → glyph (n % 10) ≡ 48 + n % 10
+unfolding glyph
+small_glyph n = rw (lt-ltb (n % 10) 10 (omega arith))
+
+-- the digits of a number are the last so many
+digits_last : (k n : ℕ) → last_digits 10 (length (digits k n)) n ≡ digits k n
+unfolding digits last_digits
+digits_last zero n = refl
+digits_last (suc k) n = go (ltb n 10) (digits_last k (n / 10))
+  where
+    go : (b : Bool) → last_digits 10 (length (digits k (n / 10))) (n / 10) ≡ digits k (n / 10)
+        → last_digits 10 (length (cond b [] (digits k (n / 10)) ++ ((48 + n % 10) ∷ []))) n ≡ cond b [] (digits k (n / 10)) ++ ((48 + n % 10) ∷ [])
+    go true e = ap (λ (g : ℕ). g ∷ []) (small_glyph n)
+    go false e = rw (length-append (digits k (n / 10)) ((48 + n % 10) ∷ []), add-one (length (digits k (n / 10))), e, small_glyph n)
+
+-- so that a number in decimal is its last digits, as many as it has
+pub decimal_last : (n : ℕ) → last_digits 10 (length (decimal n)) n ≡ decimal n
+unfolding decimal
+decimal_last n = digits_last (suc n) n

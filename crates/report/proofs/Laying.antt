@@ -8,7 +8,8 @@ use lib.Dec.{leb}
 use lib.ListN.{length}
 use lib.Seq.{sets, length-sets}
 use borrow.Author.Tests.{leb-true, leb-false, le-leb, lt-leb, not-true, not-false}
-use Rattle.report.specs.Calls.{Put, fits, Laid}
+use Rattle.report.specs.Calls.{Put, Adds, Room, OnPage, fits, Laid, Lays}
+use Rattle.report.specs.declared.page.Page.{Page}
 
 -- a test without a sum that could wrap
 pub room_same : (room size at : ℕ) → size ≤ room → leb at (room - size) ≡ leb (at + size) room
@@ -35,6 +36,23 @@ module _ (text old : List ℕ) (at : ℕ) {size : ℕ} {r : Bool} (long : length
       let yes : fits text old at ≡ true = ap (λ (k : ℕ). leb (at + k) (length old)) long ∙ sym e ∙ not-false r n in
       record { left = rw yes p.stands; end = rw yes p.ends }
 
+-- ---- the same of a page
+
+-- the test's answer is that there is room on the page
+pub has : (page : Page) (size : ℕ) {r : Bool} → r ≡ leb (page.at + size) (length page.out.now) → r ≡ true → Room size page
+has page size e n = roomy (length page.out.now) size page.at e (ap not n)
+
+module _ (text : List ℕ) (page : Page) {size : ℕ} {r : Bool} (long : length text ≡ size) (e : r ≡ leb (page.at + size) (length page.out.now)) where
+  -- a text without room is left out
+  pub lays_none : r ≡ false → Lays text page page
+  lays_none n = record { laid = laid_none text page.out.now page.at long e (ap not n); same = refl }
+
+  -- one with room is put
+  pub lays_put : {new : Page} → r ≡ true → Adds text page new → Lays text page new
+  lays_put n p = record { laid = laid_put text page.out.now page.at long e (ap not n) p.put; same = p.same }
+
+-- ---- no text, and lengths
+
 -- no text leaves all as it is
 pub laid_nothing : (old : List ℕ) (at : ℕ) → Laid [] old at old at
 laid_nothing old at = record { left = go (fits [] old at); end = so (fits [] old at) }
@@ -46,6 +64,10 @@ laid_nothing old at = record { left = go (fits [] old at); end = so (fits [] old
     so : (b : Bool) → at ≡ cond b (at + 0) at
     so true = omega arith
     so false = refl
+
+-- and so of a page
+pub lays_nothing : (page : Page) → Lays [] page page
+lays_nothing page = record { laid = laid_nothing page.out.now page.at; same = refl }
 
 -- what is laid ends inside, if it begins there
 pub laid_within : {text old new : List ℕ} {at next : ℕ} → Laid text old at new next → at ≤ length old → next ≤ length old
@@ -62,6 +84,10 @@ laid_length {text} {old} {new} {at} {next} p = rw p.left (go (fits text old at))
     go : (b : Bool) → length (cond b (sets old at text) old) ≡ length old
     go true = length-sets old at text
     go false = refl
+
+-- what is laid on a page ends on it, if it begins there
+pub lays_within : {text : List ℕ} {old new : Page} → Lays text old new → OnPage old → OnPage new
+lays_within p h = omega (arith, laid_within p.laid h, laid_length p.laid)
 
 -- a text that has room is put
 pub put_laid : {text old new : List ℕ} {at next : ℕ} → at + length text ≤ length old → Laid text old at new next → Put text old at new next

@@ -1,13 +1,16 @@
 -- How long each part of the text is. Assumes nothing.
-use mathlib.Core.Path.{◌≡◌}
+use mathlib.Core.Path.{◌≡◌, refl, sym, ◌∙◌}
 use mathlib.Core.List.{List, [], ◌∷◌, ◌++◌}
 use Prim.Native.Nat.{ℕ, zero, suc, ◌+◌, ◌-◌, ◌≤◌, ◌<◌}
 use native.Mathlib.Nat.{add-zero, add-suc}
 use native.Mathlib.Numerals.{add-one}
 use native.Mathlib.Omega.{arith}
-use borrow.Author.Tests.{ne_eqb}
+use borrow.Author.Tests.{ne_eqb, eqb-true, eqb-false, not-true, not-false}
+use mathlib.Core.Bool.{Bool, true, false, not}
+use lib.Dec.{eqb}
 use lib.ListN.{length, get_or, length-append}
-use Rattle.report.specs.Text.{decimal, field, pair, column_of, row_of, place_line, lines, named, heading, report, words_name, refusal_name, passed_name}
+use Rattle.report.specs.declared.place.Place.{Place}
+use Rattle.report.specs.Text.{decimal, field, pair, place_of, shown, place_line, lines, named, heading, report, words_name, refusal_name, passed_name}
 
 -- a number with the byte after it is one byte longer than its digits
 pub length_field : (n after : ℕ) → length (field n after) ≡ length (decimal n) + 1
@@ -23,21 +26,27 @@ pair_parts m n after = length-append (field m 32) (field n after)
 pub length_pair : (m n after : ℕ) → length (pair m n after) ≡ length (decimal m) + length (decimal n) + 2
 length_pair m n after = omega (arith, pair_parts m n after, length_field m 32, length_field n after)
 
--- a place that shows, by its column and its row
-module _ (line place i z : ℕ) {x y : ℕ} (h : i ≡ 0 → ⊥) (p : x ≡ column_of line place) (q : y ≡ row_of line place) where
-  -- a place that shows has a line of its column, its row, its I and its Z
-  pub place_line_lem : place_line line place i z ≡ pair x y 32 ++ pair i z 10
-  unfolding place_line
-  place_line_lem = rw (p, q, ne_eqb i 0 h)
+-- a test that an I is not 0
+module _ (i : ℕ) {r : Bool} (e : r ≡ not (eqb i 0)) where
+  -- where it says that the place does not show, the I is 0
+  pub unseen : r ≡ false → i ≡ 0
+  unseen f = eqb-true i 0 (not-false (eqb i 0) (sym e ∙ f))
 
-  -- that line is as long as its two pairs
-  pub length_place : length (place_line line place i z) ≡ length (pair x y 32) + length (pair i z 10)
-  length_place = rw place_line_lem (length-append (pair x y 32) (pair i z 10))
+  -- where it says that the place shows, it is not
+  pub seen : r ≡ true → i ≡ 0 → ⊥
+  seen t = eqb-false i 0 (not-true (eqb i 0) (sym e ∙ t))
 
--- a place that does not
-pub place_none : (line place i z : ℕ) → i ≡ 0 → place_line line place i z ≡ []
-unfolding place_line
-place_none line place i z h = rw h
+-- a place that shows has a line of its column, its row, its I and its Z
+pub shown_lem : (p : Place) → (p.i ≡ 0 → ⊥) → shown p ≡ pair p.column p.row 32 ++ pair p.i p.z 10
+shown_lem p h = rw (ne_eqb p.i 0 h)
+
+-- that line is as long as its two pairs
+pub length_shown : (p : Place) → (p.i ≡ 0 → ⊥) → length (shown p) ≡ length (pair p.column p.row 32) + length (pair p.i p.z 10)
+length_shown p h = rw (shown_lem p h) (length-append (pair p.column p.row 32) (pair p.i p.z 10))
+
+-- a place that does not show has none
+pub shown_none : (p : Place) → p.i ≡ 0 → shown p ≡ []
+shown_none p h = rw h
 
 -- the first line
 pub named_parts : (name : List ℕ) (n after : ℕ) → length (named name n after) ≡ length name + length (field n after)
@@ -73,6 +82,17 @@ module _ (words refusal passed : ℕ) where
 -- ---- the lines so far
 
 module _ (line : ℕ) (im zm : List ℕ) where
+  -- a place with the numbers of two memories has its line
+  pub place_told : (k : ℕ) {z : ℕ} {p : Place} → z ≡ get_or zm k 0 → p ≡ place_of line k (get_or im k 0) z
+      → shown p ≡ place_line line k (get_or im k 0) (get_or zm k 0)
+  unfolding place_line
+  place_told k e f = rw (f, e)
+
+  -- no place has no line
+  pub lines_none : lines line im zm 0 ≡ []
+  unfolding lines
+  lines_none = refl
+
   -- one place more
   pub lines_more : (n : ℕ) → lines line im zm (n + 1) ≡ lines line im zm n ++ place_line line n (get_or im n 0) (get_or zm n 0)
   unfolding lines

@@ -10,7 +10,7 @@ use borrow.Author.Tests.{eq-eqb, ne_eqb, eqb-true, eqb-false, ltb-true, ltb-fals
 use lib.ListN.{length, get_or, drop, set, length-append}
 use lib.Seq.{drop-cons, drop-length, set_at, get_or_at}
 use lib.Dec.{ltb, eqb}
-use Rattle.report.specs.declared.Range.{Range}
+use Rattle.report.specs.declared.scale.Range.{Range}
 use Rattle.report.specs.Levels.{is_fresh, chosen, between, widened, seen, range_of, base_of, nearest, level_of, level_at, levels_in, levels, drawn_places}
 
 -- ---- a share of a span

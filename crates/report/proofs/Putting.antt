@@ -1,15 +1,18 @@
 -- Texts put one behind the other. Assumes nothing.
 use mathlib.Core.Path.{◌≡◌, refl, sym, ap, ap₂, ◌∙◌}
-use mathlib.Core.List.{List, [], ◌∷◌, ◌++◌}
-use Prim.Native.Nat.{ℕ, suc, ◌+◌, ◌/◌, ◌%◌, ◌≤◌, ◌<◌}
+use mathlib.Core.List.{List, [], ◌∷◌, ◌++◌, append_assoc}
+use Prim.Native.Nat.{ℕ, suc, ◌+◌, ◌/◌, ◌%◌, ◌≤◌}
 use native.Mathlib.Nat.{add-zero, zero-add, add-suc, suc-add}
+use native.Mathlib.Numerals.{add-one}
 use native.Mathlib.Omega.{arith}
-use lib.ListN.{length, set, length-append}
-use lib.Seq.{sets, sets-eq, set_comm}
+use lib.ListN.{length, set, take, drop, length-append}
+use lib.Seq.{sets, sets-eq, length-sets, set_comm, drop-drop}
+use borrow.Rule.Slice.PartMut.{put_mid}
 use Rattle.stream.specs.Calls.{over}
-use Rattle.report.specs.Text.{decimal}
-use Rattle.report.specs.Calls.{Put}
-use Rattle.report.proofs.Decimal.{decimal_small, decimal_more, length_small, length_more}
+use Rattle.report.specs.Text.{glyph, last_digits}
+use Rattle.report.specs.Calls.{Put, Adds, Room}
+use Rattle.report.specs.declared.page.Page.{Page}
+use Rattle.report.proofs.Decimal.{length_digits}
 
 sets_append : (a b l : List ℕ) (at : ℕ) → sets (sets l at a) (at + length a) b ≡ sets l at (a ++ b)
 sets_append [] b l at = rw (add-zero at)
@@ -46,17 +49,50 @@ pub put_over : {text l m : List ℕ} {n : ℕ} → length text ≤ length l → 
 unfolding over
 put_over {text} {l} {m} {n} h p = (p.ends ∙ zero-add (length text), p.stands ∙ sets-eq text l 0 (omega arith) ∙ rw (zero-add (length text)))
 
--- ---- a number, its digits stored from the last to the first
+-- ---- the same of a page
 
-module _ (out : List ℕ) (rest at last : ℕ) (e : at + length (decimal rest) ≡ last + 1) {digit : ℕ} (d : digit ≡ 48 + rest % 10) where
-  -- its last digit stored, the number without it is left to put
-  pub put_last : 10 ≤ rest → sets (set out last digit) at (decimal (rest / 10)) ≡ sets out at (decimal rest)
-  put_last h =
-      let here : last ≡ at + length (decimal (rest / 10)) = omega (arith, length_more rest h) in
-      rw (here, d) (store_first (decimal (rest / 10)) out at (48 + rest % 10) ∙ rw (decimal_more rest h))
+-- nothing
+pub add_none : (page : Page) → Adds [] page page
+add_none page = record { put = put_none page.out.now page.at; same = refl }
 
-  -- and where it has no other digit, nothing is
-  pub put_only : rest < 10 → set out last digit ≡ sets out at (decimal rest)
-  put_only h =
-      let here : last ≡ at = omega (arith, length_small rest h) in
-      rw (here, d, decimal_small rest h)
+-- a text behind a text
+pub add_after : {a b : List ℕ} {l m n : Page} → Adds a l m → Adds b m n → Adds (a ++ b) l n
+add_after p q = record { put = put_append p.put q.put; same = q.same ∙ p.same }
+
+-- ---- digits, stored from the last to the first
+
+-- the last of k + 1 digits stored, the others of the number without it are left to put
+pub put_last : (base k n at : ℕ) (out : List ℕ) {g : ℕ} → g ≡ glyph (n % base)
+    → sets (set out (at + k) g) at (last_digits base k (n / base)) ≡ sets out at (last_digits base (k + 1) n)
+unfolding last_digits
+put_last base k n at out {g} e =
+    let here : at + k ≡ at + length (last_digits base k (n / base)) = omega (arith, length_digits base k (n / base)) in
+    rw (here, e, add-one k) (store_first (last_digits base k (n / base)) out at (glyph (n % base)))
+
+-- none is left
+pub put_all : (base n at : ℕ) (out : List ℕ) → sets out at (last_digits base 0 n) ≡ out
+unfolding last_digits
+put_all base n at out = refl
+
+-- a page keeps its buffer's length
+pub add_length : {text : List ℕ} {old new : Page} → Adds text old new → length new.out.now ≡ length old.out.now
+add_length {text} {old} p = ap (length {A = ℕ}) p.put.stands ∙ length-sets old.out.now old.at text
+
+-- where a text and so many bytes more have room, those bytes have room behind the text
+pub room_after : {text : List ℕ} {old new : Page} (size : ℕ) → Adds text old new → Room (length text + size) old → Room size new
+room_after size p h = omega (arith, h, p.put.ends, add_length p)
+
+-- a page while digits are stored, from the last to the first: the first k digits of the rest, put over what stands, give what all digits give, put over
+-- what stood; the next byte's place and the buffer are what they were
+pub record Storing (base count n k rest : ℕ) (old new : Page) : Type 0 where
+  pub put : sets new.out.now old.at (last_digits base k rest) ≡ sets old.out.now old.at (last_digits base count n)
+  pub at : new.at ≡ old.at
+  pub same : new.out.ghost_name ≡ old.out.ghost_name
+
+-- ---- a text in place of as many bytes
+
+-- what a buffer holds once the bytes of a text are copied into their place
+pub put_copied : {text old ys : List ℕ} {at k next : ℕ} → at + length text ≤ length old → ys ≡ text → k ≡ length text → next ≡ at + length text
+    → Put text old at (put_mid at k old ys) next
+put_copied {text} {old} {ys} {at} {k} {next} h e f g =
+    record { stands = rw (e, f, drop-drop (length text) at old) (sym (sets-eq text old at h ∙ append_assoc (take at old) text (drop (at + length text) old))); ends = g }

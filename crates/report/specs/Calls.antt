@@ -1,10 +1,10 @@
 -- What writing a text tells and leaves, for every input (document 01, "Numbers that come back": 13).
-use Rattle.std.specs.Prelude.{ℕ, ◌+◌, ◌≤◌, ◌≡◌, Bool, cond, List, length, take, leb}
+use Rattle.std.specs.Prelude.{Result, Ok, Err, ℕ, ◌+◌, ◌≤◌, ◌≡◌, Bool, cond, List, length, take, leb}
 use Rattle.std.proofs.lemmas.List.Edits.{sets}
 use Rattle.stream.specs.Calls.{Outcome, concluded, no_room, over}
 use Rattle.report.specs.Text.{report}
-use Rattle.report.specs.declared.Written.{Written}
-use Rattle.report.specs.declared.Written.TheVariants.{Done, NoRoom}
+use Rattle.report.specs.declared.NoRoom.{NoRoom}
+use Rattle.report.specs.declared.page.Page.{Page}
 
 -- writing checks 13
 unfoldable pub writing_text : List ℕ → List ℕ → Outcome
@@ -15,17 +15,17 @@ abbrev pub writing : ℕ → ℕ → ℕ → ℕ → List ℕ → List ℕ → L
 writing words refusal passed line im zm out = writing_text (report words refusal passed line im zm) out
 
 -- the number, and the length, that each answer of the code stands for
-abbrev pub written_number : Written → ℕ
-written_number (Done n) = 0
-written_number NoRoom = 13
+abbrev pub written_number : Result ℕ NoRoom → ℕ
+written_number (Ok n) = 0
+written_number (Err _) = 13
 
 -- an answer that is done tells the length of what was written, and one without room tells 0
-abbrev pub written_size : Written → ℕ
-written_size (Done n) = n
-written_size NoRoom = 0
+abbrev pub written_size : Result ℕ NoRoom → ℕ
+written_size (Ok n) = n
+written_size (Err _) = 0
 
 -- an answer, with what the call left
-abbrev pub wrote : Written → List ℕ → Outcome
+abbrev pub wrote : Result ℕ NoRoom → List ℕ → Outcome
 wrote answer left = record { refusal = written_number answer; size = written_size answer; left = left }
 
 -- ---- the parts of a text
@@ -56,3 +56,23 @@ fits text old at = leb (at + length text) (length old)
 pub record Laid (text old : List ℕ) (at : ℕ) (new : List ℕ) (next : ℕ) : Type 0 where
   pub left : new ≡ cond (fits text old at) (sets old at text) old
   pub end : next ≡ cond (fits text old at) (at + length text) at
+
+-- ---- the same of a page, whose buffer and place go together
+
+-- so many bytes have room
+abbrev pub Room : ℕ → Page → Type 0
+Room size page = page.at + size ≤ length page.out.now
+
+-- the next byte's place is on the page, or where it ends
+abbrev pub OnPage : Page → Type 0
+OnPage page = page.at ≤ length page.out.now
+
+-- a text put where the page had come to; the page has its buffer still
+pub record Adds (text : List ℕ) (old new : Page) : Type 0 where
+  pub put : Put text old.out.now old.at new.out.now new.at
+  pub same : new.out.ghost_name ≡ old.out.ghost_name
+
+-- a text laid there
+pub record Lays (text : List ℕ) (old new : Page) : Type 0 where
+  pub laid : Laid text old.out.now old.at new.out.now new.at
+  pub same : new.out.ghost_name ≡ old.out.ghost_name

@@ -1,6 +1,6 @@
 -- The levels of a picture: the numbers of a memory in 8 bits, to be looked at, from the least number that is shown to the greatest.
 use Rattle.std.specs.Prelude.{ℕ, zero, suc, ◌+◌, ◌-◌, ◌*◌, ◌/◌, min, max, Bool, cond, ◌&&◌, List, [], ◌∷◌, ◌++◌, get_or, eqb}
-use Rattle.report.specs.declared.Range.{Range}
+use Rattle.report.specs.declared.scale.Range.{Range}
 use Rattle.report.specs.Image.{image}
 
 -- a place is as at the start, I 0 and Z 65535: nothing was drawn there

@@ -1,5 +1,6 @@
 -- The text of a run (document 01, "Examples", the drawing program): bytes in ASCII, of which 32 is a space and 10 ends a line.
 use Rattle.std.specs.Prelude.{ℕ, zero, suc, ◌+◌, ◌/◌, ◌%◌, cond, List, [], ◌∷◌, ◌++◌, length, get_or, ltb, eqb}
+use Rattle.report.specs.declared.place.Place.{Place}
 
 -- ---- numbers
 
@@ -16,6 +17,15 @@ decimal n = digits (suc n) n
 unfoldable pub field : ℕ → ℕ → List ℕ
 field n after = decimal n ++ (after ∷ [])
 
+-- a digit's character: 0 to 9, then A to F
+unfoldable pub glyph : ℕ → ℕ
+glyph d = cond (ltb d 10) (48 + d) (55 + d)
+
+-- the last k digits of a number in a base, the most significant first
+unfoldable pub last_digits : ℕ → ℕ → ℕ → List ℕ
+last_digits base zero n = []
+last_digits base (suc k) n = last_digits base k (n / base) ++ (glyph (n % base) ∷ [])
+
 -- ---- the places that show
 
 -- two numbers, a space between them, and the byte after them
@@ -30,9 +40,17 @@ column_of line place = place % line
 abbrev pub row_of : ℕ → ℕ → ℕ
 row_of line place = place / line
 
--- the line of a place: column, row, I and Z; none where I is 0
+-- a place, by its column and its row, and its numbers
+abbrev pub place_of : ℕ → ℕ → ℕ → ℕ → Place
+place_of line place i z = record { column = column_of line place; row = row_of line place; i = i; z = z }
+
+-- the line of a place that is so given: column, row, I and Z; none where I is 0
+abbrev pub shown : Place → List ℕ
+shown p = cond (eqb p.i 0) [] (pair p.column p.row 32 ++ pair p.i p.z 10)
+
+-- the line of a place
 unfoldable pub place_line : ℕ → ℕ → ℕ → ℕ → List ℕ
-place_line line place i z = cond (eqb i 0) [] (pair (column_of line place) (row_of line place) 32 ++ pair i z 10)
+place_line line place i z = shown (place_of line place i z)
 
 -- the lines of the first n places, places rising; past its end a memory holds 0
 unfoldable pub lines : ℕ → List ℕ → List ℕ → ℕ → List ℕ

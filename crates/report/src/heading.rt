@@ -1,33 +1,45 @@
 // The first line: what came of the run.
-ghost use Rattle.std.specs.Prelude.{◌+◌, ◌≤◌, length};
+ghost use Rattle.std.specs.Prelude.{length};
 ghost use Rattle.report.specs.Text.{named, heading};
-ghost use Rattle.report.specs.Calls.{Put, Sized};
+ghost use Rattle.report.specs.Calls.{Adds, Room, Sized};
 
-use crate::number::{digits, put_field};
-use crate::put::put_bytes;
+use crate::number::digits;
+use crate::page::Page;
 
-// Puts a name, its number, and the byte after it.
-fn put_named(name: &[u8], n: u64, after: u8, out: &mut [u8], at: usize) -> usize
-    requires { at + length (named name.now n after) ≤ length out.old }
-    ensures { Put (named name.now n after) out.old at out.new result }
-{
-    let next = put_bytes(name, out, at);
-    put_field(n, after, out, next)
+// The three numbers of a run: its words, the number that refused one or 0, and the pixels that passed.
+#[derive(Clone, Copy)]
+pub(crate) struct Heading {
+    pub(crate) words: u64,
+    pub(crate) refusal: u64,
+    pub(crate) passed: u64,
 }
 
-// How many bytes the first line takes: its three names have 21.
-pub(crate) fn heading_size(words: u64, refusal: u64, passed: u64) -> usize
-    ensures { Sized (heading words refusal passed) 84 result }
-{
-    digits(words) + digits(refusal) + digits(passed) + 24
+impl Page<'_> {
+    // Puts a name, its number, and the byte after it.
+    fn put_named(&mut self, name: &[u8], n: u64, after: u8)
+        requires { Room (length (named name.now n after)) self.old }
+        ensures { Adds (named name.now n after) self.old self.new }
+    {
+        self.put_bytes(name);
+        self.put_field(n, after);
+    }
 }
 
-// Puts the first line.
-pub(crate) fn put_heading(words: u64, refusal: u64, passed: u64, out: &mut [u8], at: usize) -> usize
-    requires { at + length (heading words refusal passed) ≤ length out.old }
-    ensures { Put (heading words refusal passed) out.old at out.new result }
-{
-    let first = put_named(b"words ", words, b' ', out, at);
-    let second = put_named(b"refusal ", refusal, b' ', out, first);
-    put_named(b"passed ", passed, b'\n', out, second)
+impl Heading {
+    // How many bytes the first line takes: its three names have 21.
+    pub(crate) fn size(self) -> usize
+        ensures { Sized (heading self.words self.refusal self.passed) 84 result }
+    {
+        digits(self.words) + digits(self.refusal) + digits(self.passed) + 24
+    }
+
+    // Puts the first line.
+    pub(crate) fn put(self, page: &mut Page<'_>)
+        requires { Room (length (heading self.words self.refusal self.passed)) page.old }
+        ensures { Adds (heading self.words self.refusal self.passed) page.old page.new }
+    {
+        page.put_named(b"words ", self.words, b' ');
+        page.put_named(b"refusal ", self.refusal, b' ');
+        page.put_named(b"passed ", self.passed, b'\n');
+    }
 }

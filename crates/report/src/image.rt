@@ -1,13 +1,15 @@
 // The image of a memory: its heading, and its rows from the top down, as many at a time as the lent output is to hold. `most` is the greatest number
 // that a pixel may have.
-ghost use Rattle.std.specs.Prelude.{◌≡◌, suc, ◌+◌, ◌-◌, ◌*◌, ◌≤◌, min, length, ltb};
-ghost use Rattle.report.specs.Image.{image_heading, two_bytes, pixel, pixel_size, numbers, row_bytes, down};
-ghost use Rattle.report.specs.Calls.{Put, Sized, wrote, writing_text};
+ghost use Rattle.std.specs.Prelude.{◌≡◌, ◌+◌, ◌≤◌, length};
+ghost use Rattle.report.specs.Image.{image_heading, pixel, pixel_size, numbers, row_bytes, down};
+ghost use Rattle.report.specs.Calls.{Adds, Room, Sized, wrote, writing_text};
 
-use crate::Written;
-use crate::number::{digits, put_field, put_pair};
+use crate::NoRoom;
+use crate::number::digits;
+use crate::page::Page;
 use crate::place::number_at;
-use crate::put::put_bytes;
+
+// (`most` and `line` stand side by side in all of these, as in the definitions of specs/Image.antt and in the calls that docs/CALLS.md names.)
 
 // How many bytes the heading takes: six, and the digits of the width, the height and the greatest number.
 fn size_of_heading(most: u16, line: u16, rows: usize) -> usize
@@ -17,144 +19,73 @@ fn size_of_heading(most: u16, line: u16, rows: usize) -> usize
 }
 
 // Puts the heading.
-fn put_image_heading(most: u16, line: u16, rows: usize, out: &mut [u8], at: usize) -> usize
-    requires { at + length (image_heading most line rows) ≤ length out.old }
-    ensures { Put (image_heading most line rows) out.old at out.new result }
+fn put_image_heading(most: u16, line: u16, rows: usize, page: &mut Page<'_>)
+    requires { Room (length (image_heading most line rows)) page.old }
+    ensures { Adds (image_heading most line rows) page.old page.new }
 {
-    let first = put_bytes(b"P5\n", out, at);
-    let second = put_pair(line as u64, rows as u64, b'\n', out, first);
-    put_field(most as u64, b'\n', out, second)
+    page.put_bytes(b"P5\n");
+    page.put_pair(line as u64, rows as u64, b'\n');
+    page.put_field(most as u64, b'\n');
 }
 
 // Writes the heading to the front of `out`, or refuses where that is too short.
-pub fn image_heading(most: u16, line: u16, rows: usize, out: &mut [u8]) -> Written
+pub fn image_heading(most: u16, line: u16, rows: usize, out: &mut [u8]) -> Result<usize, NoRoom>
     ensures { wrote result out.new ≡ writing_text (image_heading most line rows) out.old }
 {
     if out.len() < size_of_heading(most, line, rows) {
-        return Written::NoRoom;
+        return Err(NoRoom);
     }
-    let n = put_image_heading(most, line, rows, out, 0);
-    Written::Done(n)
+    let mut page = Page { out, at: 0 };
+    put_image_heading(most, line, rows, &mut page);
+    Ok(page.at)
 }
 
-// Puts a number's two bytes.
-fn put_two_bytes(n: u16, out: &mut [u8], at: usize) -> usize
-    requires { at + 2 ≤ length out.old }
-    ensures { Put (two_bytes n) out.old at out.new result }
+// How many bytes a pixel takes: one where no number is above 255, and else two.
+#[tactic(auto, unfolding(crate::specs::Image::pixel_size))]
+fn pixel_size(most: u16) -> usize
+    ensures { result ≡ pixel_size most }
 {
-    out[at] = (n / 256) as u8;
-    out[at + 1] = (n % 256) as u8;
-    at + 2
+    if most < 256 { 1 } else { 2 }
 }
 
-// Puts a pixel's bytes.
-fn put_pixel(most: u16, n: u16, out: &mut [u8], at: usize) -> usize
-    requires { at + pixel_size most ≤ length out.old }
-    ensures { Put (pixel most n) out.old at out.new result }
+// Puts a pixel's bytes: the last of its number's two, or both.
+fn put_pixel(most: u16, n: u16, page: &mut Page<'_>)
+    requires { Room (pixel_size most) page.old }
+    ensures { Adds (pixel most n) page.old page.new }
 {
-    if most < 256 {
-        out[at] = (n % 256) as u8;
-        return at + 1;
-    }
-    put_two_bytes(n, out, at)
+    let bytes = n.to_be_bytes();
+    page.put_bytes(&bytes[2 - pixel_size(most)..]);
 }
 
 // Puts the numbers of `count` places, from a place on.
-fn put_numbers(
-    most: u16,
-    memory: &[u16],
-    from: usize,
-    count: u16,
-    out: &mut [u8],
-    at: usize,
-) -> usize
+fn put_numbers(most: u16, memory: &[u16], from: usize, count: u16, page: &mut Page<'_>)
     requires from_in_bounds { from ≤ length memory.now }
-    requires count_in_bounds { at + length (numbers most memory.now from count) ≤ length out.old }
-    ensures { Put (numbers most memory.now from count) out.old at out.new result }
+    requires count_in_bounds { Room (length (numbers most memory.now from count)) page.old }
+    ensures { Adds (numbers most memory.now from count) page.old page.new }
 {
-    let mut next = at;
-    let mut k = 0;
-    while k < count as usize {
-        next = put_pixel(most, number_at(memory, from + k), out, next);
-        k += 1;
+    for k in 0..count as usize {
+        put_pixel(most, number_at(memory, from + k), page);
     }
-    next
 }
 
-// Where a row starts, or the memory's end if that comes first: all is 0 from there on, and the product cannot wrap.
-fn row_start(line: u16, y: usize, end: usize) -> usize
-    ensures { result ≡ min (y * line) end }
+// Puts the numbers of a row. From the memory's end on all is 0, so that it starts there at the latest.
+fn put_row(most: u16, line: u16, y: usize, memory: &[u16], page: &mut Page<'_>)
+    requires { Room (length (row_bytes most line memory.now y)) page.old }
+    ensures { Adds (row_bytes most line memory.now y) page.old page.new }
 {
-    let wide = line as usize;
-    if wide == 0 {
-        return 0;
-    }
-    if end / wide < y {
-        return end;
-    }
-    y * wide
+    let start = y.saturating_mul(line as usize).min(memory.len());
+    put_numbers(most, memory, start, line, page);
 }
 
-// Puts the numbers of a row.
-fn put_row(most: u16, line: u16, y: usize, memory: &[u16], out: &mut [u8], at: usize) -> usize
-    requires { at + length (row_bytes most line memory.now y) ≤ length out.old }
-    ensures { Put (row_bytes most line memory.now y) out.old at out.new result }
+// Puts the rows under row `below`, downward; where there are not so many, the lowest once more for each.
+fn put_rows(most: u16, line: u16, below: usize, count: usize, memory: &[u16], page: &mut Page<'_>)
+    requires { Room (length (down most line memory.now below count)) page.old }
+    ensures { Adds (down most line memory.now below count) page.old page.new }
 {
-    let start = row_start(line, y, memory.len());
-    put_numbers(most, memory, start, line, out, at)
-}
-
-// The row that has k rows between it and row `below`; the lowest where there are not so many.
-fn row_under(below: usize, k: usize) -> usize
-    ensures { result ≡ below - suc k }
-{
-    if k < below {
-        return below - k - 1;
+    for k in 0..count {
+        let y = below.saturating_sub(k + 1);
+        put_row(most, line, y, memory, page);
     }
-    0
-}
-
-// Puts the rows under row `below`, downward.
-fn put_rows(
-    most: u16,
-    line: u16,
-    below: usize,
-    count: usize,
-    memory: &[u16],
-    out: &mut [u8],
-    at: usize,
-) -> usize
-    requires { at + length (down most line memory.now below count) ≤ length out.old }
-    ensures { Put (down most line memory.now below count) out.old at out.new result }
-{
-    let mut next = at;
-    let mut k = 0;
-    while k < count {
-        next = put_row(most, line, row_under(below, k), memory, out, next);
-        k += 1;
-    }
-    next
-}
-
-// How many bytes a row takes.
-fn row_size(most: u16, line: u16) -> usize
-    ensures { result ≡ pixel_size most * line }
-{
-    if most < 256 {
-        return line as usize;
-    }
-    2 * (line as usize)
-}
-
-// Whether so many rows take more bytes than the room. A division asks it, since the product might wrap.
-fn rows_longer(most: u16, line: u16, count: usize, room: usize) -> bool
-    ensures { result ≡ ltb room (count * (pixel_size most * line)) }
-{
-    let row = row_size(most, line);
-    if row == 0 {
-        return false;
-    }
-    room / row < count
 }
 
 // Writes the `count` rows under row `below`, the topmost first, to the front of `out`, or refuses where that is too short.
@@ -165,12 +96,14 @@ pub fn image_rows(
     count: usize,
     memory: &[u16],
     out: &mut [u8],
-) -> Written
+) -> Result<usize, NoRoom>
     ensures { wrote result out.new ≡ writing_text (down most line memory.now below count) out.old }
 {
-    if rows_longer(most, line, count, out.len()) {
-        return Written::NoRoom;
+    let row_size = pixel_size(most) * line as usize;
+    if out.len() < count.saturating_mul(row_size) {
+        return Err(NoRoom);
     }
-    let n = put_rows(most, line, below, count, memory, out, 0);
-    Written::Done(n)
+    let mut page = Page { out, at: 0 };
+    put_rows(most, line, below, count, memory, &mut page);
+    Ok(page.at)
 }

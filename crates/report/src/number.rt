@@ -1,16 +1,23 @@
-// Numbers in decimal, and the byte after each.
-ghost use Rattle.std.specs.Prelude.{◌≡◌, ◌+◌, ◌%◌, ◌≤◌, length};
-ghost use Rattle.report.specs.Text.{decimal, field, pair};
-ghost use Rattle.report.specs.Calls.{Put, Sized};
+// Numbers in digits, and the byte after each.
+ghost use Rattle.std.specs.Prelude.{◌≡◌, ◌+◌, ◌<◌, ◌≤◌, length};
+ghost use Rattle.report.specs.Text.{glyph, last_digits, decimal, field, pair};
+ghost use Rattle.report.specs.Calls.{Adds, Room, Sized};
 
-// The last digit of a number, in ASCII.
-fn digit(n: u64) -> u8
-    ensures { result ≡ 48 + n % 10 }
+use crate::page::Page;
+
+// The character of a digit.
+#[tactic(auto, unfolding(crate::specs::Text::glyph))]
+fn character(digit: u64) -> u8
+    requires { digit < 16 }
+    ensures { result ≡ glyph digit }
 {
-    48 + (n % 10) as u8
+    if digit < 10 {
+        return b'0' + digit as u8;
+    }
+    b'A' - 10 + digit as u8
 }
 
-// How many digits a number has.
+// How many digits a number has. No range counts them: the loop ends with what is left of the number.
 pub(crate) fn digits(n: u64) -> usize
     ensures { Sized (decimal n) 20 result }
 {
@@ -23,38 +30,37 @@ pub(crate) fn digits(n: u64) -> usize
     count
 }
 
-// Puts a number at a place, and tells the place after it. The digits come from the last to the first, so that one division finds each.
-fn put_number(n: u64, out: &mut [u8], at: usize) -> usize
-    requires { at + length (decimal n) ≤ length out.old }
-    ensures { Put (decimal n) out.old at out.new result }
-{
-    let next = at + digits(n);
-    let mut last = next - 1;
-    let mut rest = n;
-    while 10 <= rest {
-        out[last] = digit(rest);
-        rest /= 10;
-        last -= 1;
+impl Page<'_> {
+    // Puts the last `count` digits of a number. They come from the last to the first, so that one division finds each.
+    pub fn put_digits(&mut self, n: u64, base: u64, count: usize)
+        requires base_nonzero { 0 < base }
+        requires base_bound { base ≤ 16 }
+        requires count_in_bounds { Room count self.old }
+        ensures { Adds (last_digits base count n) self.old self.new }
+    {
+        let mut rest = n;
+        for k in (0..count).rev() {
+            self.out[self.at + k] = character(rest % base);
+            rest /= base;
+        }
+        self.at += count;
     }
-    out[last] = digit(rest);
-    next
-}
 
-// Puts a number and the byte after it.
-pub(crate) fn put_field(n: u64, after: u8, out: &mut [u8], at: usize) -> usize
-    requires { at + length (field n after) ≤ length out.old }
-    ensures { Put (field n after) out.old at out.new result }
-{
-    let next = put_number(n, out, at);
-    out[next] = after;
-    next + 1
-}
+    // Puts a number and the byte after it.
+    pub(crate) fn put_field(&mut self, n: u64, after: u8)
+        requires { Room (length (field n after)) self.old }
+        ensures { Adds (field n after) self.old self.new }
+    {
+        self.put_digits(n, 10, digits(n));
+        self.put_byte(after);
+    }
 
-// Puts two numbers, a space between them, and the byte after them.
-pub(crate) fn put_pair(m: u64, n: u64, after: u8, out: &mut [u8], at: usize) -> usize
-    requires { at + length (pair m n after) ≤ length out.old }
-    ensures { Put (pair m n after) out.old at out.new result }
-{
-    let next = put_field(m, b' ', out, at);
-    put_field(n, after, out, next)
+    // Puts two numbers, a space between them, and the byte after them.
+    pub(crate) fn put_pair(&mut self, m: u64, n: u64, after: u8)
+        requires { Room (length (pair m n after)) self.old }
+        ensures { Adds (pair m n after) self.old self.new }
+    {
+        self.put_field(m, b' ');
+        self.put_field(n, after);
+    }
 }

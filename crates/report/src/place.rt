@@ -1,18 +1,25 @@
 // The places of a picture that show: a line for each whose I is not 0.
-ghost use Rattle.std.specs.Prelude.{◌≡◌, ◌+◌, ◌≤◌, length, get_or};
-ghost use Rattle.report.specs.Text.{column_of, row_of, place_line};
-ghost use Rattle.report.specs.Calls.{Put, Sized};
+ghost use Rattle.std.specs.Prelude.{◌≡◌, length, get_or, eqb, not};
+ghost use Rattle.report.specs.Text.{column_of, row_of, place_of, shown};
+ghost use Rattle.report.specs.Calls.{Adds, Room, Sized};
 
-use crate::number::{digits, put_pair};
+use crate::number::digits;
+use crate::page::Page;
+
+// A place of a picture, and its two numbers.
+#[derive(Clone, Copy)]
+pub(crate) struct Place {
+    column: u64,
+    row: u64,
+    i: u16,
+    z: u16,
+}
 
 // The number at a place of a memory; 0 past its end.
 pub(crate) fn number_at(memory: &[u16], place: usize) -> u16
     ensures { result ≡ get_or memory.now place 0 }
 {
-    if place < memory.len() {
-        return memory[place];
-    }
-    0
+    memory.get(place).copied().unwrap_or(0)
 }
 
 // The column of a place.
@@ -35,27 +42,45 @@ fn row(line: u16, place: usize) -> u64
     (place / (line as usize)) as u64
 }
 
-// How many bytes the line of a place takes: its four numbers, and a byte after each.
-pub(crate) fn place_size(line: u16, place: usize, i: u16, z: u16) -> usize
-    ensures { Sized (place_line line place i z) 84 result }
-{
-    if i == 0 {
-        return 0;
+impl Place {
+    // The place with an index, where these numbers are.
+    pub(crate) fn at(line: u16, place: usize, i: u16, z: u16) -> Place
+        ensures { result ≡ place_of line place i z }
+    {
+        Place {
+            column: column(line, place),
+            row: row(line, place),
+            i,
+            z,
+        }
     }
-    let first = digits(column(line, place)) + digits(row(line, place));
-    first + digits(i as u64) + digits(z as u64) + 4
-}
 
-// Puts the line of a place, if it has one.
-pub(crate) fn put_place(line: u16, place: usize, i: u16, z: u16, out: &mut [u8], at: usize) -> usize
-    requires { at + length (place_line line place i z) ≤ length out.old }
-    ensures { Put (place_line line place i z) out.old at out.new result }
-{
-    if i != 0 {
-        let x = column(line, place);
-        let y = row(line, place);
-        let next = put_pair(x, y, b' ', out, at);
-        return put_pair(i as u64, z as u64, b'\n', out, next);
+    // Whether it has a line.
+    fn shows(self) -> bool
+        ensures { result ≡ not (eqb self.i 0) }
+    {
+        self.i != 0
     }
-    at
+
+    // How many bytes its line takes: its four numbers, and a byte after each.
+    pub(crate) fn size(self) -> usize
+        ensures { Sized (shown self) 84 result }
+    {
+        if !self.shows() {
+            return 0;
+        }
+        let first = digits(self.column) + digits(self.row);
+        first + digits(self.i as u64) + digits(self.z as u64) + 4
+    }
+
+    // Puts its line, if it has one.
+    pub(crate) fn put(self, page: &mut Page<'_>)
+        requires { Room (length (shown self)) page.old }
+        ensures { Adds (shown self) page.old page.new }
+    {
+        if self.shows() {
+            page.put_pair(self.column, self.row, b' ');
+            page.put_pair(self.i as u64, self.z as u64, b'\n');
+        }
+    }
 }

@@ -1,55 +1,37 @@
 // The whole text: first whether it fits, so that a short buffer stays untouched, and then its bytes.
-ghost use Rattle.std.specs.Prelude.{◌≡◌, ◌+◌, ◌≤◌, length, ltb};
+ghost use Rattle.std.specs.Prelude.{◌≡◌, length, min};
 ghost use Rattle.report.specs.Text.{lines, report};
-ghost use Rattle.report.specs.Calls.{Put, wrote, writing};
+ghost use Rattle.report.specs.Calls.{Adds, Room, wrote, writing};
 
-use crate::Written;
-use crate::heading::{heading_size, put_heading};
-use crate::place::{number_at, place_size, put_place};
+use crate::NoRoom;
+use crate::heading::Heading;
+use crate::page::Page;
+use crate::place::{Place, number_at};
 
-// Whether the text is longer than the room. The size never grows past the room, so no sum of sizes can wrap.
-fn is_longer(
-    words: u64,
-    refusal: u64,
-    passed: u64,
-    line: u16,
-    im: &[u16],
-    zm: &[u16],
-    room: usize,
-) -> bool
-    ensures { result ≡ ltb room (length (report words refusal passed line im.now zm.now)) }
+// How many bytes the text takes, or as many as no buffer has.
+fn size_of(heading: Heading, line: u16, im: &[u16], zm: &[u16]) -> usize
+    ensures { result ≡ min (length (report heading.words heading.refusal heading.passed line im.now zm.now)) 18446744073709551615 }
 {
-    let mut size = heading_size(words, refusal, passed);
-    if room < size {
-        return true;
+    let mut size = heading.size();
+    for (place, i) in im.iter().enumerate() {
+        let shown = Place::at(line, place, *i, number_at(zm, place));
+        size = size.saturating_add(shown.size());
     }
-    let mut place = 0;
-    while place < im.len() {
-        let more = place_size(line, place, im[place], number_at(zm, place));
-        if room - size < more {
-            return true;
-        }
-        size += more;
-        place += 1;
-    }
-    false
+    size
 }
 
-// Puts the lines of all places, and tells the place after them.
-fn put_lines(line: u16, im: &[u16], zm: &[u16], out: &mut [u8], at: usize) -> usize
-    requires { at + length (lines line im.now zm.now (length im.now)) ≤ length out.old }
-    ensures { Put (lines line im.now zm.now (length im.now)) out.old at out.new result }
+// Puts the lines of all places.
+fn put_lines(line: u16, im: &[u16], zm: &[u16], page: &mut Page<'_>)
+    requires { Room (length (lines line im.now zm.now (length im.now))) page.old }
+    ensures { Adds (lines line im.now zm.now (length im.now)) page.old page.new }
 {
-    let mut next = at;
-    let mut place = 0;
-    while place < im.len() {
-        next = put_place(line, place, im[place], number_at(zm, place), out, next);
-        place += 1;
+    for (place, i) in im.iter().enumerate() {
+        Place::at(line, place, *i, number_at(zm, place)).put(page);
     }
-    next
 }
 
-// Writes the text to the front of `out`, or refuses where that is too short.
+// Writes the text to the front of `out`, or refuses where that is too short. (The numbers stand side by side, as in `writing` and in docs/CALLS.md: `Heading` has three of them
+// inside.)
 pub fn write(
     words: u64,
     refusal: u64,
@@ -58,13 +40,19 @@ pub fn write(
     im: &[u16],
     zm: &[u16],
     out: &mut [u8],
-) -> Written
+) -> Result<usize, NoRoom>
     ensures { wrote result out.new ≡ writing words refusal passed line im.now zm.now out.old }
 {
-    if is_longer(words, refusal, passed, line, im, zm, out.len()) {
-        return Written::NoRoom;
+    let heading = Heading {
+        words,
+        refusal,
+        passed,
+    };
+    if out.len() < size_of(heading, line, im, zm) {
+        return Err(NoRoom);
     }
-    let first = put_heading(words, refusal, passed, out, 0);
-    let n = put_lines(line, im, zm, out, first);
-    Written::Done(n)
+    let mut page = Page { out, at: 0 };
+    heading.put(&mut page);
+    put_lines(line, im, zm, &mut page);
+    Ok(page.at)
 }

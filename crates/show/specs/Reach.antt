@@ -1,5 +1,5 @@
 -- How high figures reach: a vertex may lie above the rows that are in use, so that the picture misses something.
-use Rattle.std.specs.Prelude.{ℕ, zero, suc, ◌+◌, max, Bool, cond, not, ◌&&◌, List, ltb}
+use Rattle.std.specs.Prelude.{ℕ, zero, suc, ◌+◌, max, Bool, cond, not, ◌&&◌, List, ltb, Option, None, Some}
 use Rattle.picture.specs.Place.{rows_of}
 use Rattle.stream.specs.Format.{word_at}
 use Rattle.registers.specs.declared.word.Word.{Word}
@@ -31,12 +31,17 @@ is_missed rows reach top = ltb rows reach && not (ltb top rows)
 abbrev pub highest : ℕ → ℕ → Above
 highest height rows = record { height = height; rows = rows }
 
+-- the rows of the highest figure so far; of none, 0
+abbrev pub risen : Option Above → ℕ
+risen None = 0
+risen (Some a) = a.height
+
 -- a figure of which rows are missed, and that is higher than any before it, is the highest
-unfoldable pub raised : Above → Bool → ℕ → ℕ → Above
-raised a missed height rows = cond (missed && ltb a.height height) (highest height rows) a
+unfoldable pub raised : Option Above → Bool → ℕ → ℕ → Option Above
+raised a missed height rows = cond (missed && ltb (risen a) height) (Some (highest height rows)) a
 
 -- the same of what a word completes, where so many rows are in use
-abbrev pub raised_by : Came → Completed → ℕ → Above
+abbrev pub raised_by : Came → Completed → ℕ → Option Above
 raised_by s f rows = raised s.above (is_missed rows (reach_of f) s.registers.window.top) (height_of f) rows
 
 -- one word more, over memories of so many places
@@ -49,5 +54,5 @@ onward places s w =
 
 -- the first n words of a stream, from reset
 unfoldable pub reached : ℕ → List ℕ → ℕ → Came
-reached places bytes zero = record { registers = reset_of; above = highest 0 0 }
+reached places bytes zero = record { registers = reset_of; above = None }
 reached places bytes (suc n) = onward places (reached places bytes n) (word_of (word_at bytes n))

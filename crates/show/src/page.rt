@@ -4,8 +4,7 @@ ghost use Rattle.report.specs.Image.{image_heading, down};
 ghost use Rattle.report.specs.Calls.{Stands};
 ghost use Rattle.show.specs.Show.{rows_holding, rows_shown, page_rows};
 
-use ground::least;
-use report::{Written, drawn_places, image_heading, image_rows};
+use report::{drawn_places, image_heading, image_rows};
 
 // How many whole rows fit so many places; none without a line length.
 pub(crate) fn whole_rows(line: u16, places: usize) -> usize
@@ -17,7 +16,8 @@ pub(crate) fn whole_rows(line: u16, places: usize) -> usize
     places / (line as usize)
 }
 
-// How many rows hold so many places.
+// How many rows hold so many places. (That a row has a place is asked for here and in the calls after it, each by itself: a struct for such a length would be asked for it at
+// its making alone, and taken apart in each of these.)
 fn rows_holding(line: u16, n: usize) -> usize
     requires { 0 < line }
     ensures { result ≡ rows_holding line n }
@@ -45,18 +45,14 @@ pub(crate) fn page_rows(line: u16, below: usize) -> usize
     requires { 0 < line }
     ensures { result ≡ page_rows line below }
 {
-    least(below, 131072 / (2 * (line as usize)))
+    below.min(131072 / (2 * (line as usize)))
 }
 
-// The heading on a page. It always fits, so that the last case never comes.
+// The heading on a page. It always fits.
 pub(crate) fn put_heading(most: u16, line: u16, rows: usize, page: &mut [u8; 131072]) -> usize
     ensures { Stands (image_heading most line rows) page.old page.new result }
 {
-    let answer = image_heading(most, line, rows, page);
-    match answer {
-        Written::Done(n) => n,
-        Written::NoRoom => 0,
-    }
+    image_heading(most, line, rows, page).unwrap()
 }
 
 // The next rows of a memory on a page, no more than fit.
@@ -71,9 +67,5 @@ pub(crate) fn put_page(
     requires { count * (2 * line) ≤ 131072 }
     ensures { Stands (down most line memory.now below count) page.old page.new result }
 {
-    let answer = image_rows(most, line, below, count, memory, page);
-    match answer {
-        Written::Done(n) => n,
-        Written::NoRoom => 0,
-    }
+    image_rows(most, line, below, count, memory, page).unwrap()
 }

@@ -1,17 +1,16 @@
 // How high the figures of a recording reach. It goes over the words with the registers alone: what follows a word sees no memory.
-ghost use Rattle.std.specs.Prelude.{◌≡◌};
+ghost use Rattle.std.specs.Prelude.{◌≡◌, ◌<◌, IfSome};
 ghost use Rattle.stream.specs.Format.{word_at};
 ghost use Rattle.registers.specs.Word.{word_of};
 ghost use Rattle.registers.specs.Next.{record_after};
-ghost use Rattle.show.specs.Reach.{height_of, reach_of, is_missed, raised, onward, reached};
+ghost use Rattle.show.specs.Reach.{height_of, reach_of, is_missed, risen, raised, onward, reached};
 
 use crate::{Above, Came};
 use chip::figure::completed;
-use ground::most;
 use picture::place::rows_of;
 use registers::Registers;
 use registers::shape::Completed;
-use registers::word::{Word, decoded};
+use registers::word::{Word, word_of};
 use stream::read::word;
 
 // The rows up to a figure's topmost vertex.
@@ -20,19 +19,19 @@ fn height_of(figure: Completed) -> usize
 {
     match figure {
         Completed::Nothing => 0,
-        Completed::Triangle(a, b, c) => most(most(a.y as usize, b.y as usize), c.y as usize) + 1,
-        Completed::Segment(a, b) => most(a.y as usize, b.y as usize) + 1,
+        Completed::Triangle(a, b, c) => a.y.max(b.y).max(c.y) as usize + 1,
+        Completed::Segment(a, b) => a.y.max(b.y) as usize + 1,
     }
 }
 
-// The rows that its pixels may lie in.
+// The rows that its pixels may lie in. It parts from `height_of` at triangles alone, and stands beside it: told by it, it would take off the row that was added.
 fn reach_of(figure: Completed) -> usize
     ensures { result ≡ reach_of figure }
 {
     match figure {
         Completed::Nothing => 0,
-        Completed::Triangle(a, b, c) => most(most(a.y as usize, b.y as usize), c.y as usize),
-        Completed::Segment(a, b) => most(a.y as usize, b.y as usize) + 1,
+        Completed::Triangle(a, b, c) => a.y.max(b.y).max(c.y) as usize,
+        Completed::Segment(a, b) => a.y.max(b.y) as usize + 1,
     }
 }
 
@@ -53,25 +52,27 @@ fn next(r: Registers, word: Word) -> Registers
         Word::Parm(v) => r.parm(v),
         Word::At(c, n) => r.coordinate(c, n),
         Word::Img(d) => r.img(d),
-        Word::Ptrn(v) => r.transferred(),
-        // these are refused
-        Word::Reserved => r,
-        Word::Unmodelled => r,
-        Word::Unknown => r,
+        Word::Ptrn(_) => r.transferred(),
+        // These are refused, so that none of them comes here.
+        Word::Reserved | Word::Unmodelled | Word::Unknown => r,
     }
 }
 
-// The higher of the highest figure so far and one more.
-fn higher(a: Above, missed: bool, height: usize, rows: usize) -> Above
-    ensures { result ≡ raised a missed height rows }
+// The rows of the highest figure so far; of none, 0.
+fn risen(above: Option<Above>) -> usize
+    ensures { result ≡ risen above }
 {
-    if missed & (a.height < height) {
-        return Above {
-            height: height,
-            rows: rows,
-        };
+    above.map_or(0, |above| above.height)
+}
+
+// The higher of the highest figure so far and one more.
+fn higher(above: Option<Above>, missed: bool, height: usize, rows: usize) -> Option<Above>
+    ensures { result ≡ raised above missed height rows }
+{
+    if missed & (risen(above) < height) {
+        return Some(Above { height, rows });
     }
-    a
+    above
 }
 
 // One word more.
@@ -82,36 +83,31 @@ fn taken(places: usize, s: Came, word: Word) -> Came
     let rows = rows_of(r.frame, places, places);
     let figure = completed(r, word);
     let missed = is_missed(rows, reach_of(figure), r.window.top);
-    let above = higher(s.above, missed, height_of(figure), rows);
-    let after = next(r, word);
     Came {
-        registers: after,
-        above: above,
+        registers: next(r, word),
+        above: higher(s.above, missed, height_of(figure), rows),
     }
 }
 
 // The word at place k of a stream, taken.
+#[tactic(auto, using(stream::proofs::Round::word_fits))]
 fn taken_at(places: usize, s: Came, bytes: &[u8], k: usize) -> Came
     ensures { result ≡ onward places s (word_of (word_at bytes.now k)) }
 {
-    let w = word(bytes, k);
-    taken(places, s, decoded((w / 65536) as u8, (w % 65536) as u16))
+    taken(places, s, word_of(word(bytes, k)))
 }
 
 // The highest figure of a stream's first words of which rows are missed, over memories of so many places.
-pub(crate) fn reach(places: usize, bytes: &[u8], count: usize) -> Above
-    ensures { result ≡ (reached places bytes.now count).above }
+pub(crate) fn reach(places: usize, bytes: &[u8], count: usize) -> Option<Above>
+    ensures so_far { result ≡ (reached places bytes.now count).above }
+    ensures high { IfSome result (λ above. 0 < above.height) }
 {
-    let none = Above { height: 0, rows: 0 };
-    let start = Registers::reset();
     let mut s = Came {
-        registers: start,
-        above: none,
+        registers: Registers::reset(),
+        above: None,
     };
-    let mut k = 0;
-    while k < count {
+    for k in 0..count {
         s = taken_at(places, s, bytes, k);
-        k += 1;
     }
     s.above
 }

@@ -1,6 +1,6 @@
 -- Whether a number below a bound, or a pixel of a square, passes a test: what such an answer gives, and how it is had. Assumes nothing.
 use mathlib.Core.Path.{◌≡◌, refl, sym}
-use mathlib.Core.Bool.{Bool, true, false, ◌||◌, or-true, true≢false}
+use mathlib.Core.Bool.{Bool, true, false, ◌&&◌, ◌||◌, or-true, true≢false}
 use Prim.Native.Nat.{ℕ, zero, suc, ◌+◌, ◌≤◌, ◌<◌}
 use native.Mathlib.Nat.{eq-or-lt_of_le}
 use native.Mathlib.Numerals.{add-one}
@@ -64,3 +64,13 @@ module _ (marked : ℕ → ℕ → Bool) (side x y : ℕ) where
       let row = any_found side (λ j. any_below side (λ i. marked (x + i) (y + j))) e in
       let pixel = any_found side (λ i. marked (x + i) (y + row.0)) row.2 in
       (pixel.0, row.0, pixel.1, row.1, pixel.2)
+
+-- of two tests that do not hold both, one fails
+pub one_fails : {P : Type 0} (a b : Bool) → a && b ≡ false → (a ≡ false → P) → (b ≡ false → P) → P
+one_fails false b e f g = f refl
+one_fails true b e f g = g e
+
+-- a test and two more, one after the other or the two first
+pub two_more : (a b c : Bool) → a && (b && c) ≡ a && b && c
+two_more true b c = refl
+two_more false b c = refl

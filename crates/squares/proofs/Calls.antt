@@ -5,15 +5,16 @@ use mathlib.Core.List.{List, map}
 use Prim.Native.Nat.{ℕ, ◌+◌, ◌*◌, ◌^◌, ◌≤◌, ◌<◌}
 use native.Mathlib.Omega.{arith}
 use borrow.Author.Tests.{ltb-true, leb-true, eqb-true, eqb-false, lt-ltb, le-leb, eq-eqb, ne_eqb}
-use lib.ListN.{length, take, drop}
-use lib.Seq.{take-append_seam}
+use lib.ListN.{length}
 use lib.Dec.{ltb, leb, eqb}
+use Rattle.ground.proofs.Numbers.{number_positive}
 use Rattle.ground.proofs.Truth.{both}
 use Rattle.stream.specs.Calls.{no_room, over, Answer, answer}
 use Rattle.stream.proofs.Calls.{no_room_lem, room}
-use Rattle.report.specs.Calls.{Put}
-use Rattle.report.proofs.Putting.{put_over}
-use Rattle.squares.specs.Squares.{Corner, corner_of, side_of}
+use Rattle.ground.specs.declared.Refusal.{Refusal}
+use Rattle.ground.specs.Refusal.{number}
+use Rattle.squares.specs.declared.size.Corner.{Corner}
+use Rattle.squares.specs.Squares.{corner_of, side_of}
 use Rattle.squares.specs.Copy.{copy_squares}
 use Rattle.squares.specs.Calls.{good_size, checked, are_squares, answered, listed, listing, copying}
 
@@ -75,16 +76,6 @@ module _ (n m width rows : ℕ) where
       go true false z = refl
       go false b z = refl
 
-  -- the number of what is wrong is at most 9
-  pub flaw_small : checked n m width rows 0 ≤ 9
-  unfolding checked
-  flaw_small = go (eqb n m) (good_size n width rows)
-    where
-      go : (a b : Bool) → cond a (cond b 0 9) 2 ≤ 9
-      go true true = omega arith
-      go true false = omega arith
-      go false b = omega arith
-
 -- ---- answers
 
 module _ (value : ℕ) (result lent : List ℕ) where
@@ -117,13 +108,13 @@ five = refl
 
 module _ (old new : List ℕ) (width rows : ℕ) (out : List ℕ) where
   -- listing tells 2 ^ 63 plus the number of what is wrong with the pictures, and leaves the output as it was
-  pub list_flawed : {number : ℕ} → number ≡ checked (length old) (length new) width rows 0 → (number ≡ 0 → ⊥)
-      → answer (2 ^ 63 + number) out ≡ listing old new width rows out
+  pub list_flawed : (refusal : Refusal) → number refusal ≡ checked (length old) (length new) width rows 0
+      → answer (2 ^ 63 + number refusal) out ≡ listing old new width rows out
   unfolding listing
-  list_flawed {number} e h =
+  list_flawed refusal e =
       let list = listed old new width rows in
-      let f = flaw_told (length old) (length new) width rows (no_room list out) (λ z. h (e ∙ z)) in
-      rw (f, ← e) (refused (length list) (over list out) out number h)
+      let f = flaw_told (length old) (length new) width rows (no_room list out) (λ z. omega (arith, number_positive refusal, e, z)) in
+      rw (f, ← e) (refused (length list) (over list out) out (number refusal) (λ z. omega (arith, number_positive refusal, z)))
 
   module _ (good : checked (length old) (length new) width rows 0 ≡ 0) where
     -- where the output has fewer places than there are squares, listing tells 2 ^ 63 + 13 and leaves the output as it was
@@ -134,18 +125,13 @@ module _ (old new : List ℕ) (width rows : ℕ) (out : List ℕ) where
         rw (good_told (length old) (length new) width rows (no_room list out) good, no_room_lem list out h)
         (refused (length list) (over list out) out 13 (λ z. omega arith))
 
-    -- the list, found in a buffer with room enough, and its front copied out
-    pub list_done : {buffer found left : List ℕ} {n : ℕ} → length (listed old new width rows) ≤ length buffer
-        → Put (listed old new width rows) buffer 0 found n → n ≤ length out → left ≡ over (take n found) out
-        → answer n left ≡ listing old new width rows out
-    unfolding listing over
-    list_done {buffer} {found} {left} {n} fits p h e =
+    -- where it has as many, the list over its front, and how many squares there are
+    pub list_done : {left : List ℕ} → length (listed old new width rows) ≤ length out → left ≡ over (listed old new width rows) out
+        → answer (length (listed old new width rows)) left ≡ listing old new width rows out
+    unfolding listing
+    list_done fits e =
         let list = listed old new width rows in
-        let q = put_over fits p in
-        let t : take n found ≡ list = rw (q.0, q.1) (take-append_seam list (drop (length list) buffer)) in
-        let r : length list ≤ length out = omega (arith, q.0) in
-        rw (good_told (length old) (length new) width rows (no_room list out) good, room list out r)
-        (rw (e, t, q.0) (done (length list) (over list out) out))
+        rw (good_told (length old) (length new) width rows (no_room list out) good, room list out fits) (rw e (done (length list) (over list out) out))
 
   -- an answer below 2 ^ 63: the size is allowed, and the whole list is written
   pub listed_whole : (listing old new width rows out).told < 2 ^ 63
@@ -164,12 +150,12 @@ module _ (list new : List ℕ) (width rows : ℕ) (view : List ℕ) where
   corners = map corner_of list
 
   -- copying tells 2 ^ 63 plus the number of what is wrong with the pictures, and leaves the view as it was
-  pub copy_flawed : {number : ℕ} → number ≡ checked (length view) (length new) width rows 0 → (number ≡ 0 → ⊥)
-      → answer (2 ^ 63 + number) view ≡ copying list new width rows view
+  pub copy_flawed : (refusal : Refusal) → number refusal ≡ checked (length view) (length new) width rows 0
+      → answer (2 ^ 63 + number refusal) view ≡ copying list new width rows view
   unfolding copying
-  copy_flawed {number} e h =
-      let f = flaw_told (length view) (length new) width rows (cond (are_squares width rows corners) 0 9) (λ z. h (e ∙ z)) in
-      rw (f, ← e) (refused (length list) (copy_squares width new view corners) view number h)
+  copy_flawed refusal e =
+      let f = flaw_told (length view) (length new) width rows (cond (are_squares width rows corners) 0 9) (λ z. omega (arith, number_positive refusal, e, z)) in
+      rw (f, ← e) (refused (length list) (copy_squares width new view corners) view (number refusal) (λ z. omega (arith, number_positive refusal, z)))
 
   module _ (good : checked (length view) (length new) width rows 0 ≡ 0) where
     -- where one of the list is no square of the picture, copying tells 2 ^ 63 + 9 and leaves the view as it was

@@ -2,25 +2,16 @@
 use mathlib.Core.Path.{◌≡◌, refl}
 use mathlib.Core.Bool.{Bool, true, false, ◌&&◌, ◌||◌}
 use mathlib.Core.List.{List}
-use Prim.Native.Nat.{ℕ, suc, ◌+◌, ◌*◌, ◌-◌, ◌≤◌, ◌<◌, min}
-use native.Mathlib.Nat.{add_assoc, mul_comm, suc-mul, mul-le-mul_right}
+use Prim.Native.Nat.{ℕ, ◌+◌, ◌*◌, ◌-◌, ◌≤◌, ◌<◌, min}
+use native.Mathlib.Nat.{add_assoc}
 use native.Mathlib.Numerals.{add-one}
 use native.Mathlib.Omega.{arith}
-use borrow.Author.Tests.{lt-ltb, ltb-true}
+use borrow.Author.Tests.{lt-ltb, ltb-true, ltb-false}
 use lib.Dec.{ltb}
 use Rattle.ground.proofs.Truth.{both, same_test}
 use Rattle.squares.specs.Squares.{any_below, any_in}
 use Rattle.squares.specs.Change.{unlike, run_differs, differs}
-use Rattle.squares.proofs.Any.{any_here, any_found, fails, in_here, in_found}
-
--- a row of the picture ends where the next begins
-pub row_ends : (width rows y : ℕ) → y < rows → y * width + width ≤ width * rows
-row_ends width rows y h = omega (arith, mul_comm width rows, suc-mul y width, mul-le-mul_right {m = suc y} {n = rows} width h)
-
--- the columns and rows of a square of side 8 that are inside the picture
-pub record Ends (width rows x y columns height : ℕ) : Type 0 where
-  pub column : columns ≡ min 8 (width - x)
-  pub row : height ≡ min 8 (rows - y)
+use Rattle.squares.proofs.Any.{any_here, any_found, fails, in_here, in_found, one_fails}
 
 -- ---- a run of places
 
@@ -65,6 +56,10 @@ module _ (old new : List ℕ) (width rows : ℕ) where
         fails _ (λ e.
         let f = in_found (differs old new width rows) side x y e in
         omega (arith, (differs_parts (x + f.0) (y + f.1) f.4).1))
+
+    -- so has a square whose corner is outside
+    pub outside_alike : ltb x width && ltb y rows ≡ false → any_in (differs old new width rows) side x y ≡ false
+    outside_alike e = one_fails (ltb x width) (ltb y rows) e (λ t. right_of (ltb-false x width t)) (λ t. above (ltb-false y rows t))
 
   module _ (x y : ℕ) where
     -- the part of row j of a square of side 8 that is inside the picture has a difference

@@ -9,7 +9,7 @@ use lib.ListN.{length, get_or}
 use lib.Seq.{ext_get_or}
 use lib.Dec.{eqb}
 use borrow.Author.Tests.{eqb-true, eqb-false}
-use Rattle.squares.specs.Squares.{Corner}
+use Rattle.squares.specs.declared.size.Corner.{Corner}
 use Rattle.squares.specs.Copy.{holds, holders, copy_square, copy_squares}
 use Rattle.squares.proofs.Overlay.{same, length_overlay, overlay_at}
 

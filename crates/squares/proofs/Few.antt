@@ -7,7 +7,8 @@ use native.Mathlib.Nat.{mul_assoc, mul_left_comm}
 use native.Mathlib.Omega.{arith}
 use lib.ListN.{length, length-append, length-map}
 use Rattle.ground.proofs.Truth.{either}
-use Rattle.squares.specs.Squares.{any_in, Corner, side_of, kept, squares, numbers, number_of}
+use Rattle.squares.specs.declared.size.Corner.{Corner}
+use Rattle.squares.specs.Squares.{any_in, side_of, kept, squares, numbers, number_of}
 
 module _ (marked : ℕ → ℕ → Bool) where
   kept_area : (area side x y : ℕ) (l : List Corner) → 64 * length l ≤ area → 64 * length (kept marked side x y l) ≤ area

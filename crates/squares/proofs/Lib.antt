@@ -18,7 +18,7 @@ pub mod Once
 pub mod Copies
 -- copying a square goes row by row, each cut off where the picture ends
 pub mod Rows
--- listed squares are taken one by one
+-- a test of each listed number is a test of each square
 pub mod Lists
 -- what a viewer may rely on
 pub mod Viewer

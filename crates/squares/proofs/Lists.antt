@@ -1,13 +1,7 @@
--- Listed squares taken one by one. Assumes nothing.
-use mathlib.Core.Path.{◌≡◌, refl}
-use mathlib.Core.Bool.{true, ◌&&◌}
-use mathlib.Core.List.{List, [], map}
-use Prim.Native.Nat.{ℕ, ◌+◌, ◌<◌}
-use native.Mathlib.Numerals.{add-one}
-use lib.ListN.{length, drop, get_or}
-use lib.Seq.{drop-cons}
+-- Listed squares taken one by one, as the code asks of them and copies them. Assumes nothing.
+use Rattle.std.proofs.Common.{◌≡◌, refl, ℕ, ◌+◌, ◌<◌, true, ◌&&◌, List, [], map, length, drop, get_or}
+use Rattle.std.proofs.lemmas.List.{at_drop_more}
 use Rattle.squares.specs.Squares.{corner_of}
-use Rattle.squares.specs.Copy.{copy_square, copy_squares}
 use Rattle.squares.specs.Calls.{is_square, are_squares}
 
 module _ (width rows : ℕ) where
@@ -16,15 +10,9 @@ module _ (width rows : ℕ) where
   unfolding are_squares
   squares_none = refl
 
-  -- those from place i on
-  pub squares_next : (list : List ℕ) (i : ℕ) → i < length list
-      → are_squares width rows (map corner_of (drop i list))
-      ≡ is_square width rows (corner_of (get_or list i 0)) && are_squares width rows (map corner_of (drop (i + 1) list))
+  -- those from place k on
+  pub squares_next : (list : List ℕ) (k : ℕ) → k < length list
+      → are_squares width rows (map corner_of (drop k list))
+      ≡ is_square width rows (corner_of (get_or list k 0)) && are_squares width rows (map corner_of (drop (k + 1) list))
   unfolding are_squares
-  squares_next list i h = rw (add-one i, drop-cons list i 0 h)
-
--- copying those
-pub copies_next : (width : ℕ) (new view list : List ℕ) (i : ℕ) → i < length list
-    → copy_squares width new view (map corner_of (drop i list))
-    ≡ copy_squares width new (copy_square width new view (corner_of (get_or list i 0))) (map corner_of (drop (i + 1) list))
-copies_next width new view list i h = rw (add-one i, drop-cons list i 0 h)
+  squares_next list k h = at_drop_more (λ (left : List ℕ). are_squares width rows (map corner_of left)) list k 0 h

@@ -11,7 +11,8 @@ use native.Mathlib.Omega.{arith}
 use borrow.Author.Tests.{ltb-true, ltb-false}
 use lib.Dec.{ltb}
 use Rattle.ground.proofs.Truth.{both}
-use Rattle.squares.specs.Squares.{any_in, Corner, corner, side_of, kept, squares}
+use Rattle.squares.specs.declared.size.Corner.{Corner}
+use Rattle.squares.specs.Squares.{any_in, corner, side_of, kept, squares}
 use Rattle.squares.specs.Copy.{is_among, covers, holds, holders}
 use Rattle.squares.proofs.Any.{fails, in_here, in_found}
 use Rattle.squares.proofs.Among.{among_in, among_low, among_high, among_parts}

@@ -1,13 +1,16 @@
 -- Copying a square as the code does it: row by row, each row a run of places, cut off where the picture ends. Assumes nothing.
 use mathlib.Core.Path.{◌≡◌, sym, ◌∙◌}
-use mathlib.Core.Bool.{Bool, ◌&&◌, and-false, and-or_distrib_left}
+use mathlib.Core.Bool.{Bool, false, ◌&&◌, and-false, and-or_distrib_left}
 use mathlib.Core.List.{List}
-use Prim.Native.Nat.{ℕ, ◌+◌, ◌*◌, ◌-◌, ◌/◌, ◌%◌, ◌≤◌, ◌<◌, min}
-use native.Mathlib.Nat.{zero-mul, mul_comm, mod-lt, div-lt_iff_lt-mul, pos_of_ne-zero}
+use Prim.Native.Nat.{ℕ, suc, ◌+◌, ◌*◌, ◌-◌, ◌/◌, ◌%◌, ◌≤◌, ◌<◌, min}
+use native.Mathlib.Nat.{zero-mul, suc-mul, mul_comm, mul-le-mul, mod-lt, div-lt_iff_lt-mul, pos_of_ne-zero}
 use native.Mathlib.Omega.{arith}
+use borrow.Author.Tests.{ltb-false}
+use lib.Dec.{ltb}
 use lib.ListN.{length, get_or, set}
 use Rattle.squares.specs.Squares.{corner}
 use Rattle.squares.specs.Copy.{is_among, covers, holds, overlay, copy_square}
+use Rattle.squares.proofs.Any.{one_fails}
 use Rattle.squares.proofs.Among.{among_none, among_low, among_add, among_clip, among_row}
 use Rattle.squares.proofs.Overlay.{length_overlay, overlay_none, overlay_same, overlay_set, overlay_more}
 
@@ -28,6 +31,11 @@ module _ (new old : List ℕ) (e : length new ≡ length old) (at : ℕ) where
       ∙ overlay_more new old e (is_among i at) (is_among 1 (at + i)) (is_among (i + 1) at) (λ p k. among_add i 1 at p))
 
 -- ---- the rows of a square
+
+-- n places of a row inside the picture, from column x on, end before the picture does
+pub row_ends : (width rows x y n k : ℕ) → k ≡ width * rows → x + n ≤ width → y < rows → y * width + x + n ≤ k
+row_ends width rows x y n k e h l =
+    omega (arith, e, h, mul_comm width rows, suc-mul y width, mul-le-mul {n₁ = suc y} {m₁ = width} {n₂ = rows} {m₂ = width} (omega (arith, l)) (omega arith))
 
 -- a place in some of a square's columns and rows
 abbrev pub inside : ℕ → ℕ → ℕ → ℕ → ℕ → ℕ → Bool
@@ -56,6 +64,10 @@ module _ (new old : List ℕ) (width rows x y : ℕ) (sn : length new ≡ width 
   square_above h =
       overlay_none new old alike (λ p. holds (p % width) (p / width) (corner x y))
       (λ i k. rw (among_low 8 y (i / width) (omega (arith, (place_inside i k).1))) (and-false (is_among 8 x (i % width))))
+
+  -- so does a square whose corner is outside
+  pub square_outside : ltb x width && ltb y rows ≡ false → old ≡ copy_square width new old (corner x y)
+  square_outside e = one_fails (ltb x width) (ltb y rows) e (λ t. square_right (ltb-false x width t)) (λ t. square_above (ltb-false y rows t))
 
   module _ (columns : ℕ) where
     -- a picture over which no row of a square is laid is as it was

@@ -1,17 +1,16 @@
 -- What remains of a square, as the code finds it: of one of side 8 itself, or nothing where no pixel is marked; of a larger one what remains of its
 -- four quarters, put one behind the other. (A square in which no pixel is marked is dropped, and so is each of its quarters.) Assumes nothing.
-use mathlib.Core.Path.{◌≡◌, refl, sym, ap, ◌∙◌}
+use mathlib.Core.Path.{◌≡◌, refl, sym, ◌∙◌}
 use mathlib.Core.Bool.{Bool, true, false, cond, true≢false}
-use mathlib.Core.List.{List, [], ◌∷◌, ◌++◌, map-append}
+use mathlib.Core.List.{List, [], ◌∷◌, ◌++◌, map-append, append_assoc}
 use Prim.Native.Nat.{ℕ, zero, suc, ◌+◌, ◌*◌, ◌/◌, ◌≤◌, ◌<◌}
 use native.Mathlib.Nat.{add-zero}
 use native.Mathlib.Omega.{arith}
-use lib.ListN.{length, set, length-append}
-use lib.Seq.{length-sets}
-use Rattle.report.specs.Calls.{Put}
-use Rattle.report.proofs.Putting.{put_none, put_byte, put_append}
-use Rattle.squares.specs.Squares.{any_in, Corner, corner, side_of, kept, squares, numbers}
-use Rattle.squares.specs.Room.{Side, Room, PutSquares}
+use lib.ListN.{length, length-append}
+use Rattle.std.proofs.lemmas.List.{append-nil}
+use Rattle.squares.specs.declared.size.Corner.{Corner}
+use Rattle.squares.specs.Squares.{any_in, corner, side_of, kept, squares, numbers}
+use Rattle.squares.specs.Room.{Side, Room, AddsSquares}
 use Rattle.squares.proofs.Any.{fails, in_here, in_found}
 
 -- ---- sides
@@ -87,16 +86,12 @@ module _ (marked : ℕ → ℕ → Bool) (n x y : ℕ) where
       go true some = refl
       go false none = sym (quarters_none none)
 
--- ---- what remains, put
+-- ---- what remains, found
 
--- a text put keeps the length
-put_length : {text old new : List ℕ} {at next : ℕ} → Put text old at new next → length new ≡ length old
-put_length {text} {old} {at = at} p = ap length p.stands ∙ length-sets old at text
-
-module _ (marked : ℕ → ℕ → Bool) (side x y : ℕ) where
+module _ (marked : ℕ → ℕ → Bool) (side x y : ℕ) (found : List ℕ) where
   -- nothing of a square in which no pixel is marked
-  pub put_dropped : (out : List ℕ) (k : ℕ) → any_in marked side x y ≡ false → PutSquares marked side x y out k out k
-  put_dropped out k none n e = rw (dropped marked x y n (rw e at none)) (put_none out k)
+  pub adds_none : any_in marked side x y ≡ false → AddsSquares marked side (corner x y) found found
+  adds_none none n e = rw (dropped marked x y n (rw e at none)) (sym (append-nil found))
 
   -- a square of side 8
   module _ (last : side ≤ 8) where
@@ -105,73 +100,70 @@ module _ (marked : ℕ → ℕ → Bool) (side x y : ℕ) where
     at_last P here zero e = here
     at_last P here (suc n) e = absurd (omega (arith, side_least n))
 
-    module _ (out : List ℕ) (k : ℕ) where
-      -- of a square of side 8 with no marked pixel nothing is put, and the next place is still k
-      pub put_unlisted : any_in marked 8 x y ≡ false → PutSquares marked side x y out k out k
-      unfolding side_of
-      put_unlisted none =
-          at_last (λ n. Put (numbers (squares marked n x y)) out k out k) (rw (dropped marked x y 0 none) (put_none out k))
+    -- of a square of side 8 with no marked pixel nothing remains
+    pub adds_unlisted : any_in marked 8 x y ≡ false → AddsSquares marked side (corner x y) found found
+    unfolding side_of
+    adds_unlisted none =
+        at_last (λ n. found ≡ found ++ numbers (squares marked n x y)) (rw (dropped marked x y 0 none) (sym (append-nil found)))
 
-      module _ (some : any_in marked 8 x y ≡ true) where
-        -- of a square of side 8 with a marked pixel its own number is put at place k, and the next place is k + 1
-        pub put_itself : PutSquares marked side x y out k (set out k (y * 65536 + x)) (k + 1)
-        put_itself =
-            at_last (λ n. Put (numbers (squares marked n x y)) out k (set out k (y * 65536 + x)) (k + 1))
-            (rw (itself marked x y some) (put_byte out k (y * 65536 + x)))
+    module _ (some : any_in marked 8 x y ≡ true) where
+      -- of one with a marked pixel it remains itself
+      pub adds_itself : AddsSquares marked side (corner x y) found (found ++ (y * 65536 + x) ∷ [])
+      adds_itself =
+          at_last (λ n. found ++ (y * 65536 + x) ∷ [] ≡ found ++ numbers (squares marked n x y)) (rw (itself marked x y some))
 
-        -- and where there is room for what remains of such a square, k is a place of the output
-        pub room_itself : Side side → Room marked side x y out k → k < length out
-        room_itself s room =
-            at_last (λ n. k + length (numbers (squares marked n x y)) ≤ length out → k < length out)
-            (λ r. let one : k + 1 ≤ length out = rw (itself marked x y some) at r in omega arith)
-            s.splits s.is (room s.splits s.is)
+      -- and where there is room for what remains of it, there is room for one square more
+      pub room_itself : Side side → Room marked side (corner x y) found → length found < 1024
+      room_itself s room =
+          at_last (λ n. length found + length (numbers (squares marked n x y)) ≤ 1024 → length found < 1024)
+          (λ r. let one : length found + 1 ≤ 1024 = rw (itself marked x y some) at r in omega arith)
+          s.splits s.is (room s.splits s.is)
 
 -- the quarters of a larger one, where there is room for it
-pub record Splitting (marked : ℕ → ℕ → Bool) (side x y : ℕ) (out : List ℕ) (k : ℕ) : Type 0 where
+pub record Splitting (marked : ℕ → ℕ → Bool) (side x y : ℕ) (found : List ℕ) : Type 0 where
   pub large : 8 < side
   pub splits : Side side
-  pub room : Room marked side x y out k
+  pub room : Room marked side (corner x y) found
 
-module _ {marked : ℕ → ℕ → Bool} {side x y : ℕ} {out : List ℕ} {k : ℕ} (w : Splitting marked side x y out k) where
+module _ {marked : ℕ → ℕ → Bool} {side x y : ℕ} {found : List ℕ} (w : Splitting marked side x y found) where
   four : (n : ℕ) → side / 2 ≡ side_of n
       → numbers (squares marked (suc n) x y)
       ≡ numbers (squares marked n x y) ++ numbers (squares marked n (x + side / 2) y)
       ++ numbers (squares marked n x (y + side / 2)) ++ numbers (squares marked n (x + side / 2) (y + side / 2))
   four n h = rw h (rw (split marked n x y) (simp map-append))
 
-  -- the places that they take are there
+  -- there is room for them
   whole : (n : ℕ) → side / 2 ≡ side_of n
-      → k + (length (numbers (squares marked n x y)) + length (numbers (squares marked n (x + side / 2) y))
-      + length (numbers (squares marked n x (y + side / 2))) + length (numbers (squares marked n (x + side / 2) (y + side / 2)))) ≤ length out
+      → length found + (length (numbers (squares marked n x y)) + length (numbers (squares marked n (x + side / 2) y))
+      + length (numbers (squares marked n x (y + side / 2))) + length (numbers (squares marked n (x + side / 2) (y + side / 2)))) ≤ 1024
   whole n h =
-      let room : k + length (numbers (squares marked (suc n) x y)) ≤ length out = w.room (suc n) (doubled side n (twice side w.large w.splits n h)) in
+      let room : length found + length (numbers (squares marked (suc n) x y)) ≤ 1024 = w.room (suc n) (doubled side n (twice side w.large w.splits n h)) in
       simp length-append at (rw (four n h) at room)
 
   -- for each, behind those before it
-  pub room_lower_left : Room marked (side / 2) x y out k
+  pub room_lower_left : Room marked (side / 2) (corner x y) found
   room_lower_left n h = omega (arith, whole n h)
 
-  module _ {o : List ℕ} {a : ℕ} (p : PutSquares marked (side / 2) x y out k o a) where
+  module _ {a : List ℕ} (p : AddsSquares marked (side / 2) (corner x y) found a) where
     -- behind what remains of the lower left quarter there is room for what remains of the lower right one
-    pub room_lower_right : Room marked (side / 2) (x + side / 2) y o a
-    room_lower_right n h = omega (arith, whole n h, (p n h).ends, put_length (p n h))
+    pub room_lower_right : Room marked (side / 2) (corner (x + side / 2) y) a
+    room_lower_right n h = rw (p n h) (simp length-append (omega (arith, whole n h)))
 
-    module _ {o' : List ℕ} {b : ℕ} (q : PutSquares marked (side / 2) (x + side / 2) y o a o' b) where
+    module _ {b : List ℕ} (q : AddsSquares marked (side / 2) (corner (x + side / 2) y) a b) where
       -- behind what remains of both lower quarters there is room for what remains of the upper left one
-      pub room_upper_left : Room marked (side / 2) x (y + side / 2) o' b
-      room_upper_left n h = omega (arith, whole n h, (p n h).ends, (q n h).ends, put_length (p n h), put_length (q n h))
+      pub room_upper_left : Room marked (side / 2) (corner x (y + side / 2)) b
+      room_upper_left n h = rw (q n h) (rw (p n h) (simp length-append (omega (arith, whole n h))))
 
-      module _ {o'' : List ℕ} {c : ℕ} (r : PutSquares marked (side / 2) x (y + side / 2) o' b o'' c) where
+      module _ {c : List ℕ} (r : AddsSquares marked (side / 2) (corner x (y + side / 2)) b c) where
         -- behind what remains of those three there is room for what remains of the upper right one
-        pub room_upper_right : Room marked (side / 2) (x + side / 2) (y + side / 2) o'' c
-        room_upper_right n h =
-            omega (arith, whole n h, (p n h).ends, (q n h).ends, (r n h).ends, put_length (p n h), put_length (q n h), put_length (r n h))
+        pub room_upper_right : Room marked (side / 2) (corner (x + side / 2) (y + side / 2)) c
+        room_upper_right n h = rw (r n h) (rw (q n h) (rw (p n h) (simp length-append (omega (arith, whole n h)))))
 
         -- and together they are what remains of the square
-        pub put_quarters : {left : List ℕ} {next : ℕ} → PutSquares marked (side / 2) (x + side / 2) (y + side / 2) o'' c left next
-            → PutSquares marked side x y out k left next
-        put_quarters {left} {next} t =
-            split_side side w.large (λ n. Put (numbers (squares marked n x y)) out k left next)
+        pub adds_quarters : {left : List ℕ} → AddsSquares marked (side / 2) (corner (x + side / 2) (y + side / 2)) c left
+            → AddsSquares marked side (corner x y) found left
+        adds_quarters {left} t =
+            split_side side w.large (λ n. left ≡ found ++ numbers (squares marked n x y))
             (λ n e.
             let h : side / 2 ≡ side_of n = omega arith in
-            rw (four n h) (put_append (put_append (put_append (p n h) (q n h)) (r n h)) (t n h)))
+            t n h ∙ rw (r n h, q n h, p n h, four n h) (simp append_assoc))

@@ -11,7 +11,8 @@ use lib.Arith.{digits_div, digits_mod}
 use lib.ListN.{length, take, drop, get_or}
 use lib.Seq.{take-append_seam}
 use Rattle.stream.specs.Calls.{over, Answer, answer}
-use Rattle.squares.specs.Squares.{Corner, corner, corner_of, numbers}
+use Rattle.squares.specs.declared.size.Corner.{Corner}
+use Rattle.squares.specs.Squares.{corner, corner_of, numbers}
 use Rattle.squares.specs.Change.{unlike, differs, changed}
 use Rattle.squares.specs.Copy.{holds, holders, copy_squares}
 use Rattle.squares.specs.Calls.{is_square, are_squares, listing, copying}

@@ -1,7 +1,8 @@
 -- What the two calls for viewers tell and leave, for every input (request [14]: 2, 9 and 13).
 use Rattle.std.specs.Prelude.{ℕ, ◌+◌, ◌*◌, ◌%◌, ◌^◌, Bool, true, cond, ◌&&◌, List, [], ◌∷◌, map, length, ltb, leb, eqb}
 use Rattle.stream.specs.Calls.{no_room, over, Answer, answer}
-use Rattle.squares.specs.Squares.{Corner, corner_of, numbers}
+use Rattle.squares.specs.declared.size.Corner.{Corner}
+use Rattle.squares.specs.Squares.{corner_of, numbers}
 use Rattle.squares.specs.Change.{changed}
 use Rattle.squares.specs.Copy.{copy_squares}
 

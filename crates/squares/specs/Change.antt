@@ -1,6 +1,7 @@
 -- Where two pictures of one size differ (request [14]).
 use Rattle.std.specs.Prelude.{ℕ, ◌+◌, ◌*◌, Bool, not, ◌&&◌, List, get_or, ltb, eqb}
-use Rattle.squares.specs.Squares.{any_below, Corner, squares}
+use Rattle.squares.specs.declared.size.Corner.{Corner}
+use Rattle.squares.specs.Squares.{any_below, squares}
 
 -- the two pictures hold unlike numbers at a place
 unfoldable pub unlike : List ℕ → List ℕ → ℕ → Bool

@@ -2,7 +2,7 @@
 -- places of the picture are copied.
 use Rattle.std.specs.Prelude.{ℕ, suc, ◌+◌, ◌/◌, ◌%◌, Bool, cond, ◌&&◌, ltb, leb}
 use mathlib.Core.List.{List, [], ◌∷◌, foldl}
-use Rattle.squares.specs.Squares.{Corner}
+use Rattle.squares.specs.declared.size.Corner.{Corner}
 
 -- v is one of the n numbers from a on
 unfoldable pub is_among : ℕ → ℕ → ℕ → Bool

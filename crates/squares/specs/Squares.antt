@@ -1,6 +1,7 @@
 -- The squares of side 8 that hold what a test of pixels marks (request [14]): a square is split into quarters while its side exceeds 8, and
 -- one with no marked pixel is dropped.
 use Rattle.std.specs.Prelude.{ℕ, zero, suc, ◌+◌, ◌*◌, ◌/◌, ◌%◌, Bool, false, cond, ◌||◌, List, [], ◌∷◌, ◌++◌, map}
+use Rattle.squares.specs.declared.size.Corner.{Corner}
 
 -- whether some number below n passes a test
 unfoldable pub any_below : ℕ → (ℕ → Bool) → Bool
@@ -11,12 +12,7 @@ any_below (suc n) test = any_below n test || test n
 unfoldable pub any_in : (ℕ → ℕ → Bool) → ℕ → ℕ → ℕ → Bool
 any_in marked side x y = any_below side (λ j. any_below side (λ i. marked (x + i) (y + j)))
 
--- a square of side 8 is told by its lower left corner
-pub record Corner : Type 0 where
-  pub x : ℕ
-  pub y : ℕ
-
--- the square of side 8 whose lower left corner is (x, y)
+-- a square of side 8 is told by its lower left corner: the one whose corner is (x, y)
 abbrev pub corner : ℕ → ℕ → Corner
 corner x y = record { x = x; y = y }
 

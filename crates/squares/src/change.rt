@@ -1,21 +1,20 @@
 // Whether a square of side 8 of two pictures differs.
-ghost use Rattle.std.specs.Prelude.{◌≡◌, ◌+◌, ◌*◌, ◌≤◌, ◌<◌, length};
+ghost use Rattle.std.specs.Prelude.{◌≡◌, ◌+◌, ◌≤◌, ◌<◌, length};
 ghost use Rattle.squares.specs.Squares.{any_in};
 ghost use Rattle.squares.specs.Change.{run_differs, differs};
 
-use ground::least;
+use crate::pictures::Pictures;
+use crate::size::Corner;
 
-// Whether one of n places from `at` on differs. (No test ends the loop early: eight places are then compared at once.)
+// Whether one of n places from `at` on differs. (No test ends the loop early, as one would in a comparison of slices: so LLVM compares eight places at once.)
 fn run_differs(old: &[u16], new: &[u16], at: usize, n: usize) -> bool
     requires n_in_bounds { at + n ≤ length old.now }
     requires n_in_bounds_2 { at + n ≤ length new.now }
     ensures { result ≡ run_differs old.now new.now at n }
 {
     let mut some = false;
-    let mut i = 0;
-    while i < n {
-        some = some | (old[at + i] != new[at + i]);
-        i += 1;
+    for i in 0..n {
+        some |= old[at + i] != new[at + i];
     }
     some
 }
@@ -32,27 +31,22 @@ fn row_differs(old: &[u16], new: &[u16], at: usize, n: usize) -> bool
     run_differs(old, new, at, n)
 }
 
-// Whether a square, whose lower left corner is inside the picture, has a difference inside the picture.
-pub(crate) fn square_differs(
-    old: &[u16],
-    new: &[u16],
-    width: usize,
-    rows: usize,
-    x: usize,
-    y: usize,
-) -> bool
-    requires len { (length old.now ≡ width * rows) × (length new.now ≡ width * rows) }
-    requires x_lt_width { (x < width) × (y < rows) }
-    ensures { result ≡ any_in (differs old.now new.now width rows) 8 x y }
+// Whether a square, whose lower left corner is inside the pictures, has a difference inside them.
+pub(crate) fn square_differs(pictures: &Pictures, square: Corner) -> bool
+    requires inside { (square.x < pictures.now.size.width) × (square.y < pictures.now.size.rows) }
+    ensures { result ≡ any_in (differs pictures.now.old.now pictures.now.new.now pictures.now.size.width pictures.now.size.rows) 8 square.x square.y }
 {
-    let columns = least(8, width - x);
-    let height = least(8, rows - y);
-    let mut j = 0;
-    while j < height {
-        if row_differs(old, new, (y + j) * width + x, columns) {
+    let Pictures { old, new, size } = *pictures;
+    let inside = size.clip(square);
+    for j in 0..inside.rows {
+        if row_differs(
+            old,
+            new,
+            (square.y + j) * size.width + square.x,
+            inside.width,
+        ) {
             return true;
         }
-        j += 1;
     }
     false
 }

@@ -1,46 +1,42 @@
 // What remains of a square.
-ghost use Rattle.std.specs.Prelude.{◌≡◌, ◌+◌, ◌*◌, ◌≤◌, length};
+ghost use Rattle.std.specs.Prelude.{◌≡◌, ◌+◌, ◌≤◌};
 ghost use Rattle.squares.specs.Change.{differs};
-ghost use Rattle.squares.specs.Room.{Side, Room, PutSquares};
+ghost use Rattle.squares.specs.Room.{Side, Room, AddsSquares};
 
 use crate::change::square_differs;
+use crate::found::Found;
+use crate::pictures::Pictures;
+use crate::size::Corner;
 
-// Stores the squares of side 8 that remain of a square at place k, and answers the place after them. A square outside the picture is given up
-// at once. One of side 8 is compared; a larger one is not, since it has a difference exactly where one of its quarters has: so no pixel is
-// compared twice.
-pub(crate) fn quarter(
-    old: &[u16],
-    new: &[u16],
-    width: usize,
-    rows: usize,
-    x: usize,
-    y: usize,
-    side: usize,
-    out: &mut [u32],
-    k: usize,
-) -> usize
-    requires len { (length old.now ≡ width * rows) × (length new.now ≡ width * rows) }
-    requires side_bound { (x + side ≤ 256) × (y + side ≤ 256) }
+// Adds the squares of side 8 that remain of a square. A square outside the pictures is given up at once. One of side 8 is compared; a larger one is
+// not, since it has a difference exactly where one of its quarters has: so no pixel is compared twice.
+pub(crate) fn quarter(pictures: &Pictures, square: Corner, side: usize, found: &mut Found)
+    requires side_bound { (square.x + side ≤ 256) × (square.y + side ≤ 256) }
     requires side { Side side }
-    requires room { Room (differs old.now new.now width rows) side x y out.old k }
-    ensures { PutSquares (differs old.now new.now width rows) side x y out.old k out.new result }
+    requires room { Room (differs pictures.now.old.now pictures.now.new.now pictures.now.size.width pictures.now.size.rows) side square found.old }
+    ensures { AddsSquares (differs pictures.now.old.now pictures.now.new.now pictures.now.size.width pictures.now.size.rows) side square found.old found.new }
 {
-    if width <= x {
-        return k;
-    }
-    if rows <= y {
-        return k;
+    if !pictures.size.has(square) {
+        return;
     }
     if side <= 8 {
-        if square_differs(old, new, width, rows, x, y) {
-            out[k] = (y * 65536 + x) as u32;
-            return k + 1;
+        if square_differs(pictures, square) {
+            found.push(square.number());
         }
-        return k;
+        return;
     }
+    let Corner { x, y } = square;
     let half = side / 2;
-    let a = quarter(old, new, width, rows, x, y, half, out, k);
-    let b = quarter(old, new, width, rows, x + half, y, half, out, a);
-    let c = quarter(old, new, width, rows, x, y + half, half, out, b);
-    quarter(old, new, width, rows, x + half, y + half, half, out, c)
+    quarter(pictures, square, half, found);
+    quarter(pictures, Corner { x: x + half, y }, half, found);
+    quarter(pictures, Corner { x, y: y + half }, half, found);
+    quarter(
+        pictures,
+        Corner {
+            x: x + half,
+            y: y + half,
+        },
+        half,
+        found,
+    );
 }

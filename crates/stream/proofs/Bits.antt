@@ -5,12 +5,11 @@ use mathlib.Core.List.{List, [], ◌∷◌, ◌++◌}
 use Prim.Native.Nat.{ℕ, zero, suc, ◌+◌, ◌*◌, ◌/◌, ◌%◌, ◌^◌, ◌≤◌, ◌<◌}
 use native.Mathlib.Nat.{mod-one, add_comm, add-mul, mul_assoc, add_assoc, zero-add, zero-mul, suc-add, pow-zero, pow-succ', mod-lt, mod-eq_of_lt, mul-add-div_right, mul-add-mod_self_right}
 use native.Mathlib.Omega.{arith}
-use native.Mathlib.Numerals.{add-one}
-use lib.ListN.{length, get_or, take, drop, length-append, drop_of_length-le}
-use lib.Seq.{drop-cons}
+use lib.ListN.{length, get_or, take, drop, length-append}
 use lib.Arith.{mod-mul, digits_lt, digits_div}
 use borrow.Author.Tests.{lt-ltb, le-ltb, ltb-true, ltb-false}
 use lib.Dec.{ltb}
+use Rattle.std.specs.Prelude.{fold}
 use lib.Bits.{bit_or, or_lt, or_add_and, and_le_l, and_le_r}
 use lib.Pow.{pow-add, pow_pos, shr-shr}
 use Rattle.ground.proofs.Truth.{both}
@@ -93,30 +92,19 @@ or_below k a b = go (ltb a (2 ^ k)) (ltb b (2 ^ k)) refl refl
     go true false e f = le-ltb (bit_or a b) (2 ^ k) (omega (arith, ltb-false b (2 ^ k) f, (or_ge a b).1))
     go false q e f = le-ltb (bit_or a b) (2 ^ k) (omega (arith, ltb-false a (2 ^ k) e, (or_ge a b).0))
 
--- the test from a place on, beside the bits set before it
-module _ (k : ℕ) (ns : List ℕ) where
-  -- the answer stays the same where the number at the place is set beside the bits before it and the test goes on one place further
-  pub fit_past : (i set : ℕ) → i < length ns → ltb set (2 ^ k) && fit k (drop i ns) ≡ ltb (bit_or set (get_or ns i 0)) (2 ^ k) && fit k (drop (i + 1) ns)
-  unfolding fit
-  fit_past i set h =
-      rw (add-one, drop-cons ns i 0 h, or_below) (go (ltb set (2 ^ k)) (ltb (get_or ns i 0) (2 ^ k)) (fit k (drop (suc i) ns)))
-    where
-      go : (p q r : Bool) → p && (q && r) ≡ p && q && r
-      go true q r = refl
-      go false q r = refl
-
-  -- past the last number the bits that are set tell the answer
-  pub fit_end : (i set : ℕ) → length ns ≤ i → ltb set (2 ^ k) ≡ ltb set (2 ^ k) && fit k (drop i ns)
-  unfolding fit
-  fit_end i set h = rw (drop_of_length-le ns h) (go (ltb set (2 ^ k)))
-    where
-      go : (p : Bool) → p ≡ p && true
-      go true = refl
-      go false = refl
-
-  -- with no bits set, the test from place 0 on is that of all numbers
-  pub fit_start : fit k ns ≡ ltb 0 (2 ^ k) && fit k (drop 0 ns)
-  fit_start = sym (ap (λ (b : Bool). b && fit k ns) (lt-ltb 0 (2 ^ k) (pow_pos k)))
+-- the bits that are set in numbers, and in one before them, tell whether all of them fit
+pub fit_bits : (k set : ℕ) (ns : List ℕ) → ltb (fold bit_or set ns) (2 ^ k) ≡ ltb set (2 ^ k) && fit k ns
+unfolding fit
+fit_bits k set [] = go (ltb set (2 ^ k))
+  where
+    go : (p : Bool) → p ≡ p && true
+    go true = refl
+    go false = refl
+fit_bits k set (n ∷ ns) = fit_bits k (bit_or set n) ns ∙ rw (or_below k set n) (go (ltb set (2 ^ k)) (ltb n (2 ^ k)) (fit k ns))
+  where
+    go : (p q r : Bool) → p && q && r ≡ p && (q && r)
+    go true q r = refl
+    go false q r = refl
 
 -- two lists of numbers that fit, one behind the other, fit
 pub fits_append : {k : ℕ} {ms ns : List ℕ} → Fits k ms → Fits k ns → Fits k (ms ++ ns)

@@ -7,7 +7,8 @@ use native.Mathlib.Omega.{arith}
 use lib.Bits.{bit_and, bit_or, and_mask, or_shifted}
 use lib.ListN.{take, drop}
 use Rattle.stream.specs.Format.{bits, number, joined}
-use Rattle.stream.specs.Loops.{turn, pair_front, group_front, four_bytes}
+use Rattle.std.specs.Int.{w32, w64, to_be_bytes}
+use Rattle.stream.specs.Loops.{pair_front, group_front}
 use Rattle.stream.proofs.Bits.{bits_split, number_append, number_bits}
 
 -- ---- rows of bits, in sums of products
@@ -72,25 +73,7 @@ seam_byte v w =
     ∙ or_add 4 (v % 16) (v % 16 * 16) (w / 65536 % 16) refl (omega arith)
     ∙ sym (seam_number v (w / 65536))
 
--- the number of those eight bits is a byte
-pub seam_lt : (v w : ℕ) → number (bits 4 v ++ bits 4 (w / 65536)) < 256
-seam_lt v w = omega (arith, seam_number v (w / 65536))
-
--- ---- four bytes at once, one way round and the other
-
--- a number of four bytes, taken apart
-four_bytes_lem : (a b c d y : ℕ) → a < 256 → b < 256 → c < 256 → y ≡ a + b * 256 + c * 65536 + d * 16777216
-    → (y % 256 ≡ a) × (y / 256 % 256 ≡ b) × (y / 65536 % 256 ≡ c) × (y / 16777216 ≡ d)
-four_bytes_lem a b c d y ha hb hc e =
-    let e₁ : y / 256 ≡ b + c * 256 + d * 65536 = omega (arith, ha, e) in
-    let e₂ : y / 65536 ≡ c + d * 256 = omega (arith, ha, hb, e) in (omega (arith, ha, e), omega (arith, hb, e₁), omega (arith, hc, e₂), omega (arith, hc, e₂))
-
--- the lowest first, turned round, is the highest first
-pub turn_four : (a b c d y x : ℕ) → a < 256 → b < 256 → c < 256
-    → y ≡ a + b * 256 + c * 65536 + d * 16777216 → x ≡ turn y → x ≡ a * 16777216 + b * 65536 + c * 256 + d
-turn_four a b c d y x ha hb hc e f =
-    let q = four_bytes_lem a b c d y ha hb hc e in
-    f ∙ rw (q.0, q.1, q.2, q.3)
+-- ---- four bytes at once
 
 -- four bytes as one number, the first the highest, divided by 4096 are the first 20 bits
 pub high_four : (a b c d x : ℕ) → a < 256 → b < 256 → c < 256 → d < 256
@@ -106,50 +89,26 @@ low_four a b c d g x hd hg e = omega (arith, low_number c d g)
 
 -- ---- bytes to be stored, the highest first
 
--- the four bytes of a number below 2 ^ 32, the highest first
+-- the last four bytes of a number, the highest first
 abbrev pub highest_first : ℕ → List ℕ
-highest_first x = x / 16777216 ∷ x / 65536 % 256 ∷ x / 256 % 256 ∷ x % 256 ∷ []
+highest_first x = x / 16777216 % 256 ∷ x / 65536 % 256 ∷ x / 256 % 256 ∷ x % 256 ∷ []
 
 -- four pairs of equal numbers make equal lists
 four_same : {a b c d a' b' c' d' : ℕ} → a ≡ a' → b ≡ b' → c ≡ c' → d ≡ d' → ◌≡◌ {A = List ℕ} (a ∷ b ∷ c ∷ d ∷ []) (a' ∷ b' ∷ c' ∷ d' ∷ [])
 four_same p q r s = cc
 
--- the bytes of a number below 2 ^ 32, turned round, are its bytes from the highest on
-pub turn_bytes : (x t : ℕ) → x < 4294967296 → t ≡ turn x → four_bytes t ≡ highest_first x
-turn_bytes x t h e =
-    let q = four_bytes_lem (x / 16777216) (x / 65536 % 256) (x / 256 % 256) (x % 256) t (omega (arith, h)) (omega arith) (omega arith) (back (x % 256) (x / 256 % 256 * 65536) (x / 65536 % 256 * 256) (x / 16777216) e) in
-    four_same q.0 q.1 q.2 (ap (λ (n : ℕ). n % 256) q.3 ∙ mod-eq_of_lt (omega arith))
-  where
-    back : (d c b a : ℕ) → t ≡ d * 16777216 + c + b + a → t ≡ a + b + c + d * 16777216
-    back d c b a e = omega (arith, e)
-
--- four bytes that are turned round are below 2 ^ 32 again
-turn_lt : (x : ℕ) → x < 4294967296 → turn x < 4294967296
-turn_lt x h = go (x % 256) (x / 256 % 256) (x / 65536 % 256) (x / 16777216) (omega arith) (omega arith) (omega arith) (omega (arith, h))
-  where
-    go : (a b c d : ℕ) → a < 256 → b < 256 → c < 256 → d < 256 → a * 16777216 + b * 65536 + c * 256 + d < 4294967296
-    go a b c d ha hb hc hd = omega arith
-
--- a number of two halves, taken apart
-halves : (p q t : ℕ) → q < 4294967296 → t ≡ p * 4294967296 + q → (t % 4294967296 ≡ q) × (t / 4294967296 ≡ p)
-halves p q t h e = (omega arith, omega arith)
-
--- the high half of a number below 2 ^ 64
-half_lt : (x : ℕ) → x < 18446744073709551616 → x / 4294967296 < 4294967296
-half_lt x h = omega arith
-
--- the same of eight bytes: each half is turned round, and they change places
-pub turn_eight : (x t : ℕ) → x < 18446744073709551616 → t ≡ turn (x % 4294967296) * 4294967296 + turn (x / 4294967296)
-    → four_bytes (t % 4294967296) ++ four_bytes (t / 4294967296) ≡ highest_first (x / 4294967296) ++ highest_first (x % 4294967296)
-turn_eight x t h e =
-    let low : x % 4294967296 < 4294967296 = omega arith in
-    let high : x / 4294967296 < 4294967296 = half_lt x h in
-    let q = halves (turn (x % 4294967296)) (turn (x / 4294967296)) t (turn_lt (x / 4294967296) high) e in
-    ap₂ (λ (l r : List ℕ). l ++ r) (turn_bytes (x / 4294967296) (t % 4294967296) high q.0) (turn_bytes (x % 4294967296) (t / 4294967296) low q.1)
+-- eight bytes are those of the two halves
+halves : (x : ℕ) → to_be_bytes w64 x ≡ highest_first (x / 4294967296) ++ highest_first (x % 4294967296)
+halves x =
+    let above : x / 72057594037927936 % 256 ∷ x / 281474976710656 % 256 ∷ x / 1099511627776 % 256 ∷ x / 4294967296 % 256 ∷ [] ≡ highest_first (x / 4294967296) =
+    four_same (omega arith) (omega arith) (omega arith) (omega arith) in
+    let below : x / 16777216 % 256 ∷ x / 65536 % 256 ∷ x / 256 % 256 ∷ x % 256 ∷ [] ≡ highest_first (x % 4294967296) =
+    four_same (omega arith) (omega arith) (omega arith) (omega arith) in
+    ap₂ (λ (l r : List ℕ). l ++ r) above below
 
 -- the first four bytes of two words
 pub pair_bytes : (v w x : ℕ) → x ≡ pair_front v w
-    → highest_first x ≡ number (bits 8 (v / 4096)) ∷ number (bits 8 (v / 16)) ∷ number (bits 4 v ++ bits 4 (w / 65536)) ∷ number (bits 8 (w / 256)) ∷ []
+    → to_be_bytes w32 x ≡ number (bits 8 (v / 4096)) ∷ number (bits 8 (v / 16)) ∷ number (bits 4 v ++ bits 4 (w / 65536)) ∷ number (bits 8 (w / 256)) ∷ []
 pair_bytes v w x e =
     four_same
     (omega (arith, number_bits 8 (v / 4096)))
@@ -166,12 +125,6 @@ middle_bytes b c d x e =
     (omega (arith, number_bits 8 (c / 4096)))
     (omega (arith, number_bits 8 (c / 16)))
     (omega (arith, seam_number c (d / 65536)))
-
--- all of a word and 12 bits of the next, shifted and set together, are the first 32 bits of the two
-pub pair_front_lem : (v w : ℕ) → bit_or (bit_and v 1048575 * 4096 % 4294967296) (bit_and (w / 256) 4095) ≡ pair_front v w
-pair_front_lem v w =
-    ap₂ (λ (x y : ℕ). bit_or x y) (ap (λ (x : ℕ). x * 4096 % 4294967296) (and_mask v 20) ∙ shl (v % 1048576) 4096 (omega arith)) (and_mask (w / 256) 12)
-    ∙ or_add 12 (v % 1048576) (v % 1048576 * 4096) (w / 256 % 4096) refl (omega arith)
 
 -- the last 20 bits of a word, shifted to the left within 64 bits
 shifted : (x k : ℕ) → k ≤ 17592186044416 → bit_and x 1048575 * k % 18446744073709551616 ≡ x % 1048576 * k
@@ -196,8 +149,9 @@ group_front_lem a b c d =
 
 -- the first eight bytes of four words
 pub group_bytes : (a b c d x : ℕ) → x ≡ group_front a b c d
-    → highest_first (x / 4294967296) ++ highest_first (x % 4294967296)
+    → to_be_bytes w64 x
     ≡ number (bits 8 (a / 4096)) ∷ number (bits 8 (a / 16)) ∷ number (bits 4 a ++ bits 4 (b / 65536)) ∷ number (bits 8 (b / 256))
     ∷ number (bits 8 b) ∷ number (bits 8 (c / 4096)) ∷ number (bits 8 (c / 16)) ∷ number (bits 4 c ++ bits 4 (d / 65536)) ∷ []
 group_bytes a b c d x e =
-    ap₂ (λ (l r : List ℕ). l ++ r) (pair_bytes a b (x / 4294967296) (omega (arith, e))) (middle_bytes b c d (x % 4294967296) (omega (arith, e)))
+    halves x
+    ∙ ap₂ (λ (l r : List ℕ). l ++ r) (pair_bytes a b (x / 4294967296) (omega (arith, e))) (middle_bytes b c d (x % 4294967296) (omega (arith, e)))

@@ -10,8 +10,12 @@ use lib.Arith.{digits_div}
 use lib.Dec.{eqb}
 use Rattle.stream.specs.Format.{bits, fit, unpack_of, pack_of, word_at}
 use Rattle.stream.specs.Calls.{checked, no_room, over, Outcome, written, unpacking, packing, coded_number, size_of, coded_told, entry, word_count, word_entry, Answer, answer, answered}
-use Rattle.stream.specs.declared.Coded.{Coded}
-use Rattle.stream.specs.declared.Coded.TheVariants.{Done, BadWord, BadLength, BadTail, NoRoom}
+use Rattle.std.specs.Prelude.{Result, Ok, Err}
+use borrow.Author.Tests.{ne_eqb}
+use native.Mathlib.Omega.{arith}
+use Rattle.ground.specs.Refusal.{number}
+use Rattle.ground.specs.declared.Refusal.{Refusal}
+use Rattle.ground.proofs.Numbers.{number_positive, refusal_of, refusal_back}
 use Rattle.stream.proofs.Bits.{Fits, fits, fits_test, bits_split, bits_low}
 use Rattle.stream.proofs.Calls.{next_told, good, room_told, refusal_told, unpack_done, pack_done, count_good, word_good}
 use Rattle.stream.proofs.Round.{unpack_fits, unpack_pack, pack_unpack, packed_good}
@@ -19,20 +23,16 @@ use Rattle.stream.proofs.Round.{unpack_fits, unpack_pack, pack_unpack, packed_go
 -- ---- any two outcomes that a contract allows are equal
 
 -- an answer is known by its number and its length
-coded_of : ℕ → ℕ → Coded
-coded_of number size =
-    cond (eqb number 0) (Done size) (cond (eqb number 1) BadWord (cond (eqb number 11) BadLength (cond (eqb number 12) BadTail NoRoom)))
+coded_of : ℕ → ℕ → Result ℕ Refusal
+coded_of number size = cond (eqb number 0) (Ok size) (Err (refusal_of number))
 
-coded_back : (r : Coded) → coded_of (coded_number r) (size_of r) ≡ r
+coded_back : (r : Result ℕ Refusal) → coded_of (coded_number r) (size_of r) ≡ r
 unfolding coded_of
-coded_back (Done n) = refl
-coded_back BadWord = refl
-coded_back BadLength = refl
-coded_back BadTail = refl
-coded_back NoRoom = refl
+coded_back (Ok n) = refl
+coded_back (Err refusal) = rw (ne_eqb (number refusal) 0 (λ z. omega (arith, number_positive refusal, z)), refusal_back refusal)
 
 -- of `pack` and of `unpack`: the answer and the whole output
-pub settled : {o : Outcome} {r r' : Coded} {left left' : List ℕ} → coded_told r left ≡ o → coded_told r' left' ≡ o → (r ≡ r') × (left ≡ left')
+pub settled : {o : Outcome} {r r' : Result ℕ Refusal} {left left' : List ℕ} → coded_told r left ≡ o → coded_told r' left' ≡ o → (r ≡ r') × (left ≡ left')
 settled {r = r} {r' = r'} p q =
     let same = p ∙ sym q in
     (sym (coded_back r) ∙ ap (λ (t : Outcome). coded_of t.refusal t.size) same ∙ coded_back r', ap (λ (t : Outcome). t.left) same)
@@ -58,20 +58,20 @@ packs : (ws out : List ℕ) → Fits 20 ws → length (pack_of ws) ≤ length ou
 packs ws out f room = sym (pack_done ws out (fits_test f) room refl refl)
 
 unpacks : (s out : List ℕ) → checked s 0 ≡ 0 → length (unpack_of s) ≤ length out → unpacking s out ≡ written (unpack_of s) out
-unpacks s out g room = sym (unpack_done s out (good s 0 g).0 (good s 0 g).1 room refl refl)
+unpacks s out g room = sym (unpack_done s out g room refl refl)
 
 -- what such a call wrote, taken from the output by the length that it tells
-wrote : (result out : List ℕ) (r : Coded) {left : List ℕ} → coded_told r left ≡ written result out → take (size_of r) left ≡ result
+wrote : (result out : List ℕ) (r : Result ℕ Refusal) {left : List ℕ} → coded_told r left ≡ written result out → take (size_of r) left ≡ result
 wrote result out r e = ap (λ (t : Outcome). take t.size t.left) e ∙ take_over result out
 
 -- words of 20 bits, packed with room enough and unpacked with room enough, are the same words
-pub words_back : (ws out packed o o' : List ℕ) (r r' : Coded)
+pub words_back : (ws out packed o o' : List ℕ) (r r' : Result ℕ Refusal)
     → fit 20 ws ≡ true
     → length (pack_of ws) ≤ length out
     → coded_told r packed ≡ packing ws out
     → length ws ≤ length o
     → coded_told r' o' ≡ unpacking (take (size_of r) packed) o
-    → (r' ≡ Done (length ws)) × (o' ≡ over ws o)
+    → (r' ≡ Ok (length ws)) × (o' ≡ over ws o)
 words_back ws out packed o o' r r' f room p room' q =
     let stream : take (size_of r) packed ≡ pack_of ws = wrote (pack_of ws) out r (p ∙ packs ws out (fits 20 ws f) room) in
     let words : unpack_of (pack_of ws) ≡ ws = unpack_pack (fits 20 ws f) in
@@ -82,14 +82,14 @@ words_back ws out packed o o' r r' f room p room' q =
     refl
 
 -- a good stream, unpacked with room enough and packed with room enough, is the same stream
-pub bytes_back : (s out words o o' : List ℕ) (r r' : Coded)
+pub bytes_back : (s out words o o' : List ℕ) (r r' : Result ℕ Refusal)
     → fit 8 s ≡ true
     → checked s 0 ≡ 0
     → length (unpack_of s) ≤ length out
     → coded_told r words ≡ unpacking s out
     → length s ≤ length o
     → coded_told r' o' ≡ packing (take (size_of r) words) o
-    → (r' ≡ Done (length s)) × (o' ≡ over s o)
+    → (r' ≡ Ok (length s)) × (o' ≡ over s o)
 bytes_back s out words o o' r r' f g room p room' q =
     let held : take (size_of r) words ≡ unpack_of s = wrote (unpack_of s) out r (p ∙ unpacks s out g room) in
     let bytes : pack_of (unpack_of s) ≡ s = pack_unpack (fits 8 s f) g in
@@ -156,7 +156,7 @@ unrefused s out z =
     (next_told s 0 g.0 g.1, room_told (unpack_of s) out g.2)
 
 -- where unpacking refuses nothing, the entries count the words that it tells, and tell at each place the word that it leaves there
-pub entries_agree : (s out left : List ℕ) (r : Coded)
+pub entries_agree : (s out left : List ℕ) (r : Result ℕ Refusal)
     → coded_told r left ≡ unpacking s out
     → coded_number r ≡ 0
     → (word_count s ≡ size_of r) × ((k : ℕ) → k < size_of r → word_entry s k ≡ get_or left k 0)

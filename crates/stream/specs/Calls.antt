@@ -1,8 +1,8 @@
 -- What each call on packed streams tells and leaves, for every input (document 01, "Numbers that come back": 1, 11, 12 and 13).
-use Rattle.std.specs.Prelude.{ℕ, ◌+◌, ◌-◌, ◌%◌, ◌^◌, List, ◌++◌, Bool, cond, not, ◌&&◌, ◌||◌, length, get_or, drop, ltb, eqb}
+use Rattle.std.specs.Prelude.{ℕ, ◌+◌, ◌-◌, ◌%◌, ◌^◌, List, ◌++◌, Bool, cond, not, ◌&&◌, ◌||◌, length, get_or, drop, ltb, eqb, Result, Ok, Err}
+use Rattle.ground.specs.Refusal.{told}
+use Rattle.ground.specs.declared.Refusal.{Refusal}
 use Rattle.stream.specs.Format.{fit, unpack_of, pack_of, word_at}
-use Rattle.stream.specs.declared.Coded.{Coded}
-use Rattle.stream.specs.declared.Coded.TheVariants.{Done, BadWord, BadLength, BadTail, NoRoom}
 
 -- ---- the numbers
 
@@ -54,24 +54,17 @@ unpacking bytes out = concluded (checked bytes (no_room (unpack_of bytes) out)) 
 unfoldable pub packing : List ℕ → List ℕ → Outcome
 packing words out = concluded (cond (fit 20 words) (no_room (pack_of words) out) 1) (pack_of words) out
 
--- the number, and the length, that each answer of the code stands for
-abbrev pub coded_number : Coded → ℕ
-coded_number (Done n) = 0
-coded_number BadWord = 1
-coded_number BadLength = 11
-coded_number BadTail = 12
-coded_number NoRoom = 13
+-- the number that an answer of the code stands for: 0 for a success
+abbrev pub coded_number : Result ℕ Refusal → ℕ
+coded_number answer = told answer
 
 -- the length that an answer stands for is the result's for a success, and 0 for every refusal
-abbrev pub size_of : Coded → ℕ
-size_of (Done n) = n
-size_of BadWord = 0
-size_of BadLength = 0
-size_of BadTail = 0
-size_of NoRoom = 0
+abbrev pub size_of : Result ℕ Refusal → ℕ
+size_of (Ok n) = n
+size_of (Err refusal) = 0
 
 -- an answer, with what the call left
-abbrev pub coded_told : Coded → List ℕ → Outcome
+abbrev pub coded_told : Result ℕ Refusal → List ℕ → Outcome
 coded_told answer left = record { refusal = coded_number answer; size = size_of answer; left = left }
 
 -- ---- the entries for C

@@ -1,23 +1,39 @@
 // The entries for the host program in C. Refusing, each answers 2^63 plus the refusal number.
 ghost use Rattle.std.specs.Prelude.{◌≡◌, ◌+◌};
-ghost use Rattle.stream.specs.Calls.{packing, unpacking, coded_number, size_of, entry, word_count, word_entry, answer, answered};
+ghost use Rattle.ground.specs.Refusal.{encoded};
+ghost use Rattle.stream.specs.Calls.{packing, unpacking, word_count, word_entry, answer, answered};
 
-use crate::Coded;
-use crate::read::{flaw, held, unpack, word};
+use crate::read::{checked, held, unpack, word};
 use crate::write::pack;
+use ground::{Refusal, encoded};
 
-const REFUSED: u64 = 0x8000_0000_0000_0000;
+// How many words a packed stream holds, or why it is none.
+#[tactic(auto, using(crate::proofs::Calls::count_flaw, crate::proofs::Calls::count_good), unfolding(crate::specs::Calls::entry))]
+fn count(bytes: &[u8]) -> Result<usize, Refusal>
+    ensures { encoded result ≡ word_count bytes.now }
+{
+    checked(bytes)?;
+    Ok(held(bytes))
+}
+
+// The word at place k of a packed stream, counted from 0, or why there is none.
+#[tactic(auto, using(crate::proofs::Calls::word_flaw, crate::proofs::Calls::word_past, crate::proofs::Calls::word_good), unfolding(crate::specs::Calls::entry))]
+fn find(bytes: &[u8], k: usize) -> Result<usize, Refusal>
+    ensures { encoded result ≡ word_entry bytes.now k }
+{
+    checked(bytes)?;
+    if held(bytes) <= k {
+        return Err(Refusal::NoRoom);
+    }
+    Ok(word(bytes, k) as usize)
+}
 
 // How many words a packed stream holds.
 #[unsafe(no_mangle)]
 pub extern "C" fn dextolumen_word_count(bytes: &[u8]) -> u64
     ensures { result ≡ word_count bytes.now }
 {
-    let number = flaw(bytes);
-    if number == 0 {
-        return held(bytes) as u64;
-    }
-    REFUSED + number
+    encoded(count(bytes))
 }
 
 // The word at place k of a packed stream, counted from 0.
@@ -25,27 +41,7 @@ pub extern "C" fn dextolumen_word_count(bytes: &[u8]) -> u64
 pub extern "C" fn dextolumen_word_at(bytes: &[u8], k: usize) -> u64
     ensures { result ≡ word_entry bytes.now k }
 {
-    let number = flaw(bytes);
-    if number == 0 {
-        if k < held(bytes) {
-            return word(bytes, k) as u64;
-        }
-        return REFUSED + 13;
-    }
-    REFUSED + number
-}
-
-// The length that packing or unpacking wrote, or why it refused.
-fn number_of(coded: Coded) -> u64
-    ensures { result ≡ entry (coded_number coded) (size_of coded) }
-{
-    match coded {
-        Coded::Done(n) => n as u64,
-        Coded::BadWord => REFUSED + 1,
-        Coded::BadLength => REFUSED + 11,
-        Coded::BadTail => REFUSED + 12,
-        Coded::NoRoom => REFUSED + 13,
-    }
+    encoded(find(bytes, k))
 }
 
 // Packs words into `out`, and answers how many bytes they make.
@@ -53,15 +49,13 @@ fn number_of(coded: Coded) -> u64
 pub extern "C" fn dextolumen_pack(words: &[u32], out: &mut [u8]) -> u64
     ensures { answer result out.new ≡ answered (packing words.now out.old) }
 {
-    let coded = pack(words, out);
-    number_of(coded)
+    encoded(pack(words, out))
 }
 
-// Unpacks a stream into `out`, and answers how many words it holds.
+// Unpacks a stream into `out`, and answers how many words it holds. (Like `dextolumen_pack` but for the types: C has both by name, and no generic function.)
 #[unsafe(no_mangle)]
 pub extern "C" fn dextolumen_unpack(bytes: &[u8], out: &mut [u32]) -> u64
     ensures { answer result out.new ≡ answered (unpacking bytes.now out.old) }
 {
-    let coded = unpack(bytes, out);
-    number_of(coded)
+    encoded(unpack(bytes, out))
 }

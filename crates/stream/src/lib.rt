@@ -6,13 +6,3 @@ pub mod entries;
 pub mod read;
 mod word;
 pub mod write;
-
-// What packing or unpacking answers: the length that it wrote, or why it refused. specs/Calls.antt has document 01's number of each.
-#[derive(Clone, Copy)]
-pub enum Coded {
-    Done(usize),
-    BadWord,
-    BadLength,
-    BadTail,
-    NoRoom,
-}

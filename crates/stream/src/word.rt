@@ -1,9 +1,10 @@
 // A pair of words and its five bytes: the word above takes two bytes and a high half, the word below a low half and two bytes.
 ghost use Rattle.std.specs.Prelude.{◌≡◌, ◌+◌, ◌*◌, ◌/◌, ◌%◌, [], ◌∷◌, ◌++◌, take, drop};
 ghost use Rattle.stream.specs.Format.{bits, number, joined};
-ghost use Rattle.stream.specs.Loops.{turn, pair_front, group_front};
+ghost use Rattle.stream.specs.Loops.{pair_front, group_front};
 
 // The word in two bytes and the high half of a third.
+#[tactic(auto, using(crate::proofs::Masks::high_word))]
 pub(crate) fn high_word(a: u8, b: u8, c: u8) -> u32
     ensures { result ≡ number (take 20 (joined 8 (a ∷ b ∷ c ∷ []))) }
 {
@@ -11,6 +12,7 @@ pub(crate) fn high_word(a: u8, b: u8, c: u8) -> u32
 }
 
 // The word in the low half of a byte and two more.
+#[tactic(auto, using(crate::proofs::Masks::low_word))]
 pub(crate) fn low_word(c: u8, d: u8, e: u8) -> u32
     ensures { result ≡ number (drop 4 (joined 8 (c ∷ d ∷ e ∷ []))) }
 {
@@ -18,6 +20,7 @@ pub(crate) fn low_word(c: u8, d: u8, e: u8) -> u32
 }
 
 // The last eight bits.
+#[tactic(auto, using(crate::proofs::Masks::low_byte))]
 pub(crate) fn low_byte(x: u32) -> u8
     ensures { result ≡ number (bits 8 x) }
 {
@@ -25,6 +28,7 @@ pub(crate) fn low_byte(x: u32) -> u8
 }
 
 // The byte in which the last four bits of a word meet the first four of the next.
+#[tactic(auto, using(crate::proofs::Masks::seam_byte))]
 pub(crate) fn seam(v: u32, w: u32) -> u8
     ensures { result ≡ number (bits 4 v ++ bits 4 (w / 65536)) }
 {
@@ -39,6 +43,7 @@ pub(crate) fn pair_front(v: u32, w: u32) -> u32
 }
 
 // The first 64 bits of four words: all of three, and four of the last.
+#[tactic(auto, using(crate::proofs::Masks::group_front_lem))]
 pub(crate) fn group_front(a: u32, b: u32, c: u32, d: u32) -> u64
     ensures { result ≡ group_front a b c d }
 {
@@ -46,20 +51,4 @@ pub(crate) fn group_front(a: u32, b: u32, c: u32, d: u32) -> u64
         | (((b as u64) & 0xfffff) << 24)
         | (((c as u64) & 0xfffff) << 4)
         | (((d as u64) >> 16) & 15)
-}
-
-// The four bytes of a number, the other way round.
-pub(crate) fn turned(x: u32) -> u32
-    ensures { result ≡ x % 256 * 16777216 + x / 256 % 256 * 65536 + x / 65536 % 256 * 256 + x / 16777216 }
-{
-    x % 256 * 16777216 + x / 256 % 256 * 65536 + x / 65536 % 256 * 256 + x / 16777216
-}
-
-// The eight bytes of a number, the other way round. The compiler makes one instruction of the two halves.
-pub(crate) fn turned_eight(x: u64) -> u64
-    ensures { result ≡ turn (x % 4294967296) * 4294967296 + turn (x / 4294967296) }
-{
-    let low = turned((x % 4294967296) as u32) as u64;
-    let high = turned((x / 4294967296) as u32) as u64;
-    low * 4294967296 + high
 }

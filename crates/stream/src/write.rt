@@ -1,44 +1,68 @@
 // Streams written.
-ghost use Rattle.std.specs.Prelude.{◌≡◌, ◌+◌, ◌*◌, ◌/◌, ◌%◌, ◌≤◌, [], ◌∷◌, ◌++◌, length, take};
+ghost use Rattle.std.specs.Prelude.{◌≡◌, ◌+◌, ◌*◌, ◌/◌, ◌%◌, ◌≤◌, [], ◌∷◌, ◌++◌, length, take, fold, bit_or};
+ghost use Rattle.std.specs.Int.{w32, w64, to_be_bytes, to_le_bytes};
 ghost use Rattle.std.proofs.lemmas.List.Edits.{sets};
 ghost use Rattle.stream.specs.Format.{pack_of, fit};
-ghost use Rattle.stream.specs.Loops.{four_bytes};
 ghost use Rattle.stream.specs.Calls.{over, coded_told, packing};
 
-use crate::Coded;
-use crate::word::{group_front, low_byte, pair_front, seam, turned, turned_eight};
+use crate::word::{group_front, low_byte, pair_front, seam};
+use ground::Refusal;
 
-// Whether each word has at most 20 bits: no bit above the twentieth is set in any. (No early end: so the loop takes many words at once.)
+// The bits that are set in any of the words. (No early end: so the loop takes many words at once. It counts places: a slice's iterator answers an
+// `Option` of a reference, which is laid out otherwise where addresses have another size, and web/build compiles this code for such a processor.)
+fn bits_of(words: &[u32]) -> u32
+    ensures { result ≡ fold bit_or 0 words.now }
+{
+    let mut set = 0;
+    for k in 0..words.len() {
+        set |= words[k];
+    }
+    set
+}
+
+// Whether each word has at most 20 bits: no bit above the twentieth is set in any.
 fn all_fit(words: &[u32]) -> bool
     ensures { result ≡ fit 20 words.now }
 {
-    let mut set: u32 = 0;
-    let mut i = 0;
-    while i < words.len() {
-        set |= words[i];
-        i += 1;
-    }
-    set < 1048576
+    bits_of(words) < 1 << 20
 }
 
-// The four bytes of a number, the lowest first, stored at place k. It stands by itself so that the compiler makes one store of it.
+// The four bytes of a number, the highest first, stored at place k. (Not by `copy_from_slice`: std's copy asks by addresses whether memories overlap, and the
+// code of an archive is compiled for processors with addresses of another size too.)
 fn put_four(x: u32, out: &mut [u8], k: usize)
     requires { k + 4 ≤ length out.old }
-    ensures { out.new ≡ sets out.old k (x % 256 ∷ x / 256 % 256 ∷ x / 65536 % 256 ∷ x / 16777216 % 256 ∷ []) }
+    ensures { out.new ≡ sets out.old k (to_be_bytes w32 x) }
 {
-    out[k] = (x % 256) as u8;
-    out[k + 1] = (x / 256 % 256) as u8;
-    out[k + 2] = (x / 65536 % 256) as u8;
-    out[k + 3] = (x / 16777216 % 256) as u8;
+    let [a, b, c, d] = x.to_be_bytes();
+    out[k] = a;
+    out[k + 1] = b;
+    out[k + 2] = c;
+    out[k + 3] = d;
 }
 
-// The eight bytes of a number, the lowest first, stored at place k. It stands by itself so that the compiler makes one store of the two halves.
+// The eight bytes of a number, the lowest first, stored at place k. It stands by itself so that the compiler makes one store of them. (No one function over N
+// bytes: a loop, its invariant and a law in place of twelve stores are no plainer.)
+fn put_lowest(x: u64, out: &mut [u8], k: usize)
+    requires { k + 8 ≤ length out.old }
+    ensures { out.new ≡ sets out.old k (to_le_bytes w64 x) }
+{
+    let [a, b, c, d, e, f, g, h] = x.to_le_bytes();
+    out[k] = a;
+    out[k + 1] = b;
+    out[k + 2] = c;
+    out[k + 3] = d;
+    out[k + 4] = e;
+    out[k + 5] = f;
+    out[k + 6] = g;
+    out[k + 7] = h;
+}
+
+// The same, the highest first. The compiler makes one instruction of turning them round.
 fn put_eight(x: u64, out: &mut [u8], k: usize)
     requires { k + 8 ≤ length out.old }
-    ensures { out.new ≡ sets out.old k (four_bytes (x % 4294967296) ++ four_bytes (x / 4294967296)) }
+    ensures { out.new ≡ sets out.old k (to_be_bytes w64 x) }
 {
-    put_four((x % 4294967296) as u32, out, k);
-    put_four((x / 4294967296) as u32, out, k + 4);
+    put_lowest(u64::from_le_bytes(x.to_be_bytes()), out, k);
 }
 
 // The bytes of four words, stored at place k. They are ten, so that one store of eight has all but two of them.
@@ -46,8 +70,7 @@ fn put_group(a: u32, b: u32, c: u32, d: u32, out: &mut [u8], k: usize)
     requires { k + 10 ≤ length out.old }
     ensures { out.new ≡ sets out.old k (pack_of (a ∷ b ∷ c ∷ d ∷ [])) }
 {
-    let x = group_front(a, b, c, d);
-    put_eight(turned_eight(x), out, k);
+    put_eight(group_front(a, b, c, d), out, k);
     out[k + 8] = low_byte(d >> 8);
     out[k + 9] = low_byte(d);
 }
@@ -57,8 +80,7 @@ fn put_pair(v: u32, w: u32, out: &mut [u8], k: usize)
     requires { k + 5 ≤ length out.old }
     ensures { out.new ≡ sets out.old k (pack_of (v ∷ w ∷ [])) }
 {
-    let x = pair_front(v, w);
-    put_four(turned(x), out, k);
+    put_four(pair_front(v, w), out, k);
     out[k + 4] = low_byte(w);
 }
 
@@ -73,13 +95,12 @@ fn put_last(v: u32, out: &mut [u8], k: usize)
 }
 
 // The bytes of all whole groups of four words, over the front of `out`. All packing that takes time is this loop: at most three words are left over.
+// (That there is room stands in three contracts from here on: it is a fact of the two slices that are lent, which a type would lend again.)
 fn pack_groups(words: &[u32], out: &mut [u8])
     requires { (length words.now * 5 + 1) / 2 ≤ length out.old }
     ensures { out.new ≡ over (take (10 * (length words.now / 4)) (pack_of words.now)) out.old }
 {
-    let groups = words.len() / 4;
-    let mut j = 0;
-    while j < groups {
+    for j in 0..words.len() / 4 {
         let i = 4 * j;
         put_group(
             words[i],
@@ -89,7 +110,6 @@ fn pack_groups(words: &[u32], out: &mut [u8])
             out,
             10 * j,
         );
-        j += 1;
     }
 }
 
@@ -120,16 +140,17 @@ fn pack_all(words: &[u32], out: &mut [u8])
 }
 
 // Packs words into `out`, or refuses: a word of more than 20 bits, then the room.
-pub fn pack(words: &[u32], out: &mut [u8]) -> Coded
+#[tactic(auto, using(crate::proofs::Calls::pack_large, crate::proofs::Calls::pack_short, crate::proofs::Calls::pack_done, crate::proofs::Stream::length_pack))]
+pub fn pack(words: &[u32], out: &mut [u8]) -> Result<usize, Refusal>
     ensures { coded_told result out.new ≡ packing words.now out.old }
 {
-    if all_fit(words) {
-        let n = (words.len() * 5 + 1) / 2;
-        if out.len() < n {
-            return Coded::NoRoom;
-        }
-        pack_all(words, out);
-        return Coded::Done(n);
+    if !all_fit(words) {
+        return Err(Refusal::BadWord);
     }
-    Coded::BadWord
+    let n = (words.len() * 5).div_ceil(2);
+    if out.len() < n {
+        return Err(Refusal::NoRoom);
+    }
+    pack_all(words, out);
+    Ok(n)
 }

@@ -1,19 +1,13 @@
 -- The entry of a recording, case by case: too long, refused before its first word, or run. Assumes nothing.
-use Rattle.std.proofs.Common.{◌≡◌, ℕ, ◌<◌, ◌≤◌, Bool, true, false, cond, eqb, ◌≢◌, List, length, sym, ap, ◌∙◌, le-ltb, lt-ltb, eq-eqb, ne_eqb}
+use Rattle.std.proofs.Common.{◌≡◌, ℕ, ◌<◌, ◌≤◌, true, false, cond, eqb, ◌≢◌, List, length, sym, ◌∙◌, le-ltb, lt-ltb, eq-eqb, ne_eqb}
 use lib.ListN.{length-replicate}
 use Rattle.stream.specs.Calls.{checked}
 use Rattle.stream.proofs.Calls.{flaw_told}
 use Rattle.chip.specs.Stream.{flaw_of, running}
 use Rattle.chip.proofs.Streams.{lengths_told}
-use Rattle.tally.specs.declared.Tally.{Tally}
-use Rattle.tally.specs.declared.Entry.{Entry}
 use Rattle.tally.specs.Tally.{no_tally}
 use Rattle.chip.specs.Fresh.{fresh}
 use Rattle.tally.specs.Overdraw.{tallied_of, entry, entry_from, entry_of}
-
--- an entry that counts nothing
-pub entered_none : {e e' : Entry} {t : Tally} (b : Bool) (n : ℕ) → t ≡ no_tally → e ≡ entry b n t → e' ≡ entry b n no_tally → e ≡ e'
-entered_none {e} b n none is so = is ∙ ap (entry b n) none ∙ sym so
 
 module _ (bytes : List ℕ) where
   -- a recording of more than 8,192 bytes is entered as too long, with nothing counted

@@ -14,7 +14,7 @@ use Rattle.picture.specs.declared.Vertex.{Vertex}
 use Rattle.line.specs.declared.Mode.{Mode}
 use Rattle.line.specs.declared.Mode.TheVariants.{Zero, One, Two}
 use Rattle.line.specs.declared.Style.{Style}
-use Rattle.line.specs.Segment.{mode_of, larger, from, dash_offers, shade_offers, step_offers, segment_offers}
+use Rattle.line.specs.Segment.{kind_of as linedKind, mode_of, larger, from, dash_offers, shade_offers, step_offers, segment_offers}
 use Rattle.registers.specs.declared.Registers.{Registers}
 use Rattle.registers.specs.declared.word.Word.{Word}
 use Rattle.registers.specs.declared.shape.Completed.{Completed}
@@ -111,6 +111,12 @@ offered_low r w m e =
     )
 
 -- ---- a figure's count, by its kind
+
+-- the kind of a line is that of its pixels
+pub kind_same : (m : Mode) → linedKind m ≡ line_kind m
+kind_same Zero = refl
+kind_same One = refl
+kind_same Two = refl
 
 module _ (r : Registers) (c : Count) where
   -- a count within what n words can come to stays so as the tally of a figure

@@ -21,11 +21,10 @@ use Rattle.chip.specs.Chip.{chip}
 use Rattle.chip.specs.Stream.{words_of, flaw_of, running}
 use Rattle.tally.specs.declared.Count.{Count}
 use Rattle.tally.specs.declared.Tally.{Tally}
-use Rattle.tally.specs.declared.Entry.{Entry}
 use Rattle.chip.proofs.Streams.{words_length}
 use Rattle.tally.specs.Tally.{no_tally, added, passed_in, EachBalanced, EachWithin}
 use Rattle.chip.specs.Fresh.{fresh}
-use Rattle.tally.specs.Overdraw.{word_tally, tallied_from, tallied_of, entry, entry_of, tally_of, tallies_of, Overdraw}
+use Rattle.tally.specs.Overdraw.{Entered, word_tally, tallied_from, tallied_of, entry, entry_of, tally_of, tallies_of, Overdraw}
 use Rattle.tally.proofs.HiddenLaws.{figure_balanced}
 use Rattle.tally.proofs.Adding.{
   none_balanced,
@@ -68,7 +67,7 @@ stream_balanced : (bytes : List ℕ) → EachBalanced (tally_of bytes)
 unfolding entry_of
 stream_balanced bytes = go (ltb 8192 (length bytes))
   where
-    go : (b : Bool) → EachBalanced (cond {A = Entry} b (entry true 0 no_tally) (entry false (running reset_of bytes (fresh 8192)).refusal (tallied_of bytes (fresh 8192)))).tally
+    go : (b : Bool) → EachBalanced (cond {A = Entered} b (entry true 0 no_tally) (entry false (running reset_of bytes (fresh 8192)).refusal (tallied_of bytes (fresh 8192)))).tally
     go true = none_balanced
     go false = run_balanced bytes (fresh 8192)
 
@@ -107,7 +106,7 @@ unfolding entry_of
 stream_each bytes = go (ltb 8192 (length bytes)) refl
   where
     go : (b : Bool) → ltb 8192 (length bytes) ≡ b
-        → EachWithin 3276 (cond {A = Entry} b (entry true 0 no_tally) (entry false (running reset_of bytes (fresh 8192)).refusal (tallied_of bytes (fresh 8192)))).tally
+        → EachWithin 3276 (cond {A = Entered} b (entry true 0 no_tally) (entry false (running reset_of bytes (fresh 8192)).refusal (tallied_of bytes (fresh 8192)))).tally
     go true e = none_each 3276
     go false e =
         each_more (length (words_of bytes)) 3276 (tallied_of bytes (fresh 8192))

@@ -20,11 +20,13 @@ use Rattle.machine.proofs.Steps.{step_number, accepted_leaves}
 use Rattle.chip.specs.Chip.{whole_offers, is_cut, figure_offers, chip}
 use Rattle.chip.specs.Stream.{words_of}
 use Rattle.chip.proofs.Streams.{word_at_lem, words_length, Reached as RunReached, reached_start as run_start, reached_more as run_more, reached_halt as run-halt, reached_end as run_end}
+use Rattle.ground.specs.declared.Refusal.{Refusal}
+use Rattle.ground.specs.Refusal.{number}
+use Rattle.ground.proofs.Numbers.{number_positive}
 use Rattle.tally.specs.declared.Tally.{Tally}
-use Rattle.tally.specs.declared.Entry.{Entry}
 use Rattle.tally.specs.Hidden.{offered_of, hidden_of}
 use Rattle.tally.specs.Tally.{count, no_tally, added, kept, figures_in, passed_in, EachBalanced, EachWithin}
-use Rattle.tally.specs.Overdraw.{figure_tally, count_of, figures_of, pixels_of, picture_of, word_tally, tallied_from, entry}
+use Rattle.tally.specs.Overdraw.{figure_tally, count_of, figures_of, pixels_of, picture_of, word_tally, tallied_from, Entered, entry}
 use Rattle.tally.proofs.HiddenLaws.{figure_balanced}
 use Rattle.tally.proofs.Adding.{none_balanced, none_each, added_each, kept_same, passed_added}
 use Rattle.tally.proofs.Figures.{offered_low, figure_each, figure_tally_balanced, figure_counted, figure_passed, count_within}
@@ -134,6 +136,10 @@ module _ (r : Registers) (w : Word) (i z : List ℕ) {word : Word} {f : Complete
   pub taken_tally : {t : Tally} → t ≡ cond (eqb n 0) (figure_tally r f (count 1 k p (k - p))) no_tally → t ≡ word_tally r w (memories i z)
   taken_tally e = e ∙ word_counted r w (memories i z) taken_told figure_is before.0
 
+  -- a refused word is counted as nothing
+  pub taken_refused : (refusal : Refusal) → n ≡ number refusal → no_tally ≡ word_tally r w (memories i z)
+  taken_refused refusal h = taken_tally (rw (h, ne_eqb (number refusal) 0 (λ e. omega (arith, number_positive refusal, e))))
+
 -- ---- one word more, of those that are left
 
 module _ (ws : List Word) (k : ℕ) (d : Word) (r : Registers) (m : Memories) (t : Tally) where
@@ -225,19 +231,19 @@ module _ (bytes : List ℕ) (m₀ : Memories) where
         )
 
     -- the entry of a stream that has come so far
-    ended : {e : Entry} (n : ℕ) → e ≡ entry false n t
+    ended : {e : Entered} (n : ℕ) → e ≡ entry false n t
         → (tallied_from reset_of m₀ no_tally (words_of bytes) ≡ t) × ((run_of (step_of chip) reset_of (words_of bytes) m₀).refusal ≡ n)
         × ((run_of (step_of chip) reset_of (words_of bytes) m₀).sum ≡ passed_in t % 2 ^ 64)
         → e ≡ entry false (run_of (step_of chip) reset_of (words_of bytes) m₀).refusal (tallied_from reset_of m₀ no_tally (words_of bytes))
     ended {e} n is h = is ∙ ap₂ (λ (a : ℕ) (b : Tally). entry false a b) (sym h.1) (sym h.0)
 
     -- where the next word is refused, the entry with its number and the tally so far is the entry of the whole stream
-    pub ended_halt : {e : Entry} {n p : ℕ} {r' : Registers} {m' : Memories} → k < length (unpack_of bytes)
+    pub ended_halt : {e : Entered} {n p : ℕ} {r' : Registers} {m' : Memories} → k < length (unpack_of bytes)
         → outcome n p r' m' ≡ step_of chip r (word_of (word_at bytes k)) m → n ≢ 0 → e ≡ entry false n t
         → e ≡ entry false (run_of (step_of chip) reset_of (words_of bytes) m₀).refusal (tallied_from reset_of m₀ no_tally (words_of bytes))
     ended_halt {n} left told some is = ended n is (reached_halt left told some)
 
     -- where no word is left, the entry with refusal 0 and the tally so far is the entry of the whole stream
-    pub ended_whole : {e : Entry} → length (unpack_of bytes) ≤ k → e ≡ entry false 0 t
+    pub ended_whole : {e : Entered} → length (unpack_of bytes) ≤ k → e ≡ entry false 0 t
         → e ≡ entry false (run_of (step_of chip) reset_of (words_of bytes) m₀).refusal (tallied_from reset_of m₀ no_tally (words_of bytes))
     ended_whole past is = ended 0 is (reached_end past)

@@ -1,5 +1,5 @@
 -- What a word, a recording and some recordings are counted as (document 02, [11]).
-use Rattle.std.specs.Prelude.{◌≡◌, ℕ, ◌+◌, ◌*◌, ◌%◌, ◌^◌, Bool, true, false, cond, List, [], ◌∷◌, map, length, ◌==◌, bit_and, nat_lt}
+use Rattle.std.specs.Prelude.{◌≡◌, ℕ, ◌+◌, ◌*◌, ◌%◌, ◌^◌, Bool, true, false, cond, List, [], ◌∷◌, map, length, Result, Ok, Err, ◌==◌, bit_and, nat_lt}
 use Rattle.picture.specs.declared.Pen.{Pen}
 use Rattle.picture.specs.declared.Kind.{Kind}
 use Rattle.picture.specs.declared.Kind.TheVariants.{Line0, Line1, Line2}
@@ -27,6 +27,9 @@ use Rattle.chip.specs.Stream.{words_of, flaw_of, running}
 use Rattle.tally.specs.declared.Count.{Count}
 use Rattle.tally.specs.declared.Tally.{Tally}
 use Rattle.tally.specs.declared.Entry.{Entry}
+use Rattle.tally.specs.declared.Stop.{Stop}
+use Rattle.tally.specs.declared.Stop.TheVariants.{TooLong, Refused}
+use Rattle.ground.specs.Refusal.{number}
 use Rattle.tally.specs.Hidden.{offered_of, hidden_of}
 use Rattle.tally.specs.Tally.{count, no_tally, only_of, count_in, added, total_of, sum_of, figures_in, passed_in, EachBalanced, EachWithin}
 
@@ -81,16 +84,38 @@ tallied_from r m t (w ∷ ws) =
 unfoldable pub tallied_of : List ℕ → Memories → Tally
 tallied_of bytes m = cond (flaw_of bytes m == 0) (tallied_from reset_of m no_tally (words_of bytes)) no_tally
 
--- an entry of the report, by its parts
-abbrev pub entry : Bool → ℕ → Tally → Entry
+-- a recording as the report tells it: whether it is too long, the number that refused it or one of its words, or 0, and its tally
+pub record Entered : Type 0 where
+  pub long : Bool
+  pub refusal : ℕ
+  pub tally : Tally
+
+-- the same, by its parts
+abbrev pub entry : Bool → ℕ → Tally → Entered
 entry long refusal tally = record { long = long; refusal = refusal; tally = tally }
 
+-- what an outcome of the code tells: whether the recording is too long
+abbrev pub is_long : {A : Type 0} → Result A Stop → Bool
+is_long (Ok _) = false
+is_long (Err TooLong) = true
+is_long (Err (Refused refusal)) = false
+
+-- and the number that refused it
+abbrev pub told_of : {A : Type 0} → Result A Stop → ℕ
+told_of (Ok _) = 0
+told_of (Err TooLong) = 0
+told_of (Err (Refused refusal)) = number refusal
+
+-- an entry of the code
+abbrev pub entered : Entry → Entered
+entered e = entry (is_long e.outcome) (told_of e.outcome) e.tally
+
 -- the entry of a stream that its checks do not refuse: what its words come to over two memories
-abbrev pub entry_from : List ℕ → Memories → Entry
+abbrev pub entry_from : List ℕ → Memories → Entered
 entry_from bytes m = entry false (run_of (step_of chip) reset_of (words_of bytes) m).refusal (tallied_from reset_of m no_tally (words_of bytes))
 
 -- a recording's entry, on a fresh picture of the drawing program's size: it is too long, or has its refusal and its tally
-unfoldable pub entry_of : List ℕ → Entry
+unfoldable pub entry_of : List ℕ → Entered
 entry_of bytes = cond (nat_lt 8192 (length bytes)) (entry true 0 no_tally) (entry false (running reset_of bytes (fresh 8192)).refusal (tallied_of bytes (fresh 8192)))
 
 -- its tally

@@ -6,10 +6,11 @@ mod figure;
 mod recording;
 mod sums;
 
+use ground::Refusal;
 pub use recording::enter;
 
 // Figures of one kind that were completed, and of their pixels how many were offered, passed and hidden.
-#[derive(Clone, Copy)]
+#[derive(Clone, Copy, Debug, PartialEq, Eq)]
 pub struct Count {
     pub figures: u64,
     pub offered: u64,
@@ -17,8 +18,8 @@ pub struct Count {
     pub hidden: u64,
 }
 
-// A count for each kind.
-#[derive(Clone, Copy)]
+// A count for each kind. No array by kind: the report's lines and specs/Tally.antt name each.
+#[derive(Clone, Copy, Debug, PartialEq, Eq)]
 pub struct Tally {
     pub gouraud: Count,
     pub constant: Count,
@@ -27,10 +28,16 @@ pub struct Tally {
     pub line2: Count,
 }
 
-// A recording in the report: whether it is too long, the number that refused it or one of its words, and its tally.
-#[derive(Clone, Copy)]
+// Why a recording was not run to its end: it is too long for the report, or it or one of its words was refused.
+#[derive(Clone, Copy, Debug, PartialEq, Eq)]
+pub enum Stop {
+    TooLong,
+    Refused(Refusal),
+}
+
+// A recording in the report: how it ended, and its tally.
+#[derive(Clone, Copy, Debug, PartialEq, Eq)]
 pub struct Entry {
-    pub long: bool,
-    pub refusal: u64,
+    pub outcome: Result<(), Stop>,
     pub tally: Tally,
 }

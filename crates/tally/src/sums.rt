@@ -22,15 +22,11 @@ impl Count {
     fn with(self, other: Count) -> Self
         ensures { result ≡ kept_count (together self other) }
     {
-        let figures = std::num::wrapping_add_u64(self.figures, other.figures);
-        let offered = std::num::wrapping_add_u64(self.offered, other.offered);
-        let passed = std::num::wrapping_add_u64(self.passed, other.passed);
-        let hidden = std::num::wrapping_add_u64(self.hidden, other.hidden);
         Count {
-            figures: figures,
-            offered: offered,
-            passed: passed,
-            hidden: hidden,
+            figures: self.figures.wrapping_add(other.figures),
+            offered: self.offered.wrapping_add(other.offered),
+            passed: self.passed.wrapping_add(other.passed),
+            hidden: self.hidden.wrapping_add(other.hidden),
         }
     }
 }
@@ -40,46 +36,55 @@ impl Tally {
     pub fn none() -> Self
         ensures { result ≡ no_tally }
     {
-        let c = Count::none();
+        let none = Count::none();
         Tally {
-            gouraud: c,
-            constant: c,
-            line0: c,
-            line1: c,
-            line2: c,
+            gouraud: none,
+            constant: none,
+            line0: none,
+            line1: none,
+            line2: none,
         }
     }
 
     // A count of one kind, and none of the others.
-    pub(crate) fn only(kind: Kind, c: Count) -> Self
-        ensures { result ≡ only_of kind c }
+    pub(crate) fn only(kind: Kind, count: Count) -> Self
+        ensures { result ≡ only_of kind count }
     {
-        let mut t = Tally::none();
+        let none = Tally::none();
         match kind {
-            Kind::Gouraud => t.gouraud = c,
-            Kind::Constant => t.constant = c,
-            Kind::Line0 => t.line0 = c,
-            Kind::Line1 => t.line1 = c,
-            Kind::Line2 => t.line2 = c,
+            Kind::Gouraud => Tally {
+                gouraud: count,
+                ..none
+            },
+            Kind::Constant => Tally {
+                constant: count,
+                ..none
+            },
+            Kind::Line0 => Tally {
+                line0: count,
+                ..none
+            },
+            Kind::Line1 => Tally {
+                line1: count,
+                ..none
+            },
+            Kind::Line2 => Tally {
+                line2: count,
+                ..none
+            },
         }
-        t
     }
 
     // Two tallies, kind by kind.
     pub fn with(self, other: Tally) -> Self
         ensures { result ≡ kept (added self other) }
     {
-        let gouraud = self.gouraud.with(other.gouraud);
-        let constant = self.constant.with(other.constant);
-        let line0 = self.line0.with(other.line0);
-        let line1 = self.line1.with(other.line1);
-        let line2 = self.line2.with(other.line2);
         Tally {
-            gouraud: gouraud,
-            constant: constant,
-            line0: line0,
-            line1: line1,
-            line2: line2,
+            gouraud: self.gouraud.with(other.gouraud),
+            constant: self.constant.with(other.constant),
+            line0: self.line0.with(other.line0),
+            line1: self.line1.with(other.line1),
+            line2: self.line2.with(other.line2),
         }
     }
 }

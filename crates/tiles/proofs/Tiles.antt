@@ -40,8 +40,7 @@ use Rattle.machine.proofs.Pixels.{Sized, drawn_same, drawn_count, filled_same}
 use Rattle.machine.proofs.Shares.{held_all, stores_all}
 use Rattle.machine.proofs.Alike.{runs_alike}
 use Rattle.chip.specs.Chip.{figure_offers, word_stores, chip}
-use Rattle.chip.specs.declared.transfer.Reading.{Reading}
-use Rattle.chip.specs.Read.{pixel_of, read_number, reading, Call, word, strobe, called}
+use Rattle.chip.specs.Read.{ReadOutcome, pixel_of, read_number, reading, Call, word, strobe, called}
 use Rattle.chip.specs.Stream.{words_of, flaw_in, flaw_of, running}
 use Rattle.chip.specs.Demands.{Ended}
 use Rattle.tiles.specs.Tiles.{answer, answers_of, tiled_rows, plain_rows, SamePicture, Beside, Starts, Keeps, Keeping, CallsAlike, StreamsAlike, Request9}
@@ -67,7 +66,7 @@ stores_tiled rows rows' r w e =
     ap (λ (n : ℕ). chip.stores n (laid 1 r) w) e ∙ stores_laid 1 rows' r w ∙ stores_all (layout_of (frame_of r.frame.line 1)) (tiles_mine r.frame.line) (chip.stores rows' (laid 0 r) w)
 
 -- two reads tell the same, and what they leave belongs together
-record ReadAlike (line n n' : ℕ) (o p : Reading) (a b : Memories) : Type 0 where
+record ReadAlike (line n n' : ℕ) (o p : ReadOutcome) (a b : Memories) : Type 0 where
   pub refusal : o.refusal ≡ p.refusal
   pub pixel : o.pixel ≡ p.pixel
   pub left : Beside line n n' o.registers a p.registers b
@@ -93,8 +92,8 @@ cold_first ni nz r w e cold = go (is_init w) (is_cold r) ((accepted_when ni nz r
 warm_read : (line : ℕ) (r : Registers) (m : Memories) → Warm line r → Warm line (reading r m).registers
 warm_read line r m warm =
     zero_or_not (read_number r m)
-    (λ e. subst (λ (o : Reading). Warm line o.registers) (sym (read_accepted r m e)) warm)
-    (λ e. subst (λ (o : Reading). Warm line o.registers) (sym (read_refused r m e)) warm)
+    (λ e. subst (λ (o : ReadOutcome). Warm line o.registers) (sym (read_accepted r m e)) warm)
+    (λ e. subst (λ (o : ReadOutcome). Warm line o.registers) (sym (read_refused r m e)) warm)
 
 -- ---- a call over memories
 

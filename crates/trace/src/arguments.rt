@@ -2,39 +2,44 @@
 ghost use Rattle.std.specs.Prelude.{◌≡◌};
 ghost use Rattle.trace.specs.Arguments.{coordinate_of, asked_of};
 
-use crate::Asked;
+use crate::Usage;
 use console::digits::{digits_only, value};
+use tracing::Pixel;
 
-// The coordinate that an argument tells, or 16,384.
-fn coordinate(arg: &[u8]) -> usize
+// The coordinate that an argument tells.
+fn coordinate(arg: &[u8]) -> Option<u16>
     ensures { result ≡ coordinate_of arg.now }
 {
-    if arg.len() == 0 {
-        return 16384;
+    if arg.is_empty() {
+        return None;
     }
-    if digits_only(arg) {
-        return value(arg, 16384);
+    if !digits_only(arg) {
+        return None;
     }
-    16384
+    let n = value(arg, 16384);
+    if 16383 < n {
+        return None;
+    }
+    Some(n as u16)
 }
 
-// What the arguments ask for. `count` has the program's own name among them, and an argument that is missing, or longer than 64 bytes, is empty.
-pub(crate) fn asked(count: usize, first: &[u8], second: &[u8]) -> Asked
+// What the arguments ask for: a pixel, or none of them all. `count` has the program's own name among them, and an argument that is missing, or longer
+// than 64 bytes, is empty.
+pub(crate) fn asked(count: usize, first: &[u8], second: &[u8]) -> Result<Option<Pixel>, Usage>
     ensures { result ≡ asked_of count first.now second.now }
 {
     if count < 2 {
-        return Asked::Whole;
+        return Ok(None);
     }
     if count != 3 {
-        return Asked::Unclear;
+        return Err(Usage::Unclear);
     }
-    let x = coordinate(first);
-    let y = coordinate(second);
-    if 16383 < x {
-        return Asked::Unclear;
-    }
-    if 16383 < y {
-        return Asked::Unclear;
-    }
-    Asked::Pixel(x as u16, y as u16)
+    // `ok_or` and `?` were tried here: the proof did not close as it stands, since both ways out go through what `?` hands on
+    let Some(x) = coordinate(first) else {
+        return Err(Usage::Unclear);
+    };
+    let Some(y) = coordinate(second) else {
+        return Err(Usage::Unclear);
+    };
+    Ok(Some(Pixel { x, y }))
 }

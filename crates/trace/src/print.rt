@@ -1,112 +1,101 @@
 // The trace goes to standard output, and what went wrong to standard error.
-ghost use Rattle.std.specs.Prelude.{◌≡◌, ◌≤◌, length};
+ghost use Rattle.report.specs.Calls.{OnPage};
 
 use chip::run::Ran;
-use console::say::{say, say_refused, write};
+use console::say::{refuse, say, say_refused};
 use console::{blank, piece};
 use registers::Registers;
-use stream::read::{flaw, held};
-use tracing::{Turn, trace, watch};
-
-// Prints a text, or says that it cannot.
-pub(crate) fn print(stdout: &impl Print, stderr: &impl Print, text: &[u8]) -> bool {
-    write(stdout, stderr, b"trace: standard output", text)
-}
-
-// Prints what refuses a stream, and says it as well. It is no line of a word, so that nothing takes it for the trace of an empty recording.
-fn refuse(stdout: &impl Print, stderr: &impl Print, text: &[u8]) {
-    say(stderr, b"trace: ");
-    say(stderr, text);
-    print(stdout, stderr, text);
-}
+use report::Page;
+use std::io;
+use stream::read::{checked, held};
+use tracing::{Pixel, trace, watch};
 
 // Before the first word.
 fn begun() -> Ran {
-    let r = Registers::reset();
     Ran {
-        refusal: 0,
+        outcome: Ok(()),
         index: 0,
         sum: 0,
-        registers: r,
+        registers: Registers::reset(),
     }
 }
 
-// The next word, traced or watched, with its line on the page.
+// The next word, traced or watched, with its line on the page. The two calls take different things, so that a closure would be no plainer. (They take
+// the memories one by one, as docs/CALLS.md has it.)
+#[tactic(auto, using(report::proofs::Laying::lays_within))]
 fn turn(
-    pixel: bool,
-    x: u16,
-    y: u16,
+    pixel: Option<Pixel>,
     run: Ran,
     bytes: &[u8],
     im: &mut [u16],
     zm: &mut [u16],
-    page: &mut [u8; 65536],
-    at: usize,
-) -> Turn
-    requires { at ≤ 65536 }
-    ensures { (result.next ≤ 65536) × (65536 ≡ length page.new) }
+    page: &mut Page<'_>,
+) -> Ran
+    requires { OnPage page.old }
+    ensures { OnPage page.new }
 {
-    if pixel {
-        return watch(x, y, run, bytes, im, zm, page, at);
+    match pixel {
+        Some(pixel) => watch(pixel, run, bytes, im, zm, page),
+        None => trace(run, bytes, im, zm, page),
     }
-    trace(run, bytes, im, zm, page, at)
 }
 
-// Prints the lines of all words, page after page: a page is printed while there is room for one line more.
+// Prints the lines of all words, page after page: a page is printed while there is room for one line more. It tells how far the run came, and
+// whether all was printed.
 fn print_words(
-    stdout: &impl Print,
-    stderr: &impl Print,
-    pixel: bool,
-    x: u16,
-    y: u16,
+    rt: &impl Print,
+    pixel: Option<Pixel>,
     bytes: &[u8],
     im: &mut [u16],
     zm: &mut [u16],
-) -> Ran {
-    let mut page = piece();
-    let count = held(bytes);
+) -> (Ran, io::Result<()>) {
+    let mut buffer = piece();
+    let mut page = Page {
+        out: &mut buffer,
+        at: 0,
+    };
     let mut run = begun();
-    let mut at = 0;
-    let mut k = 0;
-    while k < count {
-        let t = turn(pixel, x, y, run, bytes, im, zm, &mut page, at);
-        let next = t.run;
-        run = next;
-        at = t.next;
-        k += 1;
+    for _ in 0..held(bytes) {
+        run = turn(pixel, run, bytes, im, zm, &mut page);
+        let at = page.at;
         if 65460 < at {
-            if !print(stdout, stderr, &page[..at]) {
-                return run;
+            let printed = rt.write_all(&page.out[..at]);
+            if printed.is_err() {
+                return (run, printed);
             }
-            at = 0;
+            page.at = 0;
         }
     }
-    print(stdout, stderr, &page[..at]);
-    run
+    let at = page.at;
+    (run, rt.write_all(&page.out[..at]))
 }
 
-// Traces a stream on fresh memories, or tells the number that refuses it.
-pub(crate) fn print_stream(
-    stdout: &impl Print,
-    stderr: &impl Print,
-    pixel: bool,
-    x: u16,
-    y: u16,
-    bytes: &[u8],
-) {
-    let number = flaw(bytes);
-    if number == 11 {
-        refuse(stdout, stderr, b"refusal 11\n");
-        return;
-    }
-    if number == 12 {
-        refuse(stdout, stderr, b"refusal 12\n");
+// Says that standard output did not take all, if it did not.
+fn tell(rt: &impl Eprint, printed: io::Result<()>) {
+    console::say::tell(rt, "trace: standard output", printed);
+}
+
+// Traces a stream on fresh memories, or prints the number that refuses it, which is no line of a word, so that nothing takes it for the trace of an empty recording.
+fn print_stream(rt: &(impl Print + Eprint), pixel: Option<Pixel>, bytes: &[u8]) {
+    if let Err(refusal) = checked(bytes) {
+        tell(rt, refuse(rt, "trace", refusal));
         return;
     }
     let mut im = blank(0);
     let mut zm = blank(65535);
-    let run = print_words(stdout, stderr, pixel, x, y, bytes, &mut im, &mut zm);
-    if run.refusal != 0 {
-        say_refused(stderr, b"trace", run.refusal, run.index);
+    let (run, printed) = print_words(rt, pixel, bytes, &mut im, &mut zm);
+    tell(rt, printed);
+    if let Err(refusal) = run.outcome {
+        say_refused(rt, "trace", refusal, run.index);
     }
+}
+
+// Traces the bytes that were read. `too long` is no line of a trace.
+pub(crate) fn print_trace(rt: &(impl Print + Eprint), pixel: Option<Pixel>, bytes: &[u8]) {
+    if 1048576 < bytes.len() {
+        say(rt, "trace: the recording is longer than 1048576 bytes");
+        tell(rt, rt.write_all(b"too long\n"));
+        return;
+    }
+    print_stream(rt, pixel, bytes);
 }

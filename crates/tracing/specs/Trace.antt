@@ -1,19 +1,21 @@
 -- A recording's words, one after the other, and the line of each. A run is as `running` has it (chip's specs/Stream.antt): its index says which
 -- word is next, and after a refused word it stands still.
-use Rattle.std.specs.Prelude.{◌≡◌, ℕ, zero, suc, ◌+◌, ◌%◌, ◌^◌, Bool, cond, not, ◌||◌, List, [], ◌++◌, length, ◌==◌, nat_le}
+use Rattle.std.specs.Prelude.{◌≡◌, ℕ, zero, suc, ◌+◌, ◌%◌, ◌^◌, Bool, cond, Result, Ok, Err, not, ◌||◌, List, [], ◌++◌, length, ◌==◌, nat_le}
 use Rattle.stream.specs.Format.{unpack_of, word_at}
 use Rattle.registers.specs.declared.Registers.{Registers}
 use Rattle.registers.specs.Record.{reset_of}
 use Rattle.registers.specs.Word.{word_of}
 use Rattle.machine.specs.Run.{Outcome, Ran, ran, taken}
 use Rattle.machine.specs.Machine.{Memories, memories, step_of}
-use Rattle.chip.specs.declared.run.Ran.{Ran as Told}
+use Rattle.chip.specs.declared.run.Ran.{Ran as Running}
 use Rattle.chip.specs.declared.step.Answer.{Answer}
 use Rattle.chip.specs.Chip.{chip}
+use Rattle.ground.specs.declared.Refusal.{Refusal}
+use Rattle.ground.specs.Refusal.{told}
 use Rattle.listing.specs.declared.trace.Traced.{Traced}
-use Rattle.report.specs.Calls.{Laid}
+use Rattle.report.specs.Calls.{Lays}
+use Rattle.report.specs.declared.page.Page.{Page}
 use Rattle.listing.specs.Trace.{trace_line}
-use Rattle.tracing.specs.declared.Turn.{Turn}
 use Rattle.tracing.specs.declared.next.Taken.{Taken}
 use Rattle.tracing.specs.Meaning.{meaning_of}
 
@@ -22,8 +24,8 @@ abbrev pub Run : Type 0
 Run = Ran Registers Memories
 
 -- what the code has of a run, with the memories
-abbrev pub standing : Told → List ℕ → List ℕ → Run
-standing a i z = ran a.refusal a.index a.sum a.registers (memories i z)
+abbrev pub standing : Running → List ℕ → List ℕ → Run
+standing a i z = ran (told a.outcome) a.index a.sum a.registers (memories i z)
 
 -- ---- one word
 
@@ -47,10 +49,9 @@ traced_of bytes a =
     }
 
 -- the run after an answer, without the memories: those are the answer's own
-unfoldable pub moved : Told → Answer → Told
-moved a o =
-    cond (o.refusal == 0) (record { refusal = 0; index = a.index + 1; sum = (a.sum + o.passed) % 2 ^ 64; registers = o.registers })
-    (record { refusal = o.refusal; index = a.index; sum = a.sum; registers = o.registers })
+unfoldable pub moved : Running → Result Answer Refusal → Running
+moved a (Ok o) = record { outcome = Ok tt; index = a.index + 1; sum = (a.sum + o.passed) % 2 ^ 64; registers = o.registers }
+moved a (Err refusal) = record { outcome = Err refusal; index = a.index; sum = a.sum; registers = a.registers }
 
 -- the next word, taken
 pub record TakesTraced (bytes : List ℕ) (a : Run) (t : Taken) (i z : List ℕ) : Type 0 where
@@ -66,10 +67,10 @@ onward bytes a = cond (is_over bytes a.refusal a.index) a (taken a (answer_to by
 unfoldable pub line_at : List ℕ → Run → List ℕ
 line_at bytes a = cond (is_over bytes a.refusal a.index) [] (trace_line (traced_of bytes a))
 
--- what a call for one word leaves: the run after it, and its line laid at a place
-pub record Turns (bytes line : List ℕ) (a : Run) (old : List ℕ) (at : ℕ) (t : Turn) (i z new : List ℕ) : Type 0 where
-  pub run : standing t.run i z ≡ onward bytes a
-  pub text : Laid line old at new t.next
+-- what a call for one word leaves: the run after it, and its line laid on a page
+pub record Turns (bytes line : List ℕ) (a : Run) (old : Page) (t : Running) (i z : List ℕ) (new : Page) : Type 0 where
+  pub run : standing t i z ≡ onward bytes a
+  pub text : Lays line old new
 
 -- ---- a recording
 

@@ -6,13 +6,5 @@ mod meaning;
 mod next;
 mod pixel;
 
-use chip::run::Ran;
 pub use next::trace;
-pub use pixel::watch;
-
-// What one word more comes to: the run after it, and the place after its line.
-#[derive(Clone, Copy)]
-pub struct Turn {
-    pub run: Ran,
-    pub next: usize,
-}
+pub use pixel::{Pixel, watch};

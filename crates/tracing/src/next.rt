@@ -1,14 +1,16 @@
 // One word of a recording, taken and traced.
 ghost use Rattle.std.specs.Prelude.{◌≡◌, ◌<◌, false};
+ghost use Rattle.ground.specs.Refusal.{told};
 ghost use Rattle.tracing.specs.Trace.{standing, is_over, moved, TakesTraced, line_at};
 ghost use Rattle.tracing.specs.Lent.{Turned};
 
-use crate::Turn;
 use crate::meaning::meaning;
 use chip::run::Ran;
-use chip::step::{Answer, step};
+use chip::step::{Answer, passed, step};
+use ground::{Refusal, number_of};
 use listing::trace::{Traced, trace_line};
-use registers::word::decoded;
+use registers::word::{decoded, parts};
+use report::Page;
 use stream::read::{held, word};
 
 // A word that was taken: what is traced of it, and the run after it.
@@ -19,79 +21,63 @@ pub(crate) struct Taken {
 }
 
 // Whether nothing is left.
-pub(crate) fn is_over(a: Ran, bytes: &[u8]) -> bool
-    ensures { result ≡ is_over bytes.now a.refusal a.index }
+#[tactic(auto, using(ground::proofs::Numbers::number_positive), unfolding(crate::specs::Trace::is_over))]
+pub(crate) fn is_over(run: Ran, bytes: &[u8]) -> bool
+    ensures { result ≡ is_over bytes.now (told run.outcome) run.index }
 {
-    let count = held(bytes) as u64;
-    !(a.refusal == 0) | (count <= a.index)
+    run.outcome.is_err() || held(bytes) as u64 <= run.index
 }
 
 // The run after an answer.
-fn move_on(a: Ran, o: Answer) -> Ran
-    requires { a.index < 18446744073709551615 }
-    ensures { result ≡ moved a o }
+#[tactic(auto, unfolding(crate::specs::Trace::moved))]
+fn move_on(run: Ran, answer: Result<Answer, Refusal>) -> Ran
+    requires { run.index < 18446744073709551615 }
+    ensures { result ≡ moved run answer }
 {
-    let next = o.registers;
-    if o.refusal != 0 {
-        return Ran {
-            refusal: o.refusal,
-            index: a.index,
-            sum: a.sum,
-            registers: next,
-        };
-    }
-    let sum = std::num::wrapping_add_u64(a.sum, o.passed);
-    Ran {
-        refusal: 0,
-        index: a.index + 1,
-        sum: sum,
-        registers: next,
+    match answer {
+        Ok(accepted) => Ran {
+            outcome: Ok(()),
+            index: run.index + 1,
+            sum: run.sum.wrapping_add(accepted.passed),
+            registers: accepted.registers,
+        },
+        Err(refusal) => Ran {
+            outcome: Err(refusal),
+            ..run
+        },
     }
 }
 
-// Takes the next word.
-pub(crate) fn take(a: Ran, bytes: &[u8], im: &mut [u16], zm: &mut [u16]) -> Taken
-    requires { is_over bytes.now a.refusal a.index ≡ false }
-    ensures { TakesTraced bytes.now (standing a im.old zm.old) result im.new zm.new }
+// Takes the next word. (The memories are lent one by one, as `step` takes them, here and in the calls of this crate.)
+#[tactic(auto, using(stream::proofs::Round::word_fits))]
+pub(crate) fn take(run: Ran, bytes: &[u8], im: &mut [u16], zm: &mut [u16]) -> Taken
+    requires { is_over bytes.now (told run.outcome) run.index ≡ false }
+    ensures { TakesTraced bytes.now (standing run im.old zm.old) result im.new zm.new }
 {
-    let w = word(bytes, a.index as usize);
-    let r = a.registers;
-    let means = meaning(r, decoded((w / 65536) as u8, (w % 65536) as u16));
-    let o = step(r, (w / 65536) as u8, (w % 65536) as u16, im, zm);
-    let run = move_on(a, o);
-    let traced = Traced {
-        index: a.index,
-        word: w,
-        meaning: means,
-        refusal: o.refusal,
-        passed: o.passed,
-    };
+    let word = word(bytes, run.index as usize);
+    let (command, operand) = parts(word);
+    let meaning = meaning(run.registers, decoded(command, operand));
+    let answer = step(run.registers, command, operand, im, zm);
     Taken {
-        traced: traced,
-        run: run,
+        traced: Traced {
+            index: run.index,
+            word,
+            meaning,
+            refusal: number_of(answer),
+            passed: passed(answer),
+        },
+        run: move_on(run, answer),
     }
 }
 
-// Takes the next word and lays its line at a place of `out`; does nothing where nothing is left.
-pub fn trace(
-    a: Ran,
-    bytes: &[u8],
-    im: &mut [u16],
-    zm: &mut [u16],
-    out: &mut [u8],
-    at: usize,
-) -> Turn
-    ensures { Turned line_at bytes a im zm out at result }
+// Takes the next word and lays its line on a page; does nothing where nothing is left.
+pub fn trace(run: Ran, bytes: &[u8], im: &mut [u16], zm: &mut [u16], page: &mut Page<'_>) -> Ran
+    ensures { Turned line_at bytes run im zm page.old page.new result }
 {
-    if is_over(a, bytes) {
-        return Turn { run: a, next: at };
+    if is_over(run, bytes) {
+        return run;
     }
-    let t = take(a, bytes, im, zm);
-    let traced = t.traced;
-    let run = t.run;
-    let next = trace_line(traced, out, at);
-    Turn {
-        run: run,
-        next: next,
-    }
+    let taken = take(run, bytes, im, zm);
+    trace_line(taken.traced, page);
+    taken.run
 }

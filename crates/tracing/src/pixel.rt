@@ -1,142 +1,139 @@
-// One word of a recording, taken, and traced where it has a pixel at (x, y).
+// One word of a recording, taken, and traced where it has a pixel at a place that is asked for.
 ghost use Rattle.std.specs.Prelude.{◌≡◌, not, ◌&&◌, [], if◌then◌else◌, ◌==◌, nat_eq};
-ghost use Rattle.registers.specs.Record.{window};
-ghost use Rattle.report.specs.Calls.{Laid};
+ghost use Rattle.report.specs.Calls.{Lays};
 ghost use Rattle.listing.specs.Trace.{watch_line};
 ghost use Rattle.tracing.specs.Lent.{Counts, Turned};
 ghost use Rattle.tracing.specs.Watch.{narrowed, aimed, passes_at, loads_at, hits_of, numbers_at, watch_at};
 
-use crate::Turn;
 use crate::next::{is_over, take};
 use chip::draw::draw;
 use chip::run::Ran;
-use ground::{larger, smaller};
 use listing::trace::{Numbers, Traced, watch_line};
-use picture::Frame;
 use picture::place::rows_of;
 use picture::transfer::fetch;
+use picture::{Frame, Memories};
 use registers::shape::Completed;
-use registers::word::{Word, decoded};
+use registers::word::{Word, word_of};
 use registers::{Registers, Window};
+use report::Page;
 use stream::read::word;
 
-// What of a window is at pixel (x, y).
-fn narrow(w: Window, x: u16, y: u16) -> Window
-    ensures { result ≡ narrowed x y w }
-{
-    let left = larger(w.left, x);
-    let top = smaller(w.top, y);
-    let right = smaller(w.right, x);
-    let bottom = larger(w.bottom, y);
-    Window {
-        left: left,
-        top: top,
-        right: right,
-        bottom: bottom,
+// The pixel that is asked for.
+#[derive(Clone, Copy)]
+pub struct Pixel {
+    pub x: u16,
+    pub y: u16,
+}
+
+impl Pixel {
+    // What of a window is at the pixel.
+    fn narrow(self, window: Window) -> Window
+        ensures { result ≡ narrowed self.x self.y window }
+    {
+        Window {
+            left: window.left.max(self.x),
+            top: window.top.min(self.y),
+            right: window.right.min(self.x),
+            bottom: window.bottom.max(self.y),
+        }
     }
-}
 
-// The registers with that window and both write enables off.
-fn aim(mut r: Registers, x: u16, y: u16) -> Registers
-    ensures { result ≡ aimed x y r }
-{
-    let w = narrow(r.window, x, y);
-    r.modes.hcontrol = 0;
-    r.window = w;
-    r
-}
-
-// How many pixels of a figure pass at (x, y). With those registers none is stored.
-fn passes_at(r: Registers, figure: Completed, x: u16, y: u16, im: &mut [u16], zm: &mut [u16]) -> u64
-    ensures { Counts (passes_at x y r figure) im zm result }
-{
-    let q = aim(r, x, y);
-    draw(q, figure, im, zm)
-}
-
-// Whether PTRN's pixel is at (x, y), as a number.
-fn loads_at(r: Registers, x: u16, y: u16, ni: usize, nz: usize) -> u64
-    ensures { result ≡ loads_at x y r ni nz }
-{
-    let rows = rows_of(r.frame, ni, nz);
-    if (r.region.x == x) & (r.region.y == y) & (x < r.frame.line) & ((y as usize) < rows) {
-        return 1;
+    // The registers with that window and both write enables off.
+    fn aim(self, mut registers: Registers) -> Registers
+        ensures { result ≡ aimed self.x self.y registers }
+    {
+        registers.modes.hcontrol = 0;
+        registers.window = self.narrow(registers.window);
+        registers
     }
-    0
-}
 
-// How many pixels a word has at (x, y), if it is accepted.
-fn hits(r: Registers, word: Word, x: u16, y: u16, im: &mut [u16], zm: &mut [u16]) -> u64
-    ensures { Counts (hits_of x y r word) im zm result }
-{
-    match word {
-        Word::Init(_) => 0,
-        Word::Aux(_) => 0,
-        Word::Parm(_) => 0,
-        Word::At(c, n) => passes_at(r, r.completed_by(c, n), x, y, im, zm),
-        Word::Img(_) => 0,
-        Word::Ptrn(_) => loads_at(r, x, y, im.len(), zm.len()),
-        Word::Reserved => 0,
-        Word::Unmodelled => 0,
-        Word::Unknown => 0,
+    // How many pixels of a figure pass there. With those registers none is stored.
+    fn passes(self, registers: Registers, figure: Completed, im: &mut [u16], zm: &mut [u16]) -> u64
+        ensures { Counts (passes_at self.x self.y registers figure) im zm result }
+    {
+        let mut m = Memories { i: im, z: zm };
+        draw(self.aim(registers), figure, &mut m)
     }
-}
 
-// The two numbers at (x, y).
-fn numbers_at(frame: Frame, x: u16, y: u16, im: &[u16], zm: &[u16]) -> Numbers
-    ensures { result ≡ numbers_at frame x y im.now zm.now }
-{
-    let i = fetch(frame, false, x, y, im, zm);
-    let z = fetch(frame, true, x, y, im, zm);
-    Numbers { i: i, z: z }
+    // How many pixels PTRN has there: its own, or none. A count, so that `hits` tells it in one with those of figures; over memories of so many places, as `loads_at` has it.
+    #[tactic(auto, unfolding(crate::specs::Watch::loads_at))]
+    fn loads(self, registers: Registers, ni: usize, nz: usize) -> u64
+        ensures { result ≡ loads_at self.x self.y registers ni nz }
+    {
+        let Registers { region, frame, .. } = registers;
+        let rows = rows_of(frame, ni, nz);
+        let here = region.x == self.x && region.y == self.y;
+        let inside = self.x < frame.line && (self.y as usize) < rows;
+        u64::from(here && inside)
+    }
+
+    // How many pixels a word has there, if it is accepted.
+    #[tactic(auto, unfolding(crate::specs::Watch::hits_of))]
+    fn hits(self, registers: Registers, word: Word, im: &mut [u16], zm: &mut [u16]) -> u64
+        ensures { Counts (hits_of self.x self.y registers word) im zm result }
+    {
+        match word {
+            Word::At(coordinate, number) => {
+                self.passes(
+                    registers,
+                    registers.completed_by(coordinate, number),
+                    im,
+                    zm,
+                )
+            }
+            Word::Ptrn(_) => self.loads(registers, im.len(), zm.len()),
+            Word::Init(_)
+            | Word::Aux(_)
+            | Word::Parm(_)
+            | Word::Img(_)
+            | Word::Reserved
+            | Word::Unmodelled
+            | Word::Unknown => 0,
+        }
+    }
+
+    // The two numbers there.
+    fn numbers(self, frame: Frame, im: &[u16], zm: &[u16]) -> Numbers
+        ensures { result ≡ numbers_at frame self.x self.y im.now zm.now }
+    {
+        Numbers {
+            i: fetch(frame, false, self.x, self.y, im, zm),
+            z: fetch(frame, true, self.x, self.y, im, zm),
+        }
+    }
 }
 
 // Lays a word's line, if it was accepted and has pixels.
-fn lay(t: Traced, count: u64, before: Numbers, after: Numbers, out: &mut [u8], at: usize) -> usize
-    ensures { Laid (if nat_eq t.refusal 0 && not (count == 0) then watch_line t before after else []) out.old at out.new result }
+fn lay(word: Traced, count: u64, before: Numbers, after: Numbers, page: &mut Page<'_>)
+    ensures { Lays (if nat_eq word.refusal 0 && not (count == 0) then watch_line word before after else []) page.old page.new }
 {
-    if (t.refusal == 0) & !(count == 0) {
-        return watch_line(t, before, after, out, at);
+    if word.refusal == 0 && count != 0 {
+        watch_line(word, before, after, page);
     }
-    at
 }
 
-// Takes the next word and, if it has a pixel at (x, y), lays its line with the numbers there at a place of `out`; does nothing where nothing is
-// left.
+// Takes the next word and, if it has the pixel, lays its line with the numbers there on a page; does nothing where nothing is left.
+#[tactic(auto, using(stream::proofs::Round::word_fits))]
 pub fn watch(
-    x: u16,
-    y: u16,
-    a: Ran,
+    pixel: Pixel,
+    run: Ran,
     bytes: &[u8],
     im: &mut [u16],
     zm: &mut [u16],
-    out: &mut [u8],
-    at: usize,
-) -> Turn
-    ensures { Turned (watch_at x y) bytes a im zm out at result }
+    page: &mut Page<'_>,
+) -> Ran
+    ensures { Turned (watch_at pixel.x pixel.y) bytes run im zm page.old page.new result }
 {
-    if is_over(a, bytes) {
-        return Turn { run: a, next: at };
+    if is_over(run, bytes) {
+        return run;
     }
-    let w = word(bytes, a.index as usize);
-    let r = a.registers;
-    let frame = r.frame;
-    let before = numbers_at(frame, x, y, im, zm);
-    let count = hits(
-        r,
-        decoded((w / 65536) as u8, (w % 65536) as u16),
-        x,
-        y,
-        im,
-        zm,
-    );
-    let t = take(a, bytes, im, zm);
-    let after = numbers_at(frame, x, y, im, zm);
-    let traced = t.traced;
-    let run = t.run;
-    let next = lay(traced, count, before, after, out, at);
-    Turn {
-        run: run,
-        next: next,
-    }
+    let frame = run.registers.frame;
+    let word = word(bytes, run.index as usize);
+    let next = word_of(word);
+    let before = pixel.numbers(frame, im, zm);
+    let count = pixel.hits(run.registers, next, im, zm);
+    let taken = take(run, bytes, im, zm);
+    let after = pixel.numbers(frame, im, zm);
+    lay(taken.traced, count, before, after, page);
+    taken.run
 }

@@ -1,16 +1,18 @@
 -- Numbers carried along a row as 2 ^ 48 times themselves and a part: by a factor f near 2 ^ 48 / 2 D where the triangle is small, by a
 -- quotient rounded up where it is not. One law, picture's `near_told`, says that both tell the number. Assumes nothing.
 use Rattle.picture.specs.Draw.{carried_one}
-use Rattle.std.proofs.Common.{◌≡◌, ℕ, zero, suc, ◌+◌, ◌-◌, ◌*◌, ◌/◌, ◌%◌, ◌^◌, ◌<◌, ◌≤◌, min, Bool, true, false, sym, refl, ap, ◌∙◌, le_of_suc-le-suc, add-zero, mul-le-mul_right, mod-lt, mod-eq_of_lt, mul_assoc, suc-mul, mul_comm, div-lt_iff_lt-mul, add-mul, mul-le-mul, lt_of_mul-lt-mul_right, mul-le-mul_left, div-add-mod', zero-mul, mul-add, le_of_mul-le-mul_right, mul_left_comm, add-one, arith}
+use Rattle.std.proofs.Common.{◌≡◌, ℕ, Option, Some, None, zero, suc, ◌+◌, ◌-◌, ◌*◌, ◌/◌, ◌%◌, ◌^◌, ◌<◌, ◌≤◌, min, true, sym, refl, ap, ◌∙◌, le_of_suc-le-suc, add-zero, mul-le-mul_right, mod-lt, mod-eq_of_lt, mul_assoc, suc-mul, mul_comm, div-lt_iff_lt-mul, add-mul, mul-le-mul, lt_of_mul-lt-mul_right, mul-le-mul_left, div-add-mod', zero-mul, mul-add, le_of_mul-le-mul_right, mul_left_comm, add-one, arith}
 use native.Mathlib.Nat.{lt-div-mul-add, mul-div-le}
 use Rattle.picture.proofs.Near.{near_told}
 use Rattle.triangle.specs.declared.Corners.{Corners}
 use Rattle.triangle.specs.declared.Slopes.{Slopes}
+use Rattle.triangle.specs.declared.Sum.{Sum}
 use Rattle.triangle.specs.Edge.{covers, amount, area_of}
 use Rattle.triangle.specs.Number.{mass_of, mixed, shade}
-use Rattle.triangle.specs.Loops.{edges_at, middle, Turned, Ready, Leans, mass_by, scaled, Paces, Near, Drifts, Runs, Begun}
+use Rattle.triangle.specs.Loops.{edges_at, ahead, behind, Slants, Turned, Ready, Sized, Leans, Sums, mass_by, scaled, Paces, Near, Drifts, Runs, Begins, Begun, Carries}
 use Rattle.triangle.proofs.Plane.{mean_most, right_plus, right_minus}
 use Rattle.triangle.proofs.Covers.{covered_ready, covered_within}
+use Rattle.triangle.proofs.Sums.{sum_told}
 
 -- ---- bare numbers
 
@@ -148,6 +150,14 @@ run_next lo j = omega arith
 
 -- ---- a step to the right
 
+-- what a step adds to 2 N where that does not fall, and what it takes away where it does: from 2 ^ 63 on a number stands for one below 0
+leans_up : {u v w p q r s : ℕ} → Slants u v w p q r s → s < 9223372036854775808 → s + 2 * behind u v w p q r ≡ 2 * ahead u v w p q r
+leans_up k h = omega (arith, k.so, k.behind_low)
+
+leans_down : {u v w p q r s : ℕ} → Slants u v w p q r s → 9223372036854775808 ≤ s → (n : ℕ) → (n + s) % 2 ^ 64 ≡ 0
+    → n < 18446744073709551616 → n + 2 * ahead u v w p q r ≡ 2 * behind u v w p q r
+leans_down k h n z fits = omega (arith, k.so, k.fits, k.ahead_low, k.behind_low)
+
 module _ (t : Corners) (k : Turned t) (x y p q r : ℕ) (h : covers t x y ≡ true) (g : covers t (x + 1) y ≡ true) where
   mass_step : mass_by t p q r (x + 1) y + 2 * (p * t.c.y + q * t.a.y + r * t.b.y)
       ≡ mass_by t p q r x y + 2 * (p * t.b.y + q * t.c.y + r * t.a.y)
@@ -177,7 +187,7 @@ module _ (t : Corners) (k : Turned t) (f : ℕ) (few : 2 * area_of t ≤ 65536) 
   -- what a pixel to the right adds, and what it makes
   module _ (right : ℕ) (lean : Leans t p q r right) where
     -- where 2 N does not fall to the right, what a pixel adds to it (at most 131,070 D) times the factor is what is added to the scaled sum
-    pub paces_up : middle ≤ right → Paces t f p q r (min (right - middle) (131070 * area_of t) * f)
+    pub paces_up : right < 9223372036854775808 → Paces t f p q r (min right (131070 * area_of t) * f)
     unfolding scaled
     paces_up l =
         record {
@@ -185,21 +195,21 @@ module _ (t : Corners) (k : Turned t) (f : ℕ) (few : 2 * area_of t ≤ 65536) 
               let a = mass_step t k x y p q r h g in
               let b = mass_at x y h in
               let c = mass_at (x + 1) y g in
-              let e : mass_by t p q r (x + 1) y ≡ mass_by t p q r x y + min (right - middle) (131070 * area_of t) = omega (arith, lean.so) in
-              up_mod _ _ _ (scale_up (mass_by t p q r x y) _ (min (right - middle) (131070 * area_of t)) f e) (sum_fits (area_of t) f few most _ c);
+              let e : mass_by t p q r (x + 1) y ≡ mass_by t p q r x y + min right (131070 * area_of t) = omega (arith, leans_up lean l) in
+              up_mod _ _ _ (scale_up (mass_by t p q r x y) _ (min right (131070 * area_of t)) f e) (sum_fits (area_of t) f few most _ c);
         }
 
     -- where 2 N does not rise to the right, what is added is what makes 0 modulo 2 ^ 64 with the pixel's loss (at most 131,070 D) times the factor
-    pub paces_down : (v : ℕ) → right ≤ middle → (v + min (middle - right) (131070 * area_of t) * f) % 2 ^ 64 ≡ 0 → Paces t f p q r v
+    pub paces_down : (v back : ℕ) → back < 18446744073709551616 → 9223372036854775808 ≤ right → (back + right) % 2 ^ 64 ≡ 0 → (v + min back (131070 * area_of t) * f) % 2 ^ 64 ≡ 0 → Paces t f p q r v
     unfolding scaled
-    paces_down v l n =
+    paces_down v back low l z n =
         record {
           go = λ x y h g.
               let a = mass_step t k x y p q r h g in
               let b = mass_at x y h in
               let c = mass_at (x + 1) y g in
-              let e : mass_by t p q r x y ≡ mass_by t p q r (x + 1) y + min (middle - right) (131070 * area_of t) = omega (arith, lean.so) in
-              down_mod _ _ _ v (scale_up (mass_by t p q r (x + 1) y) _ (min (middle - right) (131070 * area_of t)) f e) (sum_fits (area_of t) f few most _ c) n;
+              let e : mass_by t p q r x y ≡ mass_by t p q r (x + 1) y + min back (131070 * area_of t) = omega (arith, leans_down lean l back z low) in
+              down_mod _ _ _ v (scale_up (mass_by t p q r (x + 1) y) _ (min back (131070 * area_of t)) f e) (sum_fits (area_of t) f few most _ c) n;
         }
 
   -- at a covered pixel the scaled sum, divided by 2 ^ 48, is the number mixed by the edges' amounts
@@ -245,41 +255,41 @@ module _ (t : Corners) (k : Turned t) (fits : area_of t ≤ 2147483648) (p q r :
 
   module _ (right : ℕ) (lean : Leans t p q r right) where
     -- where 2 N does not fall to the right, 2 ^ 48 times what a pixel adds over 2 D, rounded down and one more, carries a long sum on
-    pub drifts_up : (v : ℕ) → middle ≤ right
-        → v * (2 * area_of t) ≤ min (right - middle) (131070 * area_of t) * carried_one
-        → min (right - middle) (131070 * area_of t) * carried_one < v * (2 * area_of t) + 2 * area_of t
+    pub drifts_up : (v : ℕ) → right < 9223372036854775808
+        → v * (2 * area_of t) ≤ min right (131070 * area_of t) * carried_one
+        → min right (131070 * area_of t) * carried_one < v * (2 * area_of t) + 2 * area_of t
         → Drifts t p q r (v + 1)
-    drifts_up v l lo hi =
+    drifts_up v up lo hi =
         record {
           go = λ x y b a h g s n.
               let z : 0 < 2 * area_of t = omega (arith, (ready_long x y h).some) in
               let c = mass_long x y h in
               let e = mass_long (x + 1) y g in
-              let j : mass_by t p q r (x + 1) y ≡ mass_by t p q r x y + min (right - middle) (131070 * area_of t) = omega (arith, lean.so, mass_step t k x y p q r h g) in
+              let j : mass_by t p q r (x + 1) y ≡ mass_by t p q r x y + min right (131070 * area_of t) = omega (arith, leans_up lean up, mass_step t k x y p q r h g) in
               let m : 2 * mass_by t p q r (x + 1) y ≤ 131071 * (2 * area_of t) = omega (arith, e) in
-              let u = rise_low _ _ (min (right - middle) (131070 * area_of t)) (2 * area_of t) a b v z m n.low n.high s j hi in
-              let w = rise_high _ _ (min (right - middle) (131070 * area_of t)) (2 * area_of t) a b v z m n.low n.high s j lo in
-              let f = top _ _ (min (right - middle) (131070 * area_of t)) (2 * area_of t) a b v z m n.low n.high s _ w in
+              let u = rise_low _ _ (min right (131070 * area_of t)) (2 * area_of t) a b v z m n.low n.high s j hi in
+              let w = rise_high _ _ (min right (131070 * area_of t)) (2 * area_of t) a b v z m n.low n.high s j lo in
+              let f = top _ _ (min right (131070 * area_of t)) (2 * area_of t) a b v z m n.low n.high s _ w in
               rw (mod-eq_of_lt f) (record { low = u; high = w });
         }
 
     -- where 2 N does not rise to the right, a number that takes away 2 ^ 48 times the pixel's loss over 2 D, rounded down, carries a long sum on
-    pub drifts_down : (v g : ℕ) → right ≤ middle → (g + v) % 2 ^ 64 ≡ 0
-        → v * (2 * area_of t) ≤ min (middle - right) (131070 * area_of t) * carried_one
-        → min (middle - right) (131070 * area_of t) * carried_one < v * (2 * area_of t) + 2 * area_of t
+    pub drifts_down : (v g back : ℕ) → back < 18446744073709551616 → 9223372036854775808 ≤ right → (back + right) % 2 ^ 64 ≡ 0 → (g + v) % 2 ^ 64 ≡ 0
+        → v * (2 * area_of t) ≤ min back (131070 * area_of t) * carried_one
+        → min back (131070 * area_of t) * carried_one < v * (2 * area_of t) + 2 * area_of t
         → Drifts t p q r g
-    drifts_down v g₀ l nil lo hi =
+    drifts_down v g₀ back few down z₀ nil lo hi =
         record {
           go = λ x y b a h g s n.
               let z : 0 < 2 * area_of t = omega (arith, (ready_long x y h).some) in
               let c = mass_long x y h in
               let e = mass_long (x + 1) y g in
-              let j : mass_by t p q r x y ≡ mass_by t p q r (x + 1) y + min (middle - right) (131070 * area_of t) = omega (arith, lean.so, mass_step t k x y p q r h g) in
+              let j : mass_by t p q r x y ≡ mass_by t p q r (x + 1) y + min back (131070 * area_of t) = omega (arith, leans_down lean down back z₀ few, mass_step t k x y p q r h g) in
               let m : 2 * mass_by t p q r (x + 1) y ≤ 131071 * (2 * area_of t) = omega (arith, e) in
-              let i = fall_le _ _ (min (middle - right) (131070 * area_of t)) (2 * area_of t) a b v z m n.low n.high s j lo in
-              let u = fall_low _ _ (min (middle - right) (131070 * area_of t)) (2 * area_of t) a b v z m n.low n.high s j lo in
-              let w = fall_high _ _ (min (middle - right) (131070 * area_of t)) (2 * area_of t) a b v z m n.low n.high s j lo hi in
-              let f = top _ _ (min (middle - right) (131070 * area_of t)) (2 * area_of t) a b v z m n.low n.high s _ w in
+              let i = fall_le _ _ (min back (131070 * area_of t)) (2 * area_of t) a b v z m n.low n.high s j lo in
+              let u = fall_low _ _ (min back (131070 * area_of t)) (2 * area_of t) a b v z m n.low n.high s j lo in
+              let w = fall_high _ _ (min back (131070 * area_of t)) (2 * area_of t) a b v z m n.low n.high s j lo hi in
+              let f = top _ _ (min back (131070 * area_of t)) (2 * area_of t) a b v z m n.low n.high s _ w in
               rw (down_mod a (a - v) v g₀ (omega (arith, i)) f nil) (record { low = u; high = w });
         }
 
@@ -320,17 +330,38 @@ runs_short t k f few least most p q r hp hq hr lo hi y a g cov low n h =
 
 -- a sum that is begun by the factor or by a quotient, and carried on in the same way, tells the number of each covered column from lo to hi
 pub runs_of : (t : Corners) → Turned t → area_of t ≤ 2147483648 → (p q r : ℕ) → p ≤ 65535 → q ≤ 65535 → r ≤ 65535 → (g : Slopes) (add lo hi y a d n : ℕ)
-    → (g.long ≡ false → (2 * area_of t ≤ 65536) × (carried_one ≤ g.f * (2 * area_of t)) × (g.f * (2 * area_of t) ≤ carried_one + 2 * area_of t) × (Paces t g.f p q r add))
-    → (g.long ≡ true → Drifts t p q r add)
+    → ((f : ℕ) → g.factor ≡ Some f → (2 * area_of t ≤ 65536) × (carried_one ≤ f * (2 * area_of t)) × (f * (2 * area_of t) ≤ carried_one + 2 * area_of t) × (Paces t f p q r add))
+    → (g.factor ≡ None → Drifts t p q r add)
     → ((j : ℕ) → lo + j < hi → covers t (lo + j) y ≡ true) → hi ≤ 65535 → a < 18446744073709551616
     → d ≡ area_of t → n ≡ mass_by t p q r lo y → Begun d g n a → Runs t p q r lo hi y a add
 unfolding scaled
-runs_of t k fits p q r hp hq hr g add lo hi y a d n s l cov wide low hd hn b = go g.long refl
+runs_of t k fits p q r hp hq hr g add lo hi y a d n s l cov wide low hd hn b = go g.factor refl
   where
-    go : (long : Bool) → g.long ≡ long → Runs t p q r lo hi y a add
-    go false e =
-        let m = s e in
-        runs_short t k g.f m.0 m.1 m.2 p q r hp hq hr lo hi y a add cov low (b.short e ∙ ap (λ (k : ℕ). k * g.f) hn) m.3
-    go true e =
+    go : (factor : Option ℕ) → g.factor ≡ factor → Runs t p q r lo hi y a add
+    go (Some f) e =
+        let m = s f e in
+        runs_short t k f m.0 m.1 m.2 p q r hp hq hr lo hi y a add cov low (b.short f e ∙ ap (λ (k : ℕ). k * f) hn) m.3
+    go None e =
         let m = rw (hd, hn) at (b.long e) in
         runs_long t k fits p q r hp hq hr lo hi y a add cov wide low (record { low = m.0; high = m.1 }) (l e)
+
+-- ---- a column's sum
+
+-- what a row's sum leads to at a covered column is 2 N + D, and that is at most 131,071 times the doubled area
+pub column_told : (t : Corners) → Turned t → area_of t ≤ 2147483648 → (p q r : ℕ) → p ≤ 65535 → q ≤ 65535 → r ≤ 65535 → (y : ℕ) (s : Sum) → Sums t p q r y s
+    → (x : ℕ) → covers t x y ≡ true → (n : ℕ) → n ≡ (s.at + x * s.right) % 2 ^ 64
+    → (n ≡ mass_by t p q r x y) × (n ≤ 131071 * area_of t)
+column_told t k fits p q r hp hq hr y s sums x h n e =
+    let most : mass_by t p q r x y ≤ 131071 * area_of t = mass_long t k fits p q r hp hq hr x y h in
+    let is : n ≡ mass_by t p q r x y = sum_told t p q r y s sums x h n e (omega arith) in
+    (is, omega (arith, is, most))
+
+-- and it can be carried
+pub column_begins : (t : Corners) (d : ℕ) → Sized t d → (g : Slopes) → Carries t g → (n : ℕ) → n ≤ 131071 * area_of t → Begins d g n
+column_begins t d k g c n low =
+    record {
+      some = omega (arith, k.area, k.turned.turns);
+      fits = omega (arith, k.area, c.fits);
+      low = omega (arith, k.area);
+      factor = λ f e. let m = c.short f e in (omega (arith, k.area, m.few), rw k.area m.most);
+    }

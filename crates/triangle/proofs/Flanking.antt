@@ -6,7 +6,7 @@ use Rattle.picture.specs.declared.Pen.{Pen}
 use Rattle.triangle.specs.declared.Corners.{Corners}
 use Rattle.triangle.specs.declared.Side.{Side}
 use Rattle.triangle.specs.declared.Flanks.{Flanks}
-use Rattle.triangle.specs.declared.Span.{Span}
+use Rattle.triangle.specs.declared.Limits.{Limits}
 use Rattle.triangle.specs.Edge.{plus_of, minus_of, closed, covers}
 use Rattle.triangle.specs.Loops.{short, Keeps, Stands, Bounds, raised_of, Crosses, Cuts, CutsAll, Spanned, Crossed, turn_of, taken_of, Flanked}
 use Rattle.triangle.proofs.Plane.{whole, next_plus, next_minus}
@@ -292,7 +292,7 @@ module _ (t : Corners) (y : ℕ) (f : Flanks) (w : Crossed t y) (k : Flanked t y
 
 -- the columns that are told, within the window and the memory, are the row's covered ones
 pub tells_spanned : (pen : Pen) (t : Corners) (y hi l r : ℕ) → pen.frame.line ≤ 65535 → hi ≡ min pen.frame.line (pen.right + 1) → Tells t y l r
-    → Spanned pen t y (record { lo = max pen.left l; hi = min hi r })
+    → Spanned pen t y (max pen.left l) (min hi r)
 tells_spanned pen t y hi l r fits eh w =
     record {
       wide = omega (arith, eh);
@@ -379,7 +379,7 @@ module _ (t : Corners) (sa : Small t.a) (sb : Small t.b) (sc : Small t.c) (y : �
 -- ---- the row in which all three meet
 
 -- three cuts one after the other are what all three edges keep
-pub cuts_all : (t : Corners) (y : ℕ) (s p q r : Span) → Cuts t.c t.a y s p → Cuts t.a t.b y p q → Cuts t.b t.c y q r → CutsAll t y s r
+pub cuts_all : (t : Corners) (y : ℕ) (s p q r : Limits) → Cuts t.c t.a y s p → Cuts t.a t.b y p q → Cuts t.b t.c y q r → CutsAll t y s r
 cuts_all t y s p q r cp cq cr =
     record {
       shrinks = omega (arith, cp.shrinks, cq.shrinks, cr.shrinks);
@@ -396,8 +396,8 @@ cuts_all t y s p q r cp cq cr =
     }
 
 -- of the window's and the memory's columns that leaves the covered ones
-pub all_spanned : (pen : Pen) (t : Corners) (y hi : ℕ) (r : Span) → hi ≡ min pen.frame.line (pen.right + 1) → CutsAll t y (record { lo = pen.left; hi = hi }) r
-    → Spanned pen t y r
+pub all_spanned : (pen : Pen) (t : Corners) (y hi : ℕ) (r : Limits) → hi ≡ min pen.frame.line (pen.right + 1) → CutsAll t y (record { lo = pen.left; hi = hi }) r
+    → Spanned pen t y r.lo r.hi
 all_spanned pen t y hi r eh c =
     record {
       wide = omega (arith, c.shrinks, eh);

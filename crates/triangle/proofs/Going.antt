@@ -46,11 +46,7 @@ module _ (pen : Pen) (constant : Bool) (t : Corners) (f : Flanks) (im₀ zm₀ :
 
   module _ (im zm : List ℕ) (y n : ℕ) (g : Going pen constant t im₀ zm₀ first top im zm y n) where
     module _ (h : y < top) where
-      -- a row that is still to be drawn is a number of 16 bits, and so is the one above it
-      pub going_low : y < 65535
-      going_low = omega (arith, top_low.0, top_low.1)
-
-      -- it is one of the window
+      -- a row that is still to be drawn is one of the window
       pub going_row : InRows pen y
       going_row = row_within pen rows constant t k.turned y (rw bottom at g.since) (rw k.end at h)
 

@@ -1,17 +1,16 @@
 -- The offers of a row are those of one run of pixels, and rows outside the corners and the window have none. Assumes nothing.
-use Rattle.std.proofs.Common.{◌≡◌, ℕ, ◌+◌, ◌-◌, ◌*◌, ◌%◌, ◌<◌, ◌≤◌, min, max, Bool, true, false, cond, List, [], length, sym, refl, ap, ◌∙◌, ap₂, mul-zero, arith}
+use Rattle.std.proofs.Common.{◌≡◌, ℕ, ◌+◌, ◌-◌, ◌<◌, ◌≤◌, min, max, Bool, true, false, cond, List, [], length, sym, refl, ap, ◌∙◌, ap₂, arith}
 use Rattle.picture.specs.declared.Pen.{Pen}
 use Rattle.picture.specs.declared.Carried.{Carried}
 use Rattle.picture.specs.declared.Kind.TheVariants.{Gouraud}
 use Rattle.picture.specs.Offer.{Offer, offer, in_window, keep}
 use Rattle.picture.specs.Picture.{Picture, drawn}
-use Rattle.picture.specs.Draw.{carried_one, seen, carried_to, span_offers}
+use Rattle.picture.specs.Draw.{seen, carried_to, span_offers}
 use Rattle.picture.proofs.Fold.{drawn_nil}
 use Rattle.picture.proofs.Spans.{spans_none, spans_same, spans_part, spans_length}
 use Rattle.picture.proofs.Offers.{keep_seen, keep_out, keep_length, window_in, window_of}
 use Rattle.triangle.specs.declared.Corners.{Corners}
 use Rattle.triangle.specs.declared.Edges.{Edges}
-use Rattle.triangle.specs.declared.Span.{Span}
 use Rattle.triangle.specs.Edge.{covers, amount, area_of}
 use Rattle.triangle.specs.Number.{mixed, shade}
 use Rattle.triangle.specs.Offers.{kind_of, pixel_at, pixel_offers, row_offers}
@@ -51,9 +50,9 @@ module _ (pen : Pen) (rows : ℕ) (constant : Bool) (t : Corners) (y : ℕ) wher
   pub row_length : length (row_offers pen rows constant t y) ≤ pen.frame.line
   row_length = omega (arith, spans_length (λ x. pixel_offers pen rows constant t x y) 1 pen.frame.line offers_length)
 
-  module _ (s : Span) (k : Spanned pen t y s) where
+  module _ (lo hi : ℕ) (k : Spanned pen t y lo hi) where
     -- a column of the memory outside the row's span offers nothing
-    pub row_quiet : (x : ℕ) → x < pen.frame.line → (s.lo ≤ x → x < s.hi → ⊥) → pixel_offers pen rows constant t x y ≡ []
+    pub row_quiet : (x : ℕ) → x < pen.frame.line → (lo ≤ x → x < hi → ⊥) → pixel_offers pen rows constant t x y ≡ []
     row_quiet x l h =
         offers_none x
         (λ p q.
@@ -62,33 +61,28 @@ module _ (pen : Pen) (rows : ℕ) (constant : Bool) (t : Corners) (y : ℕ) wher
         h r.0 r.1)
 
     -- a row whose span is empty leaves the picture as it was
-    pub row_empty : s.hi ≤ s.lo → (p : Picture) → p ≡ drawn pen (row_offers pen rows constant t y) p
+    pub row_empty : hi ≤ lo → (p : Picture) → p ≡ drawn pen (row_offers pen rows constant t y) p
     row_empty h p = rw (spans_none _ pen.frame.line (λ x a. row_quiet x a (λ u v. omega arith))) (sym (drawn_nil pen p))
 
     -- a run of pixels whose numbers are the row's is the row
-    pub row_span : InRows pen y → s.lo < s.hi → (i z : Carried)
-        → ((j : ℕ) → s.lo + j < s.hi → (carried_to i j ≡ (pixel_at constant t (s.lo + j) y).i) × (carried_to z j ≡ (pixel_at constant t (s.lo + j) y).z))
-        → span_offers pen rows (kind_of constant) s.lo s.hi y i z ≡ row_offers pen rows constant t y
+    pub row_span : InRows pen y → lo < hi → (i z : Carried)
+        → ((j : ℕ) → lo + j < hi → (carried_to i j ≡ (pixel_at constant t (lo + j) y).i) × (carried_to z j ≡ (pixel_at constant t (lo + j) y).z))
+        → span_offers pen rows (kind_of constant) lo hi y i z ≡ row_offers pen rows constant t y
     unfolding span_offers pixel_at
     row_span v l i z e =
         sym
-        (spans_part (λ x. pixel_offers pen rows constant t x y) s.lo s.hi pen.frame.line (omega arith) k.wide
+        (spans_part (λ x. pixel_offers pen rows constant t x y) lo hi pen.frame.line (omega arith) k.wide
         (λ x a. row_quiet x (omega (arith, k.wide)) (λ u w. omega arith))
         (λ x a b. row_quiet x b (λ u w. omega arith))
-        ∙ spans_same _ _ (s.hi - s.lo)
+        ∙ spans_same _ _ (hi - lo)
         (λ j h.
-        let c = k.columns (s.lo + j) (omega arith) (omega arith) in
+        let c = k.columns (lo + j) (omega arith) (omega arith) in
         let n = e j (omega arith) in
-        offers_covered (s.lo + j) c.2
-        ∙ keep_seen pen rows (pixel_at constant t (s.lo + j) y) (window_in pen (s.lo + j) y c.0 c.1 v.above v.below)
-        ∙ ap₂ (λ (a b : ℕ). seen pen rows (offer (kind_of constant) (s.lo + j) y a b)) (sym n.0) (sym n.1)))
+        offers_covered (lo + j) c.2
+        ∙ keep_seen pen rows (pixel_at constant t (lo + j) y) (window_in pen (lo + j) y c.0 c.1 v.above v.below)
+        ∙ ap₂ (λ (a b : ℕ). seen pen rows (offer (kind_of constant) (lo + j) y a b)) (sym n.0) (sym n.1)))
 
 -- ---- the numbers of a run
-
--- a constant number
-pub flat_told : (v j : ℕ) → v ≤ 65535 → carried_to (record { first = v * carried_one % 18446744073709551616; add = 0 }) j ≡ v
-unfolding carried_to
-flat_told v j h = rw (mul-zero j) (omega arith)
 
 -- a number that is carried along a row tells, j pixels on, the Gouraud number of that pixel
 pub carried_told : (t : Corners) (p q r lo hi y k g j : ℕ) → Runs t p q r lo hi y k g → lo + j < hi → carried_to (record { first = k; add = g }) j ≡ shade t p q r (lo + j) y

@@ -4,7 +4,7 @@ use Rattle.std.proofs.Common.{◌≡◌, ℕ, ◌+◌, ◌-◌, ◌*◌, ◌/◌
 use native.Mathlib.Nat.{min-le_left, add-div_right, div-eq_of_lt, mod-add-mod}
 use Rattle.picture.specs.declared.Vertex.{Vertex}
 use Rattle.triangle.specs.declared.Side.{Side}
-use Rattle.triangle.specs.declared.Span.{Span}
+use Rattle.triangle.specs.declared.Limits.{Limits}
 use Rattle.triangle.specs.Edge.{plus_of, minus_of, closed}
 use Rattle.triangle.specs.Loops.{short, Keeps, Stands, Bounds, Cuts}
 use Rattle.triangle.proofs.Plane.{product_fits, plus_from, minus_from, up_plus, up_minus, first_in, first_out, end_in, end_out, max_le, max_le_r, lt_min, lt_min_r, le_of_not, lt_of_not}
@@ -98,14 +98,14 @@ over_none n d q l h = h ∙ div-eq_of_lt l
 module _ (a b : Vertex) (y : ℕ) (s : Side) (k : Stands a b y s) (tall : s.height.tall ≤ 65535)
     (low : plus_of a.x a.y b.x b.y 0 y ≤ 12884508675) (few : minus_of a.x a.y b.x b.y 0 y ≤ 12884508675) where
   -- a number that is not large is what it says
-  fall_is : b.y < a.y → s.at ≤ 68719476736 → s.at + p a b y + 1 ≡ m a b y + s.height.tall
+  fall_is : b.y < a.y → s.at < 9223372036854775808 → s.at + p a b y + 1 ≡ m a b y + s.height.tall
   fall_is h l = omega (arith, (k.falls h).0, low)
 
-  rise_is : a.y ≤ b.y → s.at ≤ 68719476736 → s.at + m a b y ≡ p a b y + s.height.tall
+  rise_is : a.y ≤ b.y → s.at < 9223372036854775808 → s.at + m a b y ≡ p a b y + s.height.tall
   rise_is h l = omega (arith, (k.rises h).0, few, short_low (closed a b))
 
   -- a large one stands for one below 0, which bounds nothing, or leaves nothing
-  pub bound_low : 68719476736 < s.at → Bounds a b y 0
+  pub bound_low : 9223372036854775808 ≤ s.at → Bounds a b y 0
   bound_low l =
       either b.y a.y
       (λ h. fall_all a b y h (omega (arith, (k.falls h).0, k.fits, few, short_low (closed a b))))
@@ -136,7 +136,7 @@ module _ (a b : Vertex) (y : ℕ) (s : Side) (k : Stands a b y s) (tall : s.heig
     bound_at = either b.y a.y at_fall at_rise
 
   -- far above 0 no column is bounded, or none is left
-  pub bound_far : s.at ≤ 68719476736 → 65536 * s.height.tall ≤ s.at → Bounds a b y 65536
+  pub bound_far : s.at < 9223372036854775808 → 65536 * s.height.tall ≤ s.at → Bounds a b y 65536
   bound_far l far =
       either b.y a.y
       (λ h. let is = fall_is h l in fall_none a b y h (omega (arith, is, far, k.height.is)) (omega (arith, is, far, k.height.is)))
@@ -144,7 +144,7 @@ module _ (a b : Vertex) (y : ℕ) (s : Side) (k : Stands a b y s) (tall : s.heig
 
 module _ (a b : Vertex) (y : ℕ) where
   -- the bound of an edge that falls cuts a span from the left
-  pub cut_left : (s₀ : Span) (r : ℕ) → b.y < a.y → s₀.hi ≤ 65536 → Bounds a b y r → Cuts a b y s₀ (record { lo = max s₀.lo r; hi = s₀.hi })
+  pub cut_left : (s₀ : Limits) (r : ℕ) → b.y < a.y → s₀.hi ≤ 65536 → Bounds a b y r → Cuts a b y s₀ (record { lo = max s₀.lo r; hi = s₀.hi })
   cut_left s₀ r e wide n =
       let f = n.falls e in
       record {
@@ -154,7 +154,7 @@ module _ (a b : Vertex) (y : ℕ) where
       }
 
   -- the bound of one that does not fall cuts a span from the right
-  pub cut_right : (s₀ : Span) (r : ℕ) → a.y ≤ b.y → s₀.hi ≤ 65536 → Bounds a b y r → Cuts a b y s₀ (record { lo = s₀.lo; hi = min s₀.hi r })
+  pub cut_right : (s₀ : Limits) (r : ℕ) → a.y ≤ b.y → s₀.hi ≤ 65536 → Bounds a b y r → Cuts a b y s₀ (record { lo = s₀.lo; hi = min s₀.hi r })
   cut_right s₀ r e wide n =
       let f = n.rises e in
       record {

@@ -1,11 +1,12 @@
 -- Document 01's N, the sum of the corner numbers times the edges opposite: 2 N + D at column 0 of a row is carried from row to row modulo 2 ^ 64, and from column 0
 -- a product leads to any covered pixel, where it is small enough to be itself. Assumes nothing.
-use Rattle.std.proofs.Common.{◌≡◌, ℕ, ◌+◌, ◌-◌, ◌*◌, ◌%◌, ◌^◌, ◌<◌, ◌≤◌, true, sym, ap, ◌∙◌, mul_assoc, mul_comm, add-mul, mul-le-mul, mul-zero, mul-add, mul_left_comm, arith}
+use Rattle.std.proofs.Common.{◌≡◌, ℕ, ◌+◌, ◌-◌, ◌*◌, ◌%◌, ◌^◌, ◌<◌, ◌≤◌, true, sym, ap, ap₂, ◌∙◌, mul_assoc, mul_comm, add-mul, mul-zero, mul-add, mul_left_comm, arith}
 use native.Mathlib.Nat.{mod-add-mod}
+use Rattle.std.proofs.lemmas.Nat.{mul-mod, mul-mod_first, mul-mod_second}
 use Rattle.triangle.specs.declared.Corners.{Corners}
 use Rattle.triangle.specs.declared.Sum.{Sum}
 use Rattle.triangle.specs.Edge.{plus_of, minus_of, edge_at, covers, amount, area_of}
-use Rattle.triangle.specs.Loops.{middle, ahead, behind, mass_by, Sized, Slants, plus_at, minus_at, Sums}
+use Rattle.triangle.specs.Loops.{ahead, behind, mass_by, Sized, Slants, plus_at, minus_at, Sums}
 use Rattle.triangle.proofs.Plane.{product_fits, plus_from, minus_from, up_plus, up_minus}
 use Rattle.triangle.proofs.Covers.{covered_within}
 
@@ -33,10 +34,6 @@ spread x i j k = mul-add x (i + j) k ∙ ap (λ (n : ℕ). n + x * k) (mul-add x
 next : (p u v a : ℕ) → v ≡ u + a → p * v ≡ p * u + p * a
 next p u v a e = ap (λ (k : ℕ). p * k) e ∙ mul-add p u a
 
--- a coordinate, or twice a corner number and one, times what is at most twice `middle`
-pub reach_fits : (x u : ℕ) → x ≤ 131071 → u ≤ 137438953472 → x * u ≤ 18014261070528512
-reach_fits x u hx hu = mul-le-mul {n₁ = x} {m₁ = u} {n₂ = 131071} {m₂ = 137438953472} hx hu
-
 -- of coordinates and corner numbers of 16 bits, both `ahead` and `behind` are at most 12,884,508,675
 pub change_fits : (u v w p q r : ℕ) → u ≤ 65535 → v ≤ 65535 → w ≤ 65535 → p ≤ 65535 → q ≤ 65535 → r ≤ 65535
     → (ahead u v w p q r ≤ 12884508675) × (behind u v w p q r ≤ 12884508675)
@@ -44,31 +41,6 @@ change_fits u v w p q r hu hv hw hp hq hr = (
   omega (arith, product_fits p v hp hv, product_fits q w hq hw, product_fits r u hr hu),
   omega (arith, product_fits p w hp hw, product_fits q u hq hu, product_fits r v hr hv),
 )
-
--- (q - p)(w - u), each factor from 65,536 on
-both : (p q u w m n : ℕ) → m + p ≡ q + 65536 → n + u ≡ w + 65536
-    → m * n + q * u + p * w + 65536 * p + 65536 * u ≡ q * w + p * u + 65536 * q + 65536 * w + 4294967296
-both p q u w m n hm hn =
-    omega (
-      arith,
-      mul-add m n u,
-      add-mul m p u,
-      mul-add p n u,
-      ap (λ (k : ℕ). m * k) hn,
-      ap (λ (k : ℕ). k * u) hm,
-      ap (λ (k : ℕ). p * k) hn,
-      ap (λ (k : ℕ). k * w) hm,
-      add-mul m p w,
-      add-mul q 65536 w,
-      add-mul q 65536 u,
-      mul-add m w 65536,
-      mul-add p w 65536,
-    )
-
--- what a step changes is (q - p)(w - u) less (r - p)(v - u)
-pub changes : (u v w p q r m n k l : ℕ) → m + p ≡ q + 65536 → n + u ≡ w + 65536 → k + p ≡ r + 65536 → l + u ≡ v + 65536
-    → m * n + 65536 * (k + l) + behind u v w p q r ≡ k * l + 65536 * (m + n) + ahead u v w p q r
-changes u v w p q r m n k l hm hn hk hl = omega (arith, both p q u w m n hm hn, both p r u v k l hk hl)
 
 -- N from corner a, where it is the corner's number times the doubled area
 corner : (ax ay bx by cx cy p q r y : ℕ) →
@@ -78,13 +50,6 @@ corner : (ax ay bx by cx cy p q r y : ℕ) →
     + (p * plus_of bx by cx cy 0 y + q * plus_of cx cy ax ay 0 y + r * plus_of ax ay bx by 0 y)
 unfolding plus_of minus_of
 corner ax ay bx by cx cy p q r y = simp (mul-add, mul-zero, mul_comm, mul_left_comm) (omega arith)
-
--- what is added to the first sum and what is taken from it: the number of corner a times the area (a, of which b is taken from c), the row times what a row
--- adds (yu), and what leads from the corner to column 0 (xr) and to row 0 (lu)
-gather : (d a b c yu ym ya yb xr xm xa xb lu lm la lb m n : ℕ) → a + b ≡ c → xr + 2 * xb ≡ xm + 2 * xa → lu + 2 * la ≡ lm + 2 * lb
-    → yu + 2 * ya ≡ ym + 2 * yb → c + yb + la + xb + m ≡ b + ya + lb + xa + n
-    → 2 * a + d + yu + (xm + lm) + 2 * m ≡ xr + lu + ym + (2 * n + d)
-gather d a b c yu ym ya yb xr xm xa xb lu lm la lb m n e f g h k = omega arith
 
 -- ---- modulo 2 ^ 64
 
@@ -97,12 +62,52 @@ shift x y k e = sym (mod-add-mod x (2 ^ 64) k) ∙ ap (λ (n : ℕ). (n + k) % 2
 cancel : (x y k : ℕ) → x < 18446744073709551616 → y < 18446744073709551616 → (x + k) % 2 ^ 64 ≡ (y + k) % 2 ^ 64 → x ≡ y
 cancel x y k hx hy e = omega arith
 
--- the first row
-first_mod : (at less more m n : ℕ) → (at + less) % 2 ^ 64 ≡ more → more + m ≡ less + n → (at + m) % 2 ^ 64 ≡ n % 2 ^ 64
-first_mod at less more m n h b = omega arith
+-- x times a number that is so modulo 2 ^ 64
+times_mod : (x s b a : ℕ) → (s + 2 * b) % 2 ^ 64 ≡ 2 * a → (x * s + 2 * (x * b)) % 2 ^ 64 ≡ 2 * (x * a) % 2 ^ 64
+times_mod x s b a e =
+    same (x * s + 2 * (x * b)) (x * (s + 2 * b)) (omega (arith, mul-add x s (2 * b), mul_left_comm x 2 b))
+    ∙ sym (mul-mod_second x (s + 2 * b) (2 ^ 64))
+    ∙ ap (λ (n : ℕ). x * n % 2 ^ 64) e
+    ∙ same (x * (2 * a)) (2 * (x * a)) (mul_left_comm x 2 a)
 
-step_mod : (v u a b : ℕ) → (v + middle) % 2 ^ 64 ≡ u → u + a ≡ middle + b → b < 18446744073709551616 → (v + a) % 2 ^ 64 ≡ b
-step_mod v u a b h l f = omega arith
+-- a sum that is so modulo 2 ^ 64, times u
+sum_times : (m p q u : ℕ) → (m + p) % 2 ^ 64 ≡ q → (m * u + p * u) % 2 ^ 64 ≡ q * u % 2 ^ 64
+sum_times m p q u e =
+    same (m * u + p * u) ((m + p) * u) (sym (add-mul m p u))
+    ∙ sym (mul-mod_first (m + p) u (2 ^ 64))
+    ∙ ap (λ (n : ℕ). n * u % 2 ^ 64) e
+
+-- (q - p)(w - u), each difference modulo 2 ^ 64
+both : (p q u w m n : ℕ) → (m + p) % 2 ^ 64 ≡ q → (n + u) % 2 ^ 64 ≡ w → (m * n + (q * u + p * w)) % 2 ^ 64 ≡ (q * w + p * u) % 2 ^ 64
+both p q u w m n hm hn =
+    both_by (m * n) (m * u) (p * n) (p * u) (q * w) (q * u) (p * w)
+    (same (m * n + m * u + (p * n + p * u)) ((m + p) * (n + u)) (omega (arith, add-mul m p (n + u), mul-add m n u, mul-add p n u))
+    ∙ mul-mod (m + p) (n + u) (2 ^ 64)
+    ∙ ap₂ (λ (a b : ℕ). a * b % 2 ^ 64) hm hn)
+    (sum_times m p q u hm)
+    (same (p * n + p * u) (n * p + u * p) (omega (arith, mul_comm p n, mul_comm p u)) ∙ sum_times n u w p hn ∙ same (w * p) (p * w) (mul_comm w p))
+  where
+    both_by : (mn mu pn pu qw qu pw : ℕ) → (mn + mu + (pn + pu)) % 2 ^ 64 ≡ qw % 2 ^ 64 → (mu + pu) % 2 ^ 64 ≡ qu % 2 ^ 64 → (pn + pu) % 2 ^ 64 ≡ pw % 2 ^ 64
+        → (mn + (qu + pw)) % 2 ^ 64 ≡ (qw + pu) % 2 ^ 64
+    both_by mn mu pn pu qw qu pw e f g = omega arith
+
+-- twice the difference of two such products
+twice_mod : (s x y qu pw qw pu ru pv rv : ℕ) → s ≡ (x % 2 ^ 64 + (18446744073709551616 - y % 2 ^ 64)) % 2 ^ 64 * 2 % 2 ^ 64
+    → (x + (qu + pw)) % 2 ^ 64 ≡ (qw + pu) % 2 ^ 64 → (y + (ru + pv)) % 2 ^ 64 ≡ (rv + pu) % 2 ^ 64 → pv + qw + ru ≤ 12884508675
+    → (s + 2 * (pw + qu + rv)) % 2 ^ 64 ≡ 2 * (pv + qw + ru)
+twice_mod s x y qu pw qw pu ru pv rv e f g low = omega arith
+
+-- the first row: across is taken from what stands at corner a, and climbed is added
+first_mod : (at first across climbed s x c : ℕ) → at ≡ ((first + (18446744073709551616 - across)) % 2 ^ 64 + climbed) % 2 ^ 64
+    → first ≡ s % 2 ^ 64 → across ≡ x % 2 ^ 64 → climbed ≡ c % 2 ^ 64 → (at + x) % 2 ^ 64 ≡ (s + c) % 2 ^ 64
+first_mod at first across climbed s x c e f g h = omega arith
+
+-- what is added to the first sum and what is taken from it: the number of corner a times the area (a, of which b is taken from c), the row times what a row
+-- adds (yu), and what leads from the corner to column 0 (xr) and to row 0 (lu)
+gather : (at k d a b c yu ya yb xr xa xb lu la lb m n : ℕ) → (at + xr) % 2 ^ 64 ≡ (2 * a + d + k) % 2 ^ 64 → (k + lu) % 2 ^ 64 ≡ yu % 2 ^ 64 → a + b ≡ c
+    → (xr + 2 * xb) % 2 ^ 64 ≡ 2 * xa % 2 ^ 64 → (lu + 2 * la) % 2 ^ 64 ≡ 2 * lb % 2 ^ 64 → (yu + 2 * ya) % 2 ^ 64 ≡ 2 * yb % 2 ^ 64
+    → c + yb + la + xb + m ≡ b + ya + lb + xa + n → (at + 2 * m) % 2 ^ 64 ≡ (2 * n + d) % 2 ^ 64
+gather at k d a b c yu ya yb xr xa xb lu la lb m n e f g h i j l = omega arith
 
 -- a row up: u is added to a, of which m is taken from l, and f from b
 up_mod : (n a u m l f b d : ℕ) → n ≡ (a + u) % 2 ^ 64 → (a + 2 * m) % 2 ^ 64 ≡ (2 * l + d) % 2 ^ 64 → (u + 2 * f) % 2 ^ 64 ≡ 2 * b
@@ -117,60 +122,33 @@ up_mod n a u m l f b d h g j =
     ∙ ap (λ (k : ℕ). (k + (2 * l + d)) % 2 ^ 64) j
     ∙ same (2 * b + (2 * l + d)) (2 * (l + b) + d) (omega arith)
 
--- some columns on: g less c is added to a, and what is left of it all is w
-told_mod : (n m a g c u v f b w d : ℕ) → m ≡ (a + g) % 2 ^ 64 → (n + c) % 2 ^ 64 ≡ m → (a + 2 * u) % 2 ^ 64 ≡ (2 * v + d) % 2 ^ 64
-    → g + 2 * f ≡ c + 2 * b → w + (u + f) ≡ v + b → n < 18446744073709551616 → 2 * w + d < 18446744073709551616 → n ≡ 2 * w + d
-told_mod n m a g c u v f b w d em en ea eg eb hn hw =
-    cancel n (2 * w + d) (c + 2 * u + 2 * f) hn hw
-    (same (n + (c + 2 * u + 2 * f)) (n + c + (2 * u + 2 * f)) (omega arith)
-    ∙ shift (n + c) (a + g) (2 * u + 2 * f) (en ∙ em)
-    ∙ same (a + g + (2 * u + 2 * f)) (a + 2 * u + (g + 2 * f)) (omega arith)
-    ∙ shift (a + 2 * u) (2 * v + d) (g + 2 * f) ea
-    ∙ same (2 * v + d + (g + 2 * f)) (2 * w + d + (c + 2 * u + 2 * f)) (omega arith))
+-- some columns on: g is added to a, and what is left of it all is w
+told_mod : (n a g u v f b w d : ℕ) → n ≡ (a + g) % 2 ^ 64 → (a + 2 * u) % 2 ^ 64 ≡ (2 * v + d) % 2 ^ 64
+    → (g + 2 * f) % 2 ^ 64 ≡ 2 * b % 2 ^ 64 → w + (u + f) ≡ v + b → 2 * w + d < 18446744073709551616 → n ≡ 2 * w + d
+told_mod n a g u v f b w d en ea eg eb hw = omega arith
 
 -- ---- a sum
 
--- a slant times a coordinate
-module _ (u v w p q r s : ℕ) (k : Slants u v w p q r s) where
-  -- x times a slant is x times `middle` and what x steps add to 2 N
-  pub slant_times : (x : ℕ) → x * s + 2 * (x * behind u v w p q r) ≡ x * middle + 2 * (x * ahead u v w p q r)
-  slant_times x =
-      omega (
-        arith,
-        ap (λ (n : ℕ). x * n) k.so,
-        mul-add x s (2 * behind u v w p q r),
-        mul-add x middle (2 * ahead u v w p q r),
-        mul_left_comm x 2 (behind u v w p q r),
-        mul_left_comm x 2 (ahead u v w p q r),
-      )
+-- what a step adds, by products of differences
+pub slant_told : (u v w p q r m n k l s : ℕ) → u ≤ 65535 → v ≤ 65535 → w ≤ 65535 → p ≤ 65535 → q ≤ 65535 → r ≤ 65535
+    → (m + p) % 2 ^ 64 ≡ q → (n + u) % 2 ^ 64 ≡ w → (k + p) % 2 ^ 64 ≡ r → (l + u) % 2 ^ 64 ≡ v → s < 18446744073709551616
+    → s ≡ (m * n % 2 ^ 64 + (18446744073709551616 - k * l % 2 ^ 64)) % 2 ^ 64 * 2 % 2 ^ 64 → Slants u v w p q r s
+slant_told u v w p q r m n k l s hu hv hw hp hq hr hm hn hk hl fits e =
+    let few = change_fits u v w p q r hu hv hw hp hq hr in
+    record {
+      so = twice_mod s (m * n) (k * l) (q * u) (p * w) (q * w) (p * u) (r * u) (p * v) (r * v) e (both p q u w m n hm hn) (both p r u v k l hk hl) few.0;
+      fits = fits;
+      ahead_low = few.0;
+      behind_low = few.1;
+    }
 
-  -- the other way round
-  module _ (n : ℕ) (e : n + s ≡ 2 * middle) where
-    -- the number as far on the other side of `middle` is what a step back adds to 2 N
-    pub turned_so : n + 2 * ahead u v w p q r ≡ middle + 2 * behind u v w p q r
-    turned_so = omega (arith, k.so)
-
-    -- and x times that number is x times `middle` and what x steps back add to 2 N
-    pub turned_times : (x : ℕ) → x * n + 2 * (x * ahead u v w p q r) ≡ x * middle + 2 * (x * behind u v w p q r)
-    turned_times x =
-        omega (
-          arith,
-          ap (λ (n : ℕ). x * n) turned_so,
-          mul-add x n (2 * ahead u v w p q r),
-          mul-add x middle (2 * behind u v w p q r),
-          mul_left_comm x 2 (behind u v w p q r),
-          mul_left_comm x 2 (ahead u v w p q r),
-        )
+-- the number as far on the other side of 0 is what a step back adds to 2 N
+back_so : (u v w p q r s n : ℕ) → Slants u v w p q r s → (n + s) % 2 ^ 64 ≡ 0 → (n + 2 * ahead u v w p q r) % 2 ^ 64 ≡ 2 * behind u v w p q r
+back_so u v w p q r s n k e = omega (arith, k.so, k.behind_low)
 
 -- the first sum
 module _ (t : Corners) (d p q r y right lean up : ℕ) (k : Sized t d)
-    (of_right : Slants t.a.y t.b.y t.c.y p q r right) (of-lean : Slants t.a.x t.b.x t.c.x p q r lean) (e : up + lean ≡ 2 * middle) where
-  abbrev more : ℕ
-  more = (2 * p + 1) * d + y * up + (t.a.x + t.a.y) * middle
-
-  abbrev less : ℕ
-  less = t.a.x * right + t.a.y * up + y * middle
-
+    (of_right : Slants t.a.y t.b.y t.c.y p q r right) (of-lean : Slants t.a.x t.b.x t.c.x p q r lean) (e : (up + lean) % 2 ^ 64 ≡ 0) where
   -- p times the doubled area
   area_times : p * d + p * minus_of t.a.x t.a.y t.b.x t.b.y t.c.x t.c.y ≡ p * plus_of t.a.x t.a.y t.b.x t.b.y t.c.x t.c.y
   area_times =
@@ -178,26 +156,27 @@ module _ (t : Corners) (d p q r y right lean up : ℕ) (k : Sized t d)
       = omega (arith, k.area, k.turned.turns) in
       sym (mul-add p d _) ∙ ap (λ (n : ℕ). p * n) whole
 
-  first_balance : more + 2 * minus_at t p q r y ≡ less + (2 * plus_at t p q r y + area_of t)
-  first_balance =
-      let g =
-      gather d (p * d) _ _ (y * up) (y * middle) _ _ (t.a.x * right) (t.a.x * middle) _ _ (t.a.y * up) (t.a.y * middle) _ _ (minus_at t p q r y) (plus_at t p q r y)
-      area_times
-      (slant_times _ _ _ p q r right of_right t.a.x)
-      (turned_times _ _ _ p q r lean of-lean up e t.a.y)
-      (turned_times _ _ _ p q r lean of-lean up e y)
-      (corner t.a.x t.a.y t.b.x t.b.y t.c.x t.c.y p q r y) in
-      omega (arith, k.area, add-mul (2 * p) 1 d, mul_assoc 2 p d, add-mul t.a.x t.a.y middle, g)
+  upward : (up + 2 * ahead t.a.x t.b.x t.c.x p q r) % 2 ^ 64 ≡ 2 * behind t.a.x t.b.x t.c.x p q r
+  upward = back_so _ _ _ p q r lean up of-lean e
 
-  -- `at` is what is more less what is less, and `by_Row` is what a row adds, both modulo 2 ^ 64
-  pub sum_first : (at by_Row : ℕ) → (at + less) % 2 ^ 64 ≡ more → (by_Row + middle) % 2 ^ 64 ≡ up
-      → behind t.a.x t.b.x t.c.x p q r ≤ 12884508675 → Sums t p q r y (record { at = at; right = right; up = by_Row })
-  sum_first at by_Row ea eu low =
+  -- from corner a so many columns to the left, and `rows` rows up
+  pub sum_first : (at first across climbed rows : ℕ) → at ≡ ((first + (18446744073709551616 - across)) % 2 ^ 64 + climbed) % 2 ^ 64
+      → first ≡ (2 * p + 1) * d % 2 ^ 64 → across ≡ t.a.x * right % 2 ^ 64 → climbed ≡ rows * up % 2 ^ 64 → (rows + t.a.y) % 2 ^ 64 ≡ y
+      → Sums t p q r y (record { at = at; right = right; up = up })
+  sum_first at first across climbed rows ea ef ex ec er =
       record {
-        at = first_mod at less more (2 * minus_at t p q r y) (2 * plus_at t p q r y + area_of t) ea first_balance;
+        at = rw k.area at
+            (gather at (rows * up) d (p * d) _ _ (y * up) _ _ (t.a.x * right) _ _ (t.a.y * up) _ _ (minus_at t p q r y) (plus_at t p q r y)
+            (first_mod at first across climbed ((2 * p + 1) * d) (t.a.x * right) (rows * up) ea ef ex ec
+            ∙ same ((2 * p + 1) * d + rows * up) (2 * (p * d) + d + rows * up) (omega (arith, add-mul (2 * p) 1 d, mul_assoc 2 p d)))
+            (sum_times rows t.a.y y up er)
+            area_times
+            (times_mod t.a.x right _ _ of_right.so)
+            (times_mod t.a.y up _ _ upward)
+            (times_mod y up _ _ upward)
+            (corner t.a.x t.a.y t.b.x t.b.y t.c.x t.c.y p q r y));
         right = of_right;
-        up = step_mod by_Row up (2 * ahead t.a.x t.b.x t.c.x p q r) (2 * behind t.a.x t.b.x t.c.x p q r) eu
-            (turned_so _ _ _ p q r lean of-lean up e) (omega (arith, low));
+        up = upward;
       }
 
 module _ (t : Corners) (p q r y : ℕ) (s : Sum) (k : Sums t p q r y s) where
@@ -248,7 +227,6 @@ module _ (t : Corners) (p q r y : ℕ) (s : Sum) (k : Sums t p q r y s) where
         )
 
     -- so a number that is as much modulo 2 ^ 64 is 2 N + D
-    pub sum_told : (m n : ℕ) → m ≡ (s.at + x * s.right) % 2 ^ 64 → (n + x * middle) % 2 ^ 64 ≡ m → n < 18446744073709551616
-        → mass_by t p q r x y < 18446744073709551616 → n ≡ mass_by t p q r x y
-    sum_told m n em en fits low =
-        told_mod n m s.at (x * s.right) (x * middle) _ _ _ _ _ (area_of t) em en k.at (slant_times _ _ _ p q r s.right k.right x) balance fits low
+    pub sum_told : (n : ℕ) → n ≡ (s.at + x * s.right) % 2 ^ 64 → mass_by t p q r x y < 18446744073709551616 → n ≡ mass_by t p q r x y
+    sum_told n en low =
+        told_mod n s.at (x * s.right) _ _ _ _ _ (area_of t) en k.at (times_mod x s.right _ _ k.right.so) balance low

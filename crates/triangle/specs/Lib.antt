@@ -10,3 +10,5 @@ pub mod Loops
 pub mod Shared
 -- document 01's expressions of a triangle, over the integers
 pub mod Integers
+-- the covered columns that are found in a row
+pub mod Spans

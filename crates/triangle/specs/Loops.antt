@@ -1,13 +1,15 @@
 -- What the code of a triangle leans on. No promise of a public call cites anything here.
-use Rattle.std.specs.Prelude.{◌≡◌, ℕ, ◌+◌, ◌-◌, ◌*◌, ◌/◌, ◌%◌, ◌^◌, ◌<◌, ◌≤◌, min, max, Bool, true, false, cond, nat_lt}
+use Rattle.std.specs.Prelude.{◌≡◌, ℕ, ◌+◌, ◌-◌, ◌*◌, ◌/◌, ◌%◌, ◌^◌, ◌<◌, ◌≤◌, min, max, Bool, true, false, cond, nat_lt, Option, Some, None}
 use Rattle.picture.specs.declared.Vertex.{Vertex}
 use Rattle.picture.specs.declared.Pen.{Pen}
 use Rattle.picture.specs.declared.Kind.TheVariants.{Constant}
+use Rattle.picture.specs.declared.Stretch.{Stretch}
 use Rattle.picture.specs.Draw.{carried_one, carried_to, is_plain}
 use Rattle.picture.specs.Place.{lies_tiled, rows_of}
 use Rattle.triangle.specs.declared.Corners.{Corners}
+use Rattle.triangle.specs.declared.Numbers.{Numbers}
 use Rattle.triangle.specs.declared.Edges.{Edges}
-use Rattle.triangle.specs.declared.Span.{Span}
+use Rattle.triangle.specs.declared.Limits.{Limits}
 use Rattle.triangle.specs.declared.Height.{Height}
 use Rattle.triangle.specs.declared.Side.{Side}
 use Rattle.triangle.specs.declared.Sum.{Sum}
@@ -16,12 +18,9 @@ use Rattle.triangle.specs.declared.Rising.{Rising}
 use Rattle.triangle.specs.declared.Slopes.{Slopes}
 use Rattle.triangle.specs.declared.Shades.{Shades}
 use Rattle.triangle.specs.declared.Shades.TheVariants.{Flat, Carried, Divided}
-use Rattle.triangle.specs.declared.Run.{Run}
-use Rattle.triangle.specs.declared.Way.{Way}
-use Rattle.triangle.specs.declared.Way.TheVariants.{Along, Each}
 use Rattle.triangle.specs.Edge.{plus_of, minus_of, edge_at, closed, covers, amount, area_of}
 use Rattle.triangle.specs.Number.{mass_of, shade}
-use Rattle.triangle.specs.Offers.{kind_of, pixel_at}
+use Rattle.triangle.specs.Offers.{pixel_at}
 
 -- the three edges at a pixel
 abbrev pub edges_at : Corners → ℕ → ℕ → Edges
@@ -72,8 +71,8 @@ short false = 1
 -- h is the height of the edge from a to b, with its reciprocal
 pub record Measures (a b : Vertex) (h : Height) : Type 0 where
   pub is : h.tall ≡ a.y - b.y + (b.y - a.y)
-  pub least : 0 < h.tall → carried_one ≤ h.inv * h.tall
-  pub most : 0 < h.tall → h.inv * h.tall ≤ carried_one + h.tall
+  pub least : 0 < h.tall → carried_one ≤ h.inverse * h.tall
+  pub most : 0 < h.tall → h.inverse * h.tall ≤ carried_one + h.tall
 
 -- the edge from a to b leaves the pixel inside
 pub record Keeps (a b : Vertex) (x y : ℕ) : Type 0 where
@@ -100,8 +99,8 @@ pub record Crosses (s : Side) : Type 0 where
   pub some : 0 < s.height.tall
   pub low : s.height.tall ≤ 65535
   pub near : s.at < 65536 * s.height.tall
-  pub least : carried_one ≤ s.height.inv * s.height.tall
-  pub most : s.height.inv * s.height.tall ≤ carried_one + s.height.tall
+  pub least : carried_one ≤ s.height.inverse * s.height.tall
+  pub most : s.height.inverse * s.height.tall ≤ carried_one + s.height.tall
 
 -- r bounds the columns that the edge keeps of row y: those from r on where it falls, and those below r where it does not
 pub record Bounds (a b : Vertex) (y r : ℕ) : Type 0 where
@@ -109,22 +108,22 @@ pub record Bounds (a b : Vertex) (y r : ℕ) : Type 0 where
   pub rises : a.y ≤ b.y → (x : ℕ) → x < 65536 → (x < r → Keeps a b x y) × (Keeps a b x y → x < r)
 
 -- r is what the edge keeps of s
-pub record Cuts (a b : Vertex) (y : ℕ) (s r : Span) : Type 0 where
+pub record Cuts (a b : Vertex) (y : ℕ) (s r : Limits) : Type 0 where
   pub shrinks : r.hi ≤ s.hi
   pub inner : (x : ℕ) → r.lo ≤ x → x < r.hi → (s.lo ≤ x) × (x < s.hi) × (Keeps a b x y)
   pub outer : (x : ℕ) → s.lo ≤ x → x < s.hi → Keeps a b x y → (r.lo ≤ x) × (x < r.hi)
 
 -- r is what the three edges keep of s
-pub record CutsAll (t : Corners) (y : ℕ) (s r : Span) : Type 0 where
+pub record CutsAll (t : Corners) (y : ℕ) (s r : Limits) : Type 0 where
   pub shrinks : r.hi ≤ s.hi
   pub inner : (x : ℕ) → r.lo ≤ x → x < r.hi → (s.lo ≤ x) × (x < s.hi) × (covers t x y ≡ true)
   pub outer : (x : ℕ) → s.lo ≤ x → x < s.hi → covers t x y ≡ true → (r.lo ≤ x) × (x < r.hi)
 
--- s is the row's covered pixels within the columns of the window and the memory
-pub record Spanned (pen : Pen) (t : Corners) (y : ℕ) (s : Span) : Type 0 where
-  pub wide : s.hi ≤ pen.frame.line
-  pub columns : (x : ℕ) → s.lo ≤ x → x < s.hi → (pen.left ≤ x) × (x ≤ pen.right) × (covers t x y ≡ true)
-  pub rest : (x : ℕ) → x < pen.frame.line → pen.left ≤ x → x ≤ pen.right → covers t x y ≡ true → (s.lo ≤ x) × (x < s.hi)
+-- the columns from lo up to and without hi are the row's covered pixels within the columns of the window and the memory
+pub record Spanned (pen : Pen) (t : Corners) (y lo hi : ℕ) : Type 0 where
+  pub wide : hi ≤ pen.frame.line
+  pub columns : (x : ℕ) → lo ≤ x → x < hi → (pen.left ≤ x) × (x ≤ pen.right) × (covers t x y ≡ true)
+  pub rest : (x : ℕ) → x < pen.frame.line → pen.left ≤ x → x ≤ pen.right → covers t x y ≡ true → (lo ≤ x) × (x < hi)
 
 -- ---- the rows of a triangle
 
@@ -182,6 +181,22 @@ pub record Ranges (pen : Pen) (t : Corners) (f : Flanks) (first top i z : ℕ) :
 abbrev pub mass_by : Corners → ℕ → ℕ → ℕ → ℕ → ℕ → ℕ
 mass_by t p q r x y = mass_of (amount (edge_at t.b t.c x y)) (amount (edge_at t.c t.a x y)) (amount (edge_at t.a t.b x y)) (area_of t) p q r
 
+-- the columns of the corners
+abbrev pub columns_of : Corners → Numbers
+columns_of t = record { a = t.a.x; b = t.b.x; c = t.c.x }
+
+-- their rows
+abbrev pub levels_of : Corners → Numbers
+levels_of t = record { a = t.a.y; b = t.b.y; c = t.c.y }
+
+-- their intensities
+abbrev pub intensities_of : Corners → Numbers
+intensities_of t = record { a = t.a.i; b = t.b.i; c = t.c.i }
+
+-- their depths
+abbrev pub depths_of : Corners → Numbers
+depths_of t = record { a = t.a.z; b = t.b.z; c = t.c.z }
+
 -- the corner numbers p, q, r times the coordinate of the next corner, and times that of the one before
 abbrev pub ahead : ℕ → ℕ → ℕ → ℕ → ℕ → ℕ → ℕ
 ahead u v w p q r = p * v + q * w + r * u
@@ -190,14 +205,12 @@ ahead u v w p q r = p * v + q * w + r * u
 abbrev pub behind : ℕ → ℕ → ℕ → ℕ → ℕ → ℕ → ℕ
 behind u v w p q r = p * w + q * u + r * v
 
--- what stands for 0 among numbers that may fall below it
-abbrev pub middle : ℕ
-middle = 68719476736
-
--- s is what a step along an axis adds to 2 N, from `middle` on; u, v, w are the corners' coordinates along the other axis
+-- s is what a step along an axis adds to 2 N, modulo 2 ^ 64; u, v, w are the corners' coordinates along the other axis
 pub record Slants (u v w p q r s : ℕ) : Type 0 where
-  pub so : s + 2 * behind u v w p q r ≡ middle + 2 * ahead u v w p q r
-  pub low : s ≤ 94488494086
+  pub so : (s + 2 * behind u v w p q r) % 2 ^ 64 ≡ 2 * ahead u v w p q r
+  pub fits : s < 18446744073709551616
+  pub ahead_low : ahead u v w p q r ≤ 12884508675
+  pub behind_low : behind u v w p q r ≤ 12884508675
 
 -- s is what a pixel to the right adds to 2 N
 abbrev pub Leans : Corners → ℕ → ℕ → ℕ → ℕ → Type 0
@@ -216,11 +229,15 @@ plus_at t p q r y = p * (edge_at t.b t.c 0 y).plus + q * (edge_at t.c t.a 0 y).p
 abbrev pub minus_at : Corners → ℕ → ℕ → ℕ → ℕ → ℕ
 minus_at t p q r y = p * (edge_at t.b t.c 0 y).minus + q * (edge_at t.c t.a 0 y).minus + r * (edge_at t.a t.b 0 y).minus
 
--- s is 2 N + D at column 0 of row y and what a row up adds to it, both modulo 2 ^ 64, and what a pixel to the right adds
+-- s is 2 N + D at column 0 of row y, and what a pixel to the right and a row up add to it, all modulo 2 ^ 64
 pub record Sums (t : Corners) (p q r y : ℕ) (s : Sum) : Type 0 where
   pub at : (s.at + 2 * minus_at t p q r y) % 2 ^ 64 ≡ (2 * plus_at t p q r y + area_of t) % 2 ^ 64
   pub right : Leans t p q r s.right
   pub up : (s.up + 2 * ahead t.a.x t.b.x t.c.x p q r) % 2 ^ 64 ≡ 2 * behind t.a.x t.b.x t.c.x p q r
+
+-- the same sum a row on
+abbrev pub summed_up : Sum → Sum
+summed_up s = record { at = (s.at + s.up) % 2 ^ 64; right = s.right; up = s.up }
 
 -- what is carried from row to row, in row y
 pub record Rises (t : Corners) (y : ℕ) (w : Rising) : Type 0 where
@@ -228,26 +245,17 @@ pub record Rises (t : Corners) (y : ℕ) (w : Rising) : Type 0 where
   pub i : Sums t t.a.i t.b.i t.c.i y w.i
   pub z : Sums t t.a.z t.b.z t.c.z y w.z
 
--- pixel (x, y) is one of the memory's columns and covered by corners of doubled area d
-pub record Covered (t : Corners) (d x y : ℕ) : Type 0 where
-  pub turned : Turned t
-  pub area : d ≡ area_of t
-  pub fits : d ≤ 2147483648
-  pub column : x ≤ 65535
-  pub row : y ≤ 65535
-  pub covered : covers t x y ≡ true
-
 -- a sum that can be carried: not too large, and with a factor that fits
 pub record Begins (d : ℕ) (g : Slopes) (n : ℕ) : Type 0 where
   pub some : 0 < d
   pub fits : d ≤ 2147483648
   pub low : n ≤ 131071 * d
-  pub factor : g.long ≡ false → (2 * d ≤ 65536) × (g.f * (2 * d) ≤ carried_one + 2 * d)
+  pub factor : (f : ℕ) → g.factor ≡ Some f → (2 * d ≤ 65536) × (f * (2 * d) ≤ carried_one + 2 * d)
 
 -- k is the sum n as it is carried: times the factor, or 2 ^ 48 times its quotient, rounded up
 pub record Begun (d : ℕ) (g : Slopes) (n k : ℕ) : Type 0 where
-  pub short : g.long ≡ false → k ≡ n * g.f
-  pub long : g.long ≡ true → (n * carried_one ≤ k * (2 * d)) × (k * (2 * d) ≤ n * carried_one + 1 * (2 * d))
+  pub short : (f : ℕ) → g.factor ≡ Some f → k ≡ n * f
+  pub long : g.factor ≡ None → (n * carried_one ≤ k * (2 * d)) × (k * (2 * d) ≤ n * carried_one + 1 * (2 * d))
 
 -- a corner number's sum times f: 2 ^ 48 times the number, and less than 2 ^ 48 more
 unfoldable pub scaled : Corners → ℕ → ℕ → ℕ → ℕ → ℕ → ℕ → ℕ
@@ -267,19 +275,19 @@ pub record Drifts (t : Corners) (p q r g : ℕ) : Type 0 where
   pub go : (x y b k : ℕ) → covers t x y ≡ true → covers t (x + 1) y ≡ true → b ≤ 65535
       → Near t p q r x y b k → Near t p q r (x + 1) y (b + 1) ((k + g) % 2 ^ 64)
 
--- the sums of a small triangle are carried exactly
-pub record Glides (t : Corners) (g : Slopes) : Type 0 where
+-- the sums of a small triangle are carried exactly, by the factor f
+pub record Glides (t : Corners) (f i z : ℕ) : Type 0 where
   pub few : 2 * area_of t ≤ 65536
-  pub least : carried_one ≤ g.f * (2 * area_of t)
-  pub most : g.f * (2 * area_of t) ≤ carried_one + 2 * area_of t
-  pub i : Paces t g.f t.a.i t.b.i t.c.i g.i
-  pub z : Paces t g.f t.a.z t.b.z t.c.z g.z
+  pub least : carried_one ≤ f * (2 * area_of t)
+  pub most : f * (2 * area_of t) ≤ carried_one + 2 * area_of t
+  pub of_i : Paces t f t.a.i t.b.i t.c.i i
+  pub of_z : Paces t f t.a.z t.b.z t.c.z z
 
 -- how the numbers of a triangle are carried along its rows
 pub record Carries (t : Corners) (g : Slopes) : Type 0 where
   pub fits : area_of t ≤ 2147483648
-  pub short : g.long ≡ false → Glides t g
-  pub long : g.long ≡ true → (Drifts t t.a.i t.b.i t.c.i g.i) × (Drifts t t.a.z t.b.z t.c.z g.z)
+  pub short : (f : ℕ) → g.factor ≡ Some f → Glides t f g.i g.z
+  pub long : g.factor ≡ None → (Drifts t t.a.i t.b.i t.c.i g.i) × (Drifts t t.a.z t.b.z t.c.z g.z)
 
 -- k at lo, and g added a pixel modulo 2 ^ 64, carry the number along the columns from lo to hi of row y
 pub record Runs (t : Corners) (p q r lo hi y k g : ℕ) : Type 0 where
@@ -295,14 +303,17 @@ Shaded constant t Flat = constant ≡ true
 Shaded constant t (Carried g) = (constant ≡ false) × Carries t g
 Shaded constant t Divided = (constant ≡ false) × Large t
 
--- the run's numbers are those of the row's covered pixels
-pub record Told (constant : Bool) (t : Corners) (y : ℕ) (s : Span) (r : Run) : Type 0 where
-  pub so : (j : ℕ) → s.lo + j < s.hi → (carried_to r.i j ≡ (pixel_at constant t (s.lo + j) y).i) × (carried_to r.z j ≡ (pixel_at constant t (s.lo + j) y).z)
+-- s is the row's covered pixels within the columns of the window and the memory, and its numbers are theirs
+pub record Told (pen : Pen) (constant : Bool) (t : Corners) (y : ℕ) (s : Stretch) : Type 0 where
+  pub row : s.y ≡ y
+  pub some : s.lo < s.hi
+  pub spanned : Spanned pen t y s.lo s.hi
+  pub so : (j : ℕ) → s.lo + j < s.hi → (carried_to s.i j ≡ (pixel_at constant t (s.lo + j) y).i) × (carried_to s.z j ≡ (pixel_at constant t (s.lo + j) y).z)
 
--- a way of drawing a row that serves it
-abbrev pub Serves : Bool → Corners → ℕ → Span → Way → Type 0
-Serves constant t y s (Along r) = Told constant t y s r
-Serves constant t y s Each = (constant ≡ false) × Large t
+-- a way of drawing a row that serves it: as one stretch, or each pixel by itself
+abbrev pub Serves : Pen → Bool → Corners → ℕ → Option Stretch → Type 0
+Serves pen constant t y (Some s) = Told pen constant t y s
+Serves pen constant t y None = (constant ≡ false) × Large t
 
 -- a row of the window
 pub record InRows (pen : Pen) (y : ℕ) : Type 0 where
@@ -314,12 +325,9 @@ pub record Steady (pen : Pen) : Type 0 where
   pub plain : is_plain pen Constant ≡ true
   pub rows : lies_tiled pen.frame ≡ false
 
--- what row y of a triangle is drawn with: its corners and doubled area, how numbers come to its pixels, what is carried to the row, and whether nothing but a
--- nearer depth decides
-pub record Drawable (pen : Pen) (constant plain : Bool) (t : Corners) (d : ℕ) (shades : Shades) (w : Rising) (y : ℕ) : Type 0 where
-  pub sized : Sized t d
+-- what row y of a triangle is drawn with: how numbers come to its pixels, and what is carried to the row
+pub record Drawable (pen : Pen) (constant : Bool) (t : Corners) (shades : Shades) (w : Rising) (y : ℕ) : Type 0 where
   pub shaded : Shaded constant t shades
   pub carried : Rises t y w
   pub crossed : Crossed t y
   pub row : InRows pen y
-  pub fast : plain ≡ is_plain pen (kind_of constant)

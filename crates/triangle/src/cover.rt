@@ -1,53 +1,50 @@
 // The edges of a triangle at a pixel.
-ghost use Rattle.std.specs.Prelude.{◌≡◌, ◌+◌, ◌-◌, ◌*◌, ◌≤◌};
-ghost use Rattle.triangle.specs.Edge.{edge_at, closed};
+ghost use Rattle.std.specs.Prelude.{◌≡◌, ◌+◌, ◌*◌, ◌%◌, ◌^◌, ◌≤◌};
+ghost use Rattle.triangle.specs.Edge.{edge_at, closed, amount};
 ghost use Rattle.triangle.specs.Loops.{edges_at};
 
 use crate::{Corners, Edge, Edges};
 use picture::Vertex;
 
-// A product of two 16-bit numbers.
-pub(crate) fn times(a: usize, b: usize) -> usize
-    requires { (a ≤ 65535) × (b ≤ 65535) }
-    ensures { (result ≡ a * b) × (result ≤ 4294836225) }
+// How far a is above b, modulo 2^64.
+pub(crate) fn over(a: u16, b: u16) -> u64
+    ensures { (result + b) % 2 ^ 64 ≡ a }
 {
-    a * b
-}
-
-// How far two numbers are apart.
-pub(crate) fn gap(a: usize, b: usize) -> usize
-    ensures { result ≡ a - b + (b - a) }
-{
-    if a < b { b - a } else { a - b }
+    (a as u64).wrapping_sub(b as u64)
 }
 
 // The edge from a to b at the pixel (x, y).
-pub(crate) fn edge_at(a: Vertex, b: Vertex, x: usize, y: usize) -> Edge
-    requires { (x ≤ 65535) × (y ≤ 65535) }
+#[tactic(auto, unfolding(crate::specs::Edge::plus_of, crate::specs::Edge::minus_of))]
+pub(crate) fn edge_at(a: Vertex, b: Vertex, x: u16, y: u16) -> Edge
     ensures { (result ≡ edge_at a b x y) × (result.plus ≤ 12884508675) × (result.minus ≤ 12884508675) }
 {
-    let ax = a.x as usize;
-    let ay = a.y as usize;
-    let bx = b.x as usize;
-    let by = b.y as usize;
     Edge {
-        plus: times(bx, y) + times(ax, by) + times(ay, x),
-        minus: times(bx, ay) + times(ax, y) + times(by, x),
+        plus: b.x as u64 * y as u64 + a.x as u64 * b.y as u64 + a.y as u64 * x as u64,
+        minus: b.x as u64 * a.y as u64 + a.x as u64 * y as u64 + b.y as u64 * x as u64,
     }
 }
 
-// The three edges at the pixel (x, y).
-pub(crate) fn edges_at(t: Corners, x: usize, y: usize) -> Edges
-    requires { (x ≤ 65535) × (y ≤ 65535) }
-    ensures { result ≡ edges_at t x y }
-{
-    let a = t.a;
-    let b = t.b;
-    let c = t.c;
-    let ab = edge_at(a, b, x, y);
-    let bc = edge_at(b, c, x, y);
-    let ca = edge_at(c, a, x, y);
-    Edges { ab, bc, ca }
+impl Corners {
+    // The three edges at the pixel (x, y).
+    pub(crate) fn edges_at(self, x: u16, y: u16) -> Edges
+        ensures { result ≡ edges_at self x y }
+    {
+        Edges {
+            ab: edge_at(self.a, self.b, x, y),
+            bc: edge_at(self.b, self.c, x, y),
+            ca: edge_at(self.c, self.a, x, y),
+        }
+    }
+}
+
+impl Edge {
+    // The expression's amount, where it is not negative.
+    pub(crate) fn amount(self) -> u64
+        requires { self.minus ≤ self.plus }
+        ensures { result ≡ amount self }
+    {
+        self.plus - self.minus
+    }
 }
 
 // Whether the edge from a to b has the pixels on it: it runs downward, or level to the right.

@@ -1,364 +1,304 @@
-// Triangles drawn: row by row, each row's covered pixels as one run.
-ghost use Rattle.std.specs.Prelude.{◌≡◌, ℕ, ◌+◌, ◌<◌, ◌≤◌, true, false, length, if◌then◌else◌, nat_lt};
-ghost use Rattle.picture.specs.Draw.{carried_to, is_plain};
-ghost use Rattle.triangle.specs.Edge.{covers, area_of};
-ghost use Rattle.triangle.specs.Loops.{end_of, start_of, Lowest, lowest_first, Turned, Sized, Crossed, Flanked, Ranges, Spanned, Carries, LeansBoth, Shaded};
+// Triangles drawn: row by row, each row's covered pixels as one stretch.
+ghost use Rattle.std.specs.Prelude.{◌≡◌, ◌+◌, ◌<◌, ◌≤◌, true, false, length, if◌then◌else◌, nat_lt};
+ghost use Rattle.triangle.specs.Edge.{covers};
+ghost use Rattle.triangle.specs.Loops.{end_of, start_of, Lowest, lowest_first, Crossed, Flanked, Ranges, Spanned, Carries, LeansBoth, Shaded};
 ghost use Rattle.triangle.specs.Loops.{Told, Serves, InRows, Rises, Steady, Drawable, Large};
 ghost use Rattle.triangle.specs.Offers.{kind_of, pixel_offers, row_offers, turned_offers, corners_of, triangle_offers};
 ghost use Rattle.picture.specs.Lent.{Draws};
 
-use crate::cover::{edge_at, edges_at, gap};
-use crate::number::{begin, number, slopes_of, sum_at, sum_of, summed_up};
-use crate::row::{climbed, flanks_of, spanned};
-use crate::{Corners, Edge, Flanks, Rising, Run, Shades, Slopes, Span, Way};
-use ground::{least, most};
+use crate::cover::edge_at;
+use crate::{Brush, Corners, Edge, Facet, Flanks, MOST_CARRIED, Rising, Shades, Slopes, Span};
 use picture::draw::{put, span};
 use picture::nearer::{is_plain, span_nearer};
 use picture::place::{lies_tiled, rows_of};
 use picture::steady::span_steady;
-use picture::{Carried, Kind, Pen, Vertex};
+use picture::{Carried, Kind, Memories, Pen, Stretch, Vertex};
 
-// A number that stays the same along a row.
-fn steady(v: u16) -> Carried
-    ensures { (j : ℕ) → carried_to result j ≡ v }
+// A row of a constant triangle.
+fn flat_run(pen: Pen, corners: Corners, span: Span, y: u16) -> Stretch
+    requires { Spanned pen corners y span.lo span.hi }
+    ensures { Told pen true corners y result }
 {
-    Carried {
-        first: (v as u64) << 48,
-        add: 0,
+    Stretch {
+        lo: span.lo as u16,
+        hi: span.hi as u16,
+        y,
+        i: Carried::steady(corners.last.i),
+        z: Carried::steady(corners.last.z),
     }
 }
 
-// A row's numbers in a constant triangle.
-fn flat_run(t: Corners, s: Span, y: u16) -> Run
-    ensures { Told true t y s result }
-{
-    let i = steady(t.last.i);
-    let z = steady(t.last.z);
-    Run { i, z }
-}
-
-// A row's numbers in a Gouraud triangle, carried.
-fn carried_run(pen: Pen, t: Corners, d: usize, g: Slopes, w: Rising, s: Span, y: u16) -> Run
-    requires { (Turned t) × (d ≡ area_of t) × (Carries t g) × (Rises t y w) × (Spanned pen t y s) × (s.lo < s.hi) }
-    ensures { Told false t y s result }
-{
-    let sum_i = w.i;
-    let sum_z = w.z;
-    let ni = sum_at(t, d, s.lo, y as usize, t.a.i, t.b.i, t.c.i, sum_i);
-    let nz = sum_at(t, d, s.lo, y as usize, t.a.z, t.b.z, t.c.z, sum_z);
-    let ki = begin(d, g, ni);
-    let kz = begin(d, g, nz);
-    let i = Carried {
-        first: ki as u64,
-        add: g.i as u64,
-    };
-    let z = Carried {
-        first: kz as u64,
-        add: g.z as u64,
-    };
-    Run { i, z }
-}
-
-// How a row with covered pixels is drawn.
-fn way_of(
+// A row of a Gouraud triangle, its numbers carried.
+fn carried_run(
     pen: Pen,
-    constant: bool,
-    t: Corners,
-    d: usize,
-    shades: Shades,
-    w: Rising,
-    s: Span,
+    facet: Facet,
+    slopes: Slopes,
+    rising: Rising,
+    span: Span,
     y: u16,
-) -> Way
-    requires { (Turned t) × (d ≡ area_of t) × (Shaded constant t shades) × (Rises t y w) × (Spanned pen t y s) × (s.lo < s.hi) }
-    ensures { Serves constant t y s result }
+) -> Stretch
+    requires { (Carries facet.corners slopes) × (Rises facet.corners y rising) × (Spanned pen facet.corners y span.lo span.hi) }
+    ensures { Told pen false facet.corners y result }
+{
+    Stretch {
+        lo: span.lo as u16,
+        hi: span.hi as u16,
+        y,
+        i: Carried {
+            first: slopes.begin(facet.area, rising.i.at_column(span.lo)),
+            add: slopes.i,
+        },
+        z: Carried {
+            first: slopes.begin(facet.area, rising.z.at_column(span.lo)),
+            add: slopes.z,
+        },
+    }
+}
+
+// A row with covered pixels as one stretch, or none where each pixel is drawn by itself.
+fn run_of(
+    brush: Brush,
+    facet: Facet,
+    shades: Shades,
+    rising: Rising,
+    span: Span,
+    y: u16,
+) -> Option<Stretch>
+    requires { (Shaded brush.constant facet.corners shades) × (Rises facet.corners y rising) × (Spanned brush.pen facet.corners y span.lo span.hi) }
+    ensures { Serves brush.pen brush.constant facet.corners y result }
 {
     match shades {
-        Shades::Flat => return Way::Along(flat_run(t, s, y)),
-        Shades::Carried(g) => return Way::Along(carried_run(pen, t, d, g, w, s, y)),
-        Shades::Divided => return Way::Each,
+        Shades::Flat => Some(flat_run(brush.pen, facet.corners, span, y)),
+        Shades::Carried(slopes) => Some(carried_run(brush.pen, facet, slopes, rising, span, y)),
+        Shades::Divided => None,
     }
 }
 
-// The kind of a triangle's pixels.
-fn kind_of(constant: bool) -> Kind
+// The kind of a triangle's pixels. No `From`: a bool by itself says nothing of triangles.
+pub fn kind_of(constant: bool) -> Kind
     ensures { result ≡ kind_of constant }
 {
     if constant {
-        return Kind::Constant;
+        Kind::Constant
+    } else {
+        Kind::Gouraud
     }
-    Kind::Gouraud
 }
 
-// A row drawn as one run. Gouraud rows, and constant ones over tiles, share the one call of `span_nearer` for pens of which nothing but a nearer depth decides, and
-// all rows the one of `span` for others: called once, it is compiled in place, and the numbers stay in registers.
-fn run_row(
-    pen: Pen,
-    constant: bool,
-    plain: bool,
-    t: Corners,
-    s: Span,
-    r: Run,
-    y: u16,
-    im: &mut [u16],
-    zm: &mut [u16],
-) -> u64
-    requires { (plain ≡ is_plain pen (kind_of constant)) × (Spanned pen t y s) × (InRows pen y) × (s.lo < s.hi) × (Told constant t y s r) }
-    ensures { Draws pen (λ rows. row_offers pen rows constant t y) im zm 0 result }
+// A row drawn as one stretch. Gouraud rows, and constant ones over tiles, share the one call of `span_nearer` for pens of which nothing but a nearer depth decides,
+// and all rows the one of `span` for others: called once, it is compiled in place, and the numbers stay in registers.
+fn run_row(brush: Brush, corners: Corners, run: Stretch, m: &mut Memories) -> u64
+    requires { (Told brush.pen brush.constant corners run.y run) × (InRows brush.pen run.y) }
+    ensures { Draws brush.pen (λ rows. row_offers brush.pen rows brush.constant corners run.y) m 0 result }
 {
-    if plain {
-        let frame = pen.frame;
-        return span_nearer(frame, s.lo as u16, s.hi as u16, y, r.i, r.z, im, zm);
+    if brush.plain {
+        return span_nearer(brush.pen.frame, run, m);
     }
-    let kind = kind_of(constant);
-    span(pen, kind, s.lo as u16, s.hi as u16, y, r.i, r.z, im, zm)
+    span(brush.pen, kind_of(brush.constant), run, m)
 }
 
 // One covered pixel of a Gouraud triangle.
-fn divided_pixel(
-    pen: Pen,
-    t: Corners,
-    d: usize,
-    x: usize,
-    y: u16,
-    im: &mut [u16],
-    zm: &mut [u16],
-) -> u64
-    requires { (Sized t d) × (covers t x y ≡ true) × (x ≤ 65535) × (Large t) }
-    ensures { Draws pen (λ rows. pixel_offers pen rows false t x y) im zm 0 result }
+fn divided_pixel(pen: Pen, facet: Facet, x: u16, y: u16, m: &mut Memories) -> u64
+    requires { (covers facet.corners x y ≡ true) × (Large facet.corners) }
+    ensures { Draws pen (λ rows. pixel_offers pen rows false facet.corners x y) m 0 result }
 {
-    let e = edges_at(t, x, y as usize);
-    let i = number(t, d, e, t.a.i, t.b.i, t.c.i);
-    let z = number(t, d, e, t.a.z, t.b.z, t.c.z);
-    put(pen, Kind::Gouraud, x as u16, y, i, z, im, zm)
+    let edges = facet.corners.edges_at(x, y);
+    let pixel = Vertex {
+        x,
+        y,
+        i: facet.number(edges, facet.corners.intensities()),
+        z: facet.number(edges, facet.corners.depths()),
+    };
+    put(pen, Kind::Gouraud, pixel, m)
 }
 
 // A row of a Gouraud triangle that is too large for carried numbers (doubled area above 2^31): two divisions a pixel. No word that the chip
 // accepts completes one.
-fn divided_row(
-    pen: Pen,
-    t: Corners,
-    d: usize,
-    s: Span,
-    y: u16,
-    im: &mut [u16],
-    zm: &mut [u16],
-) -> u64
-    requires { (Sized t d) × (Spanned pen t y s) × (InRows pen y) × (s.lo < s.hi) × (Large t) }
-    ensures { Draws pen (λ rows. row_offers pen rows false t y) im zm 0 result }
+fn divided_row(pen: Pen, facet: Facet, span: Span, y: u16, m: &mut Memories) -> u64
+    requires { (Spanned pen facet.corners y span.lo span.hi) × (InRows pen y) × (Large facet.corners) }
+    ensures { Draws pen (λ rows. row_offers pen rows false facet.corners y) m 0 result }
 {
-    let hi = s.hi;
-    let mut x = s.lo;
-    let mut n: u64 = 0;
-    while x < hi {
-        n += divided_pixel(pen, t, d, x, y, im, zm);
-        x += 1;
+    let mut passed: u64 = 0;
+    for x in span.lo..span.hi {
+        passed += divided_pixel(pen, facet, x as u16, y, m);
     }
-    n
+    passed
 }
 
 // A row of a triangle.
 fn draw_row(
-    pen: Pen,
-    constant: bool,
-    plain: bool,
-    t: Corners,
-    d: usize,
+    brush: Brush,
+    facet: Facet,
     shades: Shades,
-    w: Rising,
+    rising: Rising,
     y: u16,
-    im: &mut [u16],
-    zm: &mut [u16],
+    m: &mut Memories,
 ) -> u64
-    requires { Drawable pen constant plain t d shades w y }
-    ensures { Draws pen (λ rows. row_offers pen rows constant t y) im zm 0 result }
+    requires { Drawable brush.pen brush.constant facet.corners shades rising y }
+    ensures { Draws brush.pen (λ rows. row_offers brush.pen rows brush.constant facet.corners y) m 0 result }
 {
-    let flanks = w.flanks;
-    let s = spanned(pen, t, flanks, y);
-    if s.lo < s.hi {
-        let way = way_of(pen, constant, t, d, shades, w, s, y);
-        match way {
-            Way::Along(r) => return run_row(pen, constant, plain, t, s, r, y, im, zm),
-            Way::Each => return divided_row(pen, t, d, s, y, im, zm),
-        }
+    match rising.flanks.spanned(brush.pen, facet.corners, y) {
+        Some(span) => match run_of(brush, facet, shades, rising, span, y) {
+            Some(run) => run_row(brush, facet.corners, run, m),
+            None => divided_row(brush.pen, facet, span, y, m),
+        },
+        None => 0,
     }
-    0
 }
 
-// How the numbers of a triangle come to its pixels.
-fn shades_of(constant: bool, t: Corners, d: usize, right_i: usize, right_z: usize) -> Shades
-    requires { (Turned t) × (d ≡ area_of t) × (LeansBoth t right_i right_z) }
-    ensures { Shaded constant t result }
+// How the numbers of a triangle come to its pixels, by what a pixel to the right adds to the sums of I and Z.
+fn shades_of(constant: bool, facet: Facet, rising: Rising) -> Shades
+    requires { LeansBoth facet.corners rising.i.right rising.z.right }
+    ensures { Shaded constant facet.corners result }
 {
     if constant {
         return Shades::Flat;
     }
-    if d <= 2147483648 {
-        return Shades::Carried(slopes_of(t, d, right_i, right_z));
+    if facet.area <= MOST_CARRIED {
+        return Shades::Carried(facet.slopes(rising));
     }
     Shades::Divided
 }
 
-// What is carried from row to row, in row y.
-fn rising_of(t: Corners, d: usize, flanks: Flanks, y: usize) -> Rising
-    requires { (Sized t d) × (Flanked t y flanks) × (y ≤ 65535) }
-    ensures { Rises t y result }
-{
-    let i = sum_of(t, d, y, t.a.i, t.b.i, t.c.i);
-    let z = sum_of(t, d, y, t.a.z, t.b.z, t.c.z);
-    Rising { flanks, i, z }
-}
+impl Rising {
+    // What is carried from row to row, in row y.
+    fn new(facet: Facet, flanks: Flanks, y: u16) -> Rising
+        requires { Flanked facet.corners y flanks }
+        ensures { Rises facet.corners y result }
+    {
+        Rising {
+            flanks,
+            i: facet.sum(facet.corners.intensities(), y),
+            z: facet.sum(facet.corners.depths(), y),
+        }
+    }
 
-// The same a row on.
-fn risen(t: Corners, y: usize, w: Rising) -> Rising
-    requires { (y ≤ 65535) × (Rises t y w) }
-    ensures { Rises t (y + 1) result }
-{
-    let bounds = w.flanks;
-    let sum_i = w.i;
-    let sum_z = w.z;
-    let flanks = climbed(t, y, bounds);
-    let i = summed_up(t, y, t.a.i, t.b.i, t.c.i, sum_i);
-    let z = summed_up(t, y, t.a.z, t.b.z, t.c.z, sum_z);
-    Rising { flanks, i, z }
+    // The same a row on.
+    fn raised(self, corners: Corners, y: u16) -> Rising
+        requires { Rises corners y self }
+        ensures { Rises corners (y + 1) result }
+    {
+        Rising {
+            flanks: self.flanks.raised(corners, y),
+            i: self.i.raised(),
+            z: self.z.raised(),
+        }
+    }
 }
 
 // The first row of the corners and the window.
-fn start_of(limit: u16, a: u16, b: u16, c: u16) -> usize
-    ensures { result ≡ start_of limit a b c }
+fn start_of(limit: u16, corners: Corners) -> u16
+    ensures { result ≡ start_of limit corners.a.y corners.c.y corners.b.y }
 {
-    most(
-        limit as usize,
-        least(a as usize, least(b as usize, c as usize)),
-    )
+    limit.max(corners.a.y.min(corners.c.y.min(corners.b.y)))
 }
 
 // One past the last row of the corners, the window and the memory.
-fn end_of(size: usize, limit: u16, a: u16, b: u16, c: u16) -> usize
-    ensures { result ≡ end_of size limit a b c }
+fn end_of(size: usize, limit: u16, corners: Corners) -> usize
+    ensures { result ≡ end_of size limit corners.a.y corners.c.y corners.b.y }
 {
-    let far = most(a as usize, most(b as usize, c as usize));
-    least(size, least(limit as usize, far) + 1)
+    let last = limit.min(corners.a.y.max(corners.c.y.max(corners.b.y)));
+    size.min(last as usize + 1)
 }
 
 // A row of a constant triangle, with a pen of which nothing but a nearer depth decides, where pixels lie in no tiles.
-fn flat_row(pen: Pen, t: Corners, f: Flanks, y: u16, im: &mut [u16], zm: &mut [u16]) -> u64
-    requires { (Steady pen) × (Crossed t y) × (Flanked t y f) × (InRows pen y) }
-    ensures { Draws pen (λ rows. row_offers pen rows true t y) im zm 0 result }
+fn flat_row(pen: Pen, corners: Corners, flanks: Flanks, y: u16, m: &mut Memories) -> u64
+    requires { (Steady pen) × (Crossed corners y) × (Flanked corners y flanks) × (InRows pen y) }
+    ensures { Draws pen (λ rows. row_offers pen rows true corners y) m 0 result }
 {
-    let frame = pen.frame;
-    let s = spanned(pen, t, f, y);
-    if s.lo < s.hi {
-        return span_steady(
-            frame,
-            s.lo as u16,
-            s.hi as u16,
+    match flanks.spanned(pen, corners, y) {
+        Some(span) => span_steady(
+            pen.frame,
+            span.lo as u16,
+            span.hi as u16,
             y,
-            t.last.i,
-            t.last.z,
-            im,
-            zm,
-        );
+            corners.last.i,
+            corners.last.z,
+            m,
+        ),
+        None => 0,
     }
-    0
 }
 
 // The rows from `first` up to and without `top` of such a triangle. They carry no sums, so they have a loop of their own.
 fn draw_flat(
     pen: Pen,
-    t: Corners,
-    flanks: Flanks,
-    first: usize,
-    top: usize,
-    im: &mut [u16],
-    zm: &mut [u16],
+    corners: Corners,
+    mut flanks: Flanks,
+    first: u16,
+    top: u16,
+    m: &mut Memories,
 ) -> u64
-    requires { (Steady pen) × (Ranges pen t flanks first top (length im.old) (length zm.old)) }
-    ensures { Draws pen (λ rows. turned_offers pen rows true t) im zm 0 result }
+    requires { (Steady pen) × (Ranges pen corners flanks first top (length m.old.i.now) (length m.old.z.now)) }
+    ensures { Draws pen (λ rows. turned_offers pen rows true corners) m 0 result }
 {
-    let mut y = first;
-    let mut f = flanks;
-    let mut n: u64 = 0;
-    while y < top {
-        n += flat_row(pen, t, f, y as u16, im, zm);
-        f = climbed(t, y, f);
-        y += 1;
+    let mut passed: u64 = 0;
+    for y in first..top {
+        passed += flat_row(pen, corners, flanks, y, m);
+        flanks = flanks.raised(corners, y);
     }
-    n
+    passed
 }
 
 // The rows from `first` up to and without `top` of any triangle.
 fn draw_shaded(
-    pen: Pen,
-    constant: bool,
-    plain: bool,
-    t: Corners,
-    d: usize,
+    brush: Brush,
+    facet: Facet,
     flanks: Flanks,
-    first: usize,
-    top: usize,
-    im: &mut [u16],
-    zm: &mut [u16],
+    first: u16,
+    top: u16,
+    m: &mut Memories,
 ) -> u64
-    requires { (plain ≡ is_plain pen (kind_of constant)) × (Sized t d) × (Ranges pen t flanks first top (length im.old) (length zm.old)) }
-    ensures { Draws pen (λ rows. turned_offers pen rows constant t) im zm 0 result }
+    requires { Ranges brush.pen facet.corners flanks first top (length m.old.i.now) (length m.old.z.now) }
+    ensures { Draws brush.pen (λ rows. turned_offers brush.pen rows brush.constant facet.corners) m 0 result }
 {
-    let mut y = first;
-    let mut w = rising_of(t, d, flanks, first);
-    let shades = shades_of(constant, t, d, w.i.right, w.z.right);
-    let mut n: u64 = 0;
-    while y < top {
-        n += draw_row(pen, constant, plain, t, d, shades, w, y as u16, im, zm);
-        w = risen(t, y, w);
-        y += 1;
+    let mut rising = Rising::new(facet, flanks, first);
+    let shades = shades_of(brush.constant, facet, rising);
+    let mut passed: u64 = 0;
+    for y in first..top {
+        passed += draw_row(brush, facet, shades, rising, y, m);
+        rising = rising.raised(facet.corners, y);
     }
-    n
+    passed
 }
 
-// A triangle whose corners turn anticlockwise, the lowest first, with doubled area d.
-fn draw_lowest(
-    pen: Pen,
-    constant: bool,
-    t: Corners,
-    d: usize,
-    im: &mut [u16],
-    zm: &mut [u16],
-) -> u64
-    requires { (Sized t d) × (Lowest t) }
-    ensures { Draws pen (λ rows. turned_offers pen rows constant t) im zm 0 result }
+// A triangle whose corners turn anticlockwise, the lowest first.
+fn draw_lowest(pen: Pen, constant: bool, facet: Facet, m: &mut Memories) -> u64
+    requires { Lowest facet.corners }
+    ensures { Draws pen (λ rows. turned_offers pen rows constant facet.corners) m 0 result }
 {
-    let frame = pen.frame;
-    let rows = rows_of(frame, im.len(), zm.len());
-    let top = end_of(rows, pen.top, t.a.y, t.c.y, t.b.y);
-    let first = least(start_of(pen.bottom, t.a.y, t.c.y, t.b.y), top);
+    let rows = rows_of(pen.frame, m.i.len(), m.z.len());
+    let top = end_of(rows, pen.top, facet.corners) as u16;
+    let first = start_of(pen.bottom, facet.corners).min(top);
+    let flanks = Flanks::new(facet.corners, first);
     let plain = is_plain(pen, kind_of(constant));
-    let flanks = flanks_of(t, first);
-    if constant & plain & !lies_tiled(frame) {
-        return draw_flat(pen, t, flanks, first, top, im, zm);
+    if constant & plain & !lies_tiled(pen.frame) {
+        return draw_flat(pen, facet.corners, flanks, first, top, m);
     }
-    draw_shaded(pen, constant, plain, t, d, flanks, first, top, im, zm)
+    let brush = Brush {
+        pen,
+        constant,
+        plain,
+    };
+    draw_shaded(brush, facet, flanks, first, top, m)
 }
 
-// A triangle whose corners turn anticlockwise, with doubled area d.
-fn draw_turned(
-    pen: Pen,
-    constant: bool,
-    t: Corners,
-    d: usize,
-    im: &mut [u16],
-    zm: &mut [u16],
-) -> u64
-    requires { Sized t d }
-    ensures { Draws pen (λ rows. turned_offers pen rows constant t) im zm 0 result }
+// A triangle whose corners turn anticlockwise.
+fn draw_turned(pen: Pen, constant: bool, facet: Facet, m: &mut Memories) -> u64
+    ensures { Draws pen (λ rows. turned_offers pen rows constant facet.corners) m 0 result }
 {
-    draw_lowest(pen, constant, lowest_first(t), d, im, zm)
+    let lowest = Facet {
+        corners: facet.corners.lowest_first(),
+        area: facet.area,
+    };
+    draw_lowest(pen, constant, lowest, m)
 }
 
 // The corners named so that they turn anticlockwise, by the expression of the first edge at the third corner.
-fn named(a: Vertex, b: Vertex, c: Vertex, e: Edge) -> Corners
-    ensures { result ≡ (if nat_lt e.minus e.plus then corners_of a b c c else corners_of a c b c) }
+fn named(a: Vertex, b: Vertex, c: Vertex, edge: Edge) -> Corners
+    ensures { result ≡ (if nat_lt edge.minus edge.plus then corners_of a b c c else corners_of a c b c) }
 {
-    if e.minus < e.plus {
+    if edge.minus < edge.plus {
         return Corners { a, b, c, last: c };
     }
     Corners {
@@ -369,51 +309,44 @@ fn named(a: Vertex, b: Vertex, c: Vertex, e: Edge) -> Corners
     }
 }
 
-// The corners in the same turn, with the lowest first.
-fn lowest_first(t: Corners) -> Corners
-    ensures { result ≡ lowest_first t }
-{
-    let a = t.a;
-    let b = t.b;
-    let c = t.c;
-    let last = t.last;
-    if (b.y as usize) < least(a.y as usize, c.y as usize) {
-        return Corners {
-            a: b,
-            b: c,
-            c: a,
-            last,
-        };
+impl Corners {
+    // The corners in the same turn, with the lowest first.
+    fn lowest_first(self) -> Corners
+        ensures { result ≡ lowest_first self }
+    {
+        if self.b.y < self.a.y.min(self.c.y) {
+            return Corners {
+                a: self.b,
+                b: self.c,
+                c: self.a,
+                ..self
+            };
+        }
+        if self.c.y < self.a.y {
+            return Corners {
+                a: self.c,
+                b: self.a,
+                c: self.b,
+                ..self
+            };
+        }
+        self
     }
-    if c.y < a.y {
-        return Corners {
-            a: c,
-            b: a,
-            c: b,
-            last,
-        };
-    }
-    t
 }
 
 // The triangle that vertex c completes. Answers how many pixels passed. Both turning senses share the one call of `draw_turned`: so it is
 // compiled in place.
-pub fn triangle(
-    pen: Pen,
-    constant: bool,
-    a: Vertex,
-    b: Vertex,
-    c: Vertex,
-    im: &mut [u16],
-    zm: &mut [u16],
-) -> u64
-    ensures { Draws pen (λ rows. triangle_offers pen rows constant a b c) im zm 0 result }
+pub fn triangle(pen: Pen, constant: bool, a: Vertex, b: Vertex, c: Vertex, m: &mut Memories) -> u64
+    ensures { Draws pen (λ rows. triangle_offers pen rows constant a b c) m 0 result }
 {
-    let e = edge_at(a, b, c.x as usize, c.y as usize);
-    let d = gap(e.plus, e.minus);
-    let t = named(a, b, c, e);
-    if 0 < d {
-        return draw_turned(pen, constant, t, d, im, zm);
+    let edge = edge_at(a, b, c.x, c.y);
+    let area = edge.plus.abs_diff(edge.minus);
+    if 0 < area {
+        let facet = Facet {
+            corners: named(a, b, c, edge),
+            area,
+        };
+        return draw_turned(pen, constant, facet, m);
     }
     0
 }

@@ -5,213 +5,200 @@ ghost use Rattle.std.specs.Prelude.{◌≡◌, ◌+◌, ◌*◌, ◌/◌, ◌<�
 ghost use Rattle.triangle.specs.Edge.{closed};
 ghost use Rattle.triangle.specs.Loops.{short, Measures, Stands, Bounds, raised_of, Crosses, Cuts, CutsAll, Spanned};
 ghost use Rattle.triangle.specs.Loops.{Crossed, turn_of, taken_of, Flanked};
+ghost use Rattle.triangle.specs.Spans.{Finds};
 
-use crate::cover::{edge_at, gap, is_closed};
-use crate::{CARRIED_ONE, Corners, Flanks, Height, MIDDLE, Side, Span};
-use ground::{least, most};
-use picture::{Pen, Vertex};
+use crate::cover::{edge_at, is_closed, over};
+use crate::{Corners, Flanks, HALF, Height, Limits, Side, Span};
+use picture::{CARRIED_ONE, Pen, Vertex};
 
 // What an edge must exceed the other side by.
-fn short_of(a: Vertex, b: Vertex) -> usize
+fn short_of(a: Vertex, b: Vertex) -> u64
     ensures { (result ≡ short (closed a b)) × (result ≤ 1) }
 {
-    if is_closed(a, b) {
-        return 0;
-    }
-    1
+    u64::from(!is_closed(a, b))
 }
 
 // 2^48 over an edge's height, and a little more. An edge without height has no quotient, and its divisor is 1.
-fn inverse(tall: usize) -> usize
+fn inverse(tall: u64) -> u64
     ensures { 0 < tall → (carried_one ≤ result * tall) × (result * tall ≤ carried_one + tall) }
 {
-    CARRIED_ONE / most(tall, 1) + 1
+    CARRIED_ONE / tall.max(1) + 1
 }
 
-// The height of the edge from a to b, with its reciprocal.
-fn height_of(a: Vertex, b: Vertex) -> Height
-    ensures { Measures a b result }
-{
-    let tall = gap(a.y as usize, b.y as usize);
-    let inv = inverse(tall);
-    Height { tall, inv }
-}
-
-// The edge from a to b in row y.
-pub(crate) fn side_of(a: Vertex, b: Vertex, y: usize) -> Side
-    requires { y ≤ 65535 }
-    ensures { Stands a b y result }
-{
-    let e = edge_at(a, b, 0, y);
-    let plus = e.plus;
-    let minus = e.minus + short_of(a, b);
-    let height = height_of(a, b);
-    if b.y < a.y {
-        let at = std::num::wrapping_sub_usize(minus + height.tall, plus + 1);
-        let step = std::num::wrapping_sub_usize(a.x as usize, b.x as usize);
-        return Side { at, step, height };
-    }
-    let at = std::num::wrapping_sub_usize(plus + height.tall, minus);
-    let step = std::num::wrapping_sub_usize(b.x as usize, a.x as usize);
-    Side { at, step, height }
-}
-
-// The same edge a row on.
-fn raised(s: Side) -> Side
-    ensures { result ≡ raised_of s }
-{
-    let height = s.height;
-    Side {
-        at: std::num::wrapping_add_usize(s.at, s.step),
-        step: s.step,
-        height,
+impl Height {
+    // The height of the edge from a to b, with its reciprocal.
+    fn new(a: Vertex, b: Vertex) -> Height
+        ensures { Measures a b result }
+    {
+        let tall = a.y.abs_diff(b.y) as u64;
+        Height {
+            tall,
+            inverse: inverse(tall),
+        }
     }
 }
 
-// The first column that an edge keeps of row y, where it bounds from the left, and one past the last, where it bounds from the right. No picture has
-// columns from 65,536 on. A number above `MIDDLE` stands for one below 0: none that is not below 0 is so large.
-fn bound(a: Vertex, b: Vertex, y: usize, s: Side) -> usize
-    requires { (y ≤ 65535) × (Stands a b y s) }
-    ensures { Bounds a b y result }
-{
-    if s.at < 65536 * s.height.tall {
-        return s.at * s.height.inv / CARRIED_ONE;
+impl Side {
+    // The edge from a to b in row y.
+    fn new(a: Vertex, b: Vertex, y: u16) -> Side
+        ensures { Stands a b y result }
+    {
+        let edge = edge_at(a, b, 0, y);
+        let minus = edge.minus + short_of(a, b);
+        let height = Height::new(a, b);
+        if b.y < a.y {
+            return Side {
+                at: (minus + height.tall).wrapping_sub(edge.plus + 1),
+                step: over(a.x, b.x),
+                height,
+            };
+        }
+        Side {
+            at: (edge.plus + height.tall).wrapping_sub(minus),
+            step: over(b.x, a.x),
+            height,
+        }
     }
-    if MIDDLE < s.at {
-        return 0;
+
+    // The same edge a row on.
+    fn raised(self) -> Side
+        ensures { result ≡ raised_of self }
+    {
+        Side {
+            at: self.at.wrapping_add(self.step),
+            ..self
+        }
     }
-    65536
+
+    // The column at which an edge bounds a row between its ends.
+    fn crossing(self) -> u64
+        requires { Crosses self }
+        ensures { result ≡ self.at / self.height.tall }
+    {
+        self.at * self.height.inverse / CARRIED_ONE
+    }
+
+    // The first column that the edge from a to b keeps of row y, where it bounds from the left, and one past the last, where it bounds from the right. No
+    // picture has columns from 65,536 on. A number from `HALF` on stands for one below 0.
+    fn bound(self, a: Vertex, b: Vertex, y: u16) -> u64
+        requires { Stands a b y self }
+        ensures { Bounds a b y result }
+    {
+        if self.at < 65536 * self.height.tall {
+            return self.crossing();
+        }
+        if HALF <= self.at {
+            return 0;
+        }
+        65536
+    }
+
+    // What the edge from a to b keeps of columns of row y.
+    fn cut(self, a: Vertex, b: Vertex, y: u16, columns: Limits) -> Limits
+        requires { (Stands a b y self) × (columns.hi ≤ 65536) }
+        ensures { Cuts a b y columns result }
+    {
+        let limit = self.bound(a, b, y);
+        if b.y < a.y {
+            return Limits {
+                lo: columns.lo.max(limit),
+                ..columns
+            };
+        }
+        Limits {
+            hi: columns.hi.min(limit),
+            ..columns
+        }
+    }
 }
 
-// The column at which an edge bounds a row between its ends.
-fn crossing(s: Side) -> usize
-    requires { Crosses s }
-    ensures { result ≡ s.at / s.height.tall }
-{
-    s.at * s.height.inv / CARRIED_ONE
-}
-
-// What the edge from a to b keeps of the columns k of row y.
-fn cut(a: Vertex, b: Vertex, y: usize, s: Side, k: Span) -> Span
-    requires { (y ≤ 65535) × (Stands a b y s) × (k.hi ≤ 65536) }
-    ensures { Cuts a b y k result }
-{
-    let limit = bound(a, b, y, s);
-    if b.y < a.y {
-        return Span {
-            lo: most(k.lo, limit),
-            hi: k.hi,
+impl Flanks {
+    // The edges that bound row y. One that has ended has given its place to the third.
+    pub(crate) fn new(corners: Corners, y: u16) -> Flanks
+        ensures { Flanked corners y result }
+    {
+        let turn = corners.b.y.min(corners.c.y);
+        let flanks = Flanks {
+            left: Side::new(corners.c, corners.a, y),
+            right: Side::new(corners.a, corners.b, y),
+            third: Side::new(corners.b, corners.c, y.max(turn)),
+            turn,
         };
+        if turn < y {
+            return flanks.taken(corners);
+        }
+        flanks
     }
-    Span {
-        lo: k.lo,
-        hi: least(k.hi, limit),
-    }
-}
 
-// The third edge in the place of the one that ends: where it falls it bounds from the left.
-fn taken(t: Corners, f: Flanks) -> Flanks
-    ensures { result ≡ taken_of t f }
-{
-    let left = f.left;
-    let right = f.right;
-    let third = f.third;
-    if t.c.y < t.b.y {
-        return Flanks {
-            left: third,
-            right,
-            third,
-            turn: f.turn,
+    // The third edge in the place of the one that ends: where it falls it bounds from the left.
+    fn taken(self, corners: Corners) -> Flanks
+        ensures { result ≡ taken_of corners self }
+    {
+        if corners.c.y < corners.b.y {
+            return Flanks {
+                left: self.third,
+                ..self
+            };
+        }
+        Flanks {
+            right: self.third,
+            ..self
+        }
+    }
+
+    // The edges that bound the row above row y. All three meet row `turn`, and above it the third has the place of the one that ends there.
+    pub(crate) fn raised(self, corners: Corners, y: u16) -> Flanks
+        requires { Flanked corners y self }
+        ensures { Flanked corners (y + 1) result }
+    {
+        let flanks = if y == self.turn {
+            self.taken(corners)
+        } else {
+            self
         };
+        Flanks {
+            left: flanks.left.raised(),
+            right: flanks.right.raised(),
+            ..flanks
+        }
     }
-    Flanks {
-        left,
-        right: third,
-        third,
-        turn: f.turn,
-    }
-}
 
-// The edges that bound row y. One that has ended has given its place to the third.
-pub(crate) fn flanks_of(t: Corners, y: usize) -> Flanks
-    requires { y ≤ 65535 }
-    ensures { Flanked t y result }
-{
-    let a = t.a;
-    let b = t.b;
-    let c = t.c;
-    let turn = least(b.y as usize, c.y as usize);
-    let left = side_of(c, a, y);
-    let right = side_of(a, b, y);
-    let third = side_of(b, c, most(y, turn));
-    let f = Flanks {
-        left,
-        right,
-        third,
-        turn,
-    };
-    if turn < y {
-        return taken(t, f);
+    // What all three edges keep of columns of row y.
+    fn cut_thrice(self, corners: Corners, y: u16, columns: Limits) -> Limits
+        requires { (Flanked corners y self) × (y ≡ turn_of corners) × (columns.hi ≤ 65536) }
+        ensures { CutsAll corners y columns result }
+    {
+        let first = self.left.cut(corners.c, corners.a, y, columns);
+        let second = self.right.cut(corners.a, corners.b, y, first);
+        self.third.cut(corners.b, corners.c, y, second)
     }
-    f
-}
 
-// The edges that bound the row above row y. All three meet row `turn`, and above it the third has the place of the one that ends there.
-pub(crate) fn climbed(t: Corners, y: usize, f: Flanks) -> Flanks
-    requires { (y ≤ 65535) × (Flanked t y f) }
-    ensures { Flanked t (y + 1) result }
-{
-    let mut g = f;
-    if y == f.turn {
-        g = taken(t, f);
+    // Where the covered columns of row y within the window and the memory begin and end. Of a row in which no edge ends two edges tell it: the third leaves nothing
+    // outside that both keep.
+    fn limits(self, pen: Pen, corners: Corners, y: u16) -> Limits
+        requires { (Crossed corners y) × (Flanked corners y self) }
+        ensures { Spanned pen corners y result.lo result.hi }
+    {
+        let lo = pen.left as u64;
+        let hi = (pen.frame.line as u64).min(pen.right as u64 + 1);
+        if y == self.turn {
+            return self.cut_thrice(corners, y, Limits { lo, hi });
+        }
+        Limits {
+            lo: lo.max(self.left.crossing()),
+            hi: hi.min(self.right.crossing()),
+        }
     }
-    let lower_left = g.left;
-    let lower_right = g.right;
-    let third = g.third;
-    let left = raised(lower_left);
-    let right = raised(lower_right);
-    Flanks {
-        left,
-        right,
-        third,
-        turn: g.turn,
-    }
-}
 
-// What all three edges keep of the columns k of row y.
-fn cut_thrice(t: Corners, f: Flanks, y: usize, k: Span) -> Span
-    requires { (y ≤ 65535) × (Flanked t y f) × (y ≡ turn_of t) × (k.hi ≤ 65536) }
-    ensures { CutsAll t y k result }
-{
-    let a = t.a;
-    let b = t.b;
-    let c = t.c;
-    let left = f.left;
-    let right = f.right;
-    let third = f.third;
-    let first = cut(c, a, y, left, k);
-    let second = cut(a, b, y, right, first);
-    cut(b, c, y, third, second)
-}
-
-// The covered columns of row y within the window and the memory. Of a row in which no edge ends two edges tell them: the third leaves nothing outside that both
-// keep.
-pub(crate) fn spanned(pen: Pen, t: Corners, f: Flanks, y: u16) -> Span
-    requires { (Crossed t y) × (Flanked t y f) }
-    ensures { Spanned pen t y result }
-{
-    let hi = least(pen.frame.line as usize, pen.right as usize + 1);
-    let all = Span {
-        lo: pen.left as usize,
-        hi,
-    };
-    if y as usize == f.turn {
-        return cut_thrice(t, f, y as usize, all);
-    }
-    let left = f.left;
-    let right = f.right;
-    Span {
-        lo: most(all.lo, crossing(left)),
-        hi: least(hi, crossing(right)),
+    // The covered columns of row y within the window and the memory, or none.
+    pub(crate) fn spanned(self, pen: Pen, corners: Corners, y: u16) -> Option<Span>
+        requires { (Crossed corners y) × (Flanked corners y self) }
+        ensures { Finds pen corners y result }
+    {
+        let Limits { lo, hi } = self.limits(pen, corners, y);
+        if lo < hi {
+            return Some(Span { lo, hi });
+        }
+        None
     }
 }

@@ -11,13 +11,13 @@ mod streams;
 mod text;
 mod word;
 
-use console::say::fail;
+use console::say::tell;
 use std::io;
 use std::rt::Files;
 
 // All of these.
-fn rows(rt: &(impl Files + Print), stderr: &impl Print) -> io::Result<()> {
-    streams::run_all(rt, stderr)?;
+fn rows(rt: &(impl Files + Print + Eprint)) -> io::Result<()> {
+    streams::run_all(rt)?;
     word::rows(rt)?;
     bounds::rows(rt)?;
     reads::rows(rt)?;
@@ -25,10 +25,5 @@ fn rows(rt: &(impl Files + Print), stderr: &impl Print) -> io::Result<()> {
 }
 
 fn main(rt: HostRuntime) {
-    let stderr = rt.stderr();
-    let done = rows(&rt, &stderr);
-    match done {
-        Ok(()) => {}
-        Err(error) => fail(&stderr, b"vectors: standard output", error),
-    }
+    tell(&rt, "vectors: standard output", rows(&rt));
 }

@@ -1,27 +1,31 @@
 // What is printed of a call and of a text, on standard output.
+use ground::{Refusal, number_of};
 use std::io;
 
-// Prints the line of a call that lends memories or an output: the number that it gave, what it counted, and whether all that was lent is
+// Whether all items of what was lent are as they were.
+pub(crate) fn is_all<T: Copy + PartialEq>(items: &[T], item: T) -> bool {
+    items.iter().all(|other| *other == item)
+}
+
+// Prints the line of a call that lends memories or an output: the number that refuses it, what it counted, and whether all that was lent is
 // as it was.
 pub(crate) fn print_call(
-    stdout: &impl Print,
-    name: &[u8],
-    refusal: u64,
+    rt: &impl Print,
+    name: &str,
+    answer: Result<u64, Refusal>,
+    kept: bool,
+) -> io::Result<()> {
+    print_counted(rt, name, number_of(answer), answer.unwrap_or(0), kept)
+}
+
+// The same of a call that counts, refused or not.
+pub(crate) fn print_counted(
+    rt: &impl Print,
+    name: &str,
+    number: u64,
     count: u64,
     kept: bool,
 ) -> io::Result<()> {
-    stdout.write_all(name)?;
-    stdout.write_all(b": ")?;
-    stdout.print(refusal)?;
-    stdout.write_all(b", counts ")?;
-    stdout.print(count)?;
-    if kept {
-        return stdout.write_all(b", all as it was\n");
-    }
-    stdout.write_all(b", changed\n")
-}
-
-// Prints a number as 16 hexadecimal digits.
-pub(crate) fn print_hex(stdout: &impl Print, n: u64) -> io::Result<()> {
-    print!(stdout; "{n:016x}")
+    let lent = if kept { "all as it was" } else { "changed" };
+    println!(rt; "{name}: {number}, counts {count}, {lent}")
 }

@@ -11,11 +11,3 @@ slice_bounds-write_packed-end g c =
 pub slice_bounds-write_packed-end-in-Words : goal.slice_bounds-write_packed-end-in-Words
 slice_bounds-write_packed-end-in-Words g c =
     sym (length-take-le _ _ (held_fits _ _ _ _ _ c.read-end.ensures c.requires))
-
-pub slice_bounds-write_packed-end-in-Remark : goal.slice_bounds-write_packed-end-in-Remark
-slice_bounds-write_packed-end-in-Remark g c =
-    held_fits _ _ _ _ _ c.read-end.ensures c.requires
-
-pub slice_bounds-write_packed-end-in-Remark-2 : goal.slice_bounds-write_packed-end-in-Remark-2
-slice_bounds-write_packed-end-in-Remark-2 g c =
-    sym (length-take-le _ _ (held_fits _ _ _ _ _ c.read-end.ensures c.requires))

@@ -7,8 +7,8 @@ use Rattle.assemble.proofs.write_packed.Goals as goal
 
 pub slice_bounds-out-end : goal.slice_bounds-out-end
 slice_bounds-out-end g c =
-    omega (arith, packed_fits _ _ c.pack-answer.ensures c.in-Done.is, c.pack-answer.auto.out)
+    omega (arith, packed_fits _ _ c.pack.ensures c.in-Ok.is, c.pack.auto.out)
 
 pub slice_bounds-write_all-end : goal.slice_bounds-write_all-end
 slice_bounds-write_all-end g c =
-    sym (length-take-le _ _ (omega (arith, packed_fits _ _ c.pack-answer.ensures c.in-Done.is, c.pack-answer.auto.out)))
+    sym (length-take-le _ _ (omega (arith, packed_fits _ _ c.pack.ensures c.in-Ok.is, c.pack.auto.out)))

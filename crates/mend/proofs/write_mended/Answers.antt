@@ -6,7 +6,7 @@ use Rattle.mend.proofs.write_mended.Goals as goal
 
 pub repair-told-requires : goal.repair-told-requires
 repair-told-requires g c =
-    enough_room _ _ _ _ c.requires c.recording-out.ensures.long c.index_room-indices.ensures.long c.number_room-numbers.ensures.long
+    enough_room _ _ _ _ c.requires c.recording-out.ensures.long c.room-indices.ensures.long c.room-numbers.ensures.long
 
 pub slice_bounds-out-end : goal.slice_bounds-out-end
 slice_bounds-out-end g c = size_fits c.repair-told.ensures
@@ -23,21 +23,13 @@ pub slice_bounds-numbers-end : goal.slice_bounds-numbers-end
 slice_bounds-numbers-end g c =
     numbers_fit c.repair-told.ensures
 
-pub slice_bounds-say_list-end-2 : goal.slice_bounds-say_list-end-2
-slice_bounds-say_list-end-2 g c =
+pub slice_bounds-say_list-end-then-not-whole : goal.slice_bounds-say_list-end-then-not-whole
+slice_bounds-say_list-end-then-not-whole g c =
     sym (length-take-le _ _ (numbers_fit c.repair-told.ensures))
 
 pub say_list-requires-clause-low : goal.say_list-requires-clause-low
 say_list-requires-clause-low g c = listed_low c.repair-told.ensures c.requires
 
-pub slice_bounds-out-end-2 : goal.slice_bounds-out-end-2
-slice_bounds-out-end-2 g c =
-    size_fits c.repair-told.ensures
-
-pub slice_bounds-held-end : goal.slice_bounds-held-end
-slice_bounds-held-end g c =
-    sym (length-take-le _ _ (size_fits c.repair-told.ensures))
-
-pub slice_bounds-write-end-2 : goal.slice_bounds-write-end-2
-slice_bounds-write-end-2 g c =
+pub slice_bounds-stream-end : goal.slice_bounds-stream-end
+slice_bounds-stream-end g c =
     sym (length-take-le _ _ (size_fits c.repair-told.ensures))

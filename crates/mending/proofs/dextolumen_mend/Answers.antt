@@ -37,4 +37,4 @@ pub returns : goal.returns
 returns c =
     mend_done _ _ _ _ _ c.if-im-zm.false c.kept-count.ensures
     c.held.ensures c.if-out-size.false
-    c.sort.ensures c.run.ensures c.cut_bits-cut.ensures c.half_cleared-cleared.ensures
+    c.sort.ensures c.run.ensures c.cut_bits.ensures c.half_cleared.ensures

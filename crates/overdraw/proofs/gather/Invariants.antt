@@ -1,14 +1,11 @@
--- `gather` meets its contract. The invariant of its loop: whatever the report had come through when the loop began, it has come through that and what was
--- read since. The measure is the number of files left. Assumes nothing.
-use mathlib.Core.Path.{◌≡◌}
-use mathlib.Core.List.{List}
-use Prim.Native.Nat.{ℕ, ◌-◌}
-use lib.ListN.{length}
+-- `gather` meets its contract. The invariant of its loop: the report has come through what was read. The measure is the number of files left. Assumes
+-- nothing.
+use Rattle.std.proofs.Common.{◌-◌}
 use Rattle.overdraw.specs.Report.{Come}
 use Rattle.overdraw.proofs.gather.Given as goal
 
-abbrev pub invariant-loop-r : goal.invariant-loop-r
-invariant-loop-r g l = (length l.bytes ≡ 8193) × ((old : List ℕ) → Come old l.initial.out l.initial.r → Come old l.out l.r)
+abbrev pub invariant-loop-reached : goal.invariant-loop-reached
+invariant-loop-reached g l = Come l.fn.page l.page l.reached
 
-abbrev pub decreases-loop-r : goal.decreases-loop-r
-decreases-loop-r g l = 1000 - l.r.files
+abbrev pub decreases-loop-reached : goal.decreases-loop-reached
+decreases-loop-reached g l = 1000 - l.reached.files

@@ -4,4 +4,4 @@ use Rattle.printing.proofs.put_text.Goals as goal
 
 pub returns : goal.returns
 unfolding text_of
-returns c = c.put_report.ensures
+returns c = rw c.number_of.ensures at c.put_report.ensures

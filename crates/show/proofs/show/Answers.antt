@@ -3,6 +3,6 @@ use borrow.Author.Rules.{rules}
 use Rattle.show.proofs.Pages.{first_fresh}
 use Rattle.show.proofs.show.Goals as goal
 
-pub write_drawn-requires : goal.write_drawn-requires
-write_drawn-requires g c =
-    first_fresh c.args.wanted.places (search rules) c.blank-im.ensures c.blank-zm.ensures
+pub write_drawn-written-requires : goal.write_drawn-written-requires
+write_drawn-written-requires g c =
+    first_fresh c.room-room.result (search rules) c.blank-im.ensures c.blank-zm.ensures

@@ -1,18 +1,15 @@
 -- `run::run_from` meets its contract: 11, 12, 2, and then the words. Assumes nothing.
-use Rattle.std.proofs.Common.{not, ap}
+use Rattle.std.proofs.Common.{not, ap, refl, arith}
+use Rattle.ground.proofs.Numbers.{number_positive}
 use Rattle.board.proofs.Turns.{from_flawed, from_unlike, from_like}
 use Rattle.board.proofs.run.run_from.Goals as goal
 
-pub returns-then-number-ne0 : goal.returns-then-number-ne0
-returns-then-number-ne0 c = from_flawed _ _ _ c.flaw-number.ensures c.stopped.ensures c.if-number-ne0.true
+pub returns-in-Err : goal.returns-in-Err
+returns-in-Err c = from_flawed _ _ _ c.in-Err.ensures c.stopped.ensures (λ z. omega (arith, number_positive c.in-Err.refusal, z))
 
-pub returns-then-not-even : goal.returns-then-not-even
-returns-then-not-even c =
-    from_unlike _ _ _ c.flaw-number.ensures c.if-number-ne0.false c.is_even-even.ensures c.stopped-then-not-even.ensures
-    (ap not c.if-not-even.true)
+pub returns-then-not-is_even : goal.returns-then-not-is_even
+returns-then-not-is_even c =
+    from_unlike _ _ _ c.in_default.ensures refl c.is_even.ensures c.stopped-then-not-is_even.ensures (ap not c.if-not-is_even.true)
 
 pub returns : goal.returns
-returns c =
-    from_like _ _ _
-    c.flaw-number.ensures c.if-number-ne0.false c.is_even-even.ensures
-    c.run_words.ensures (ap not c.if-not-even.false)
+returns c = from_like _ _ _ c.in_default.ensures refl c.is_even.ensures c.run_words.ensures (ap not c.if-not-is_even.false)

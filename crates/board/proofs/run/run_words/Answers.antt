@@ -1,22 +1,27 @@
--- `run::run_words` meets its contract. Its loop keeps that the whole run is the run of the words that are left, from where k words came to. Assumes nothing.
-use Rattle.std.proofs.Common.{arith}
+-- `run::run_words` meets its contract. Assumes nothing.
+use Rattle.std.proofs.Common.{◌≡◌, refl, arith}
+use Rattle.ground.proofs.Numbers.{number_positive}
 use Rattle.board.proofs.Lengths.{as_long_more}
-use Rattle.board.proofs.Turns.{reached_more, reached_halt}
+use Rattle.board.proofs.Turns.{reached_more, reached_halt, reached_end}
 use Rattle.board.proofs.run.run_words.Goals as goal
 
-pub returns-then-a-ne0 : goal.returns-then-a-ne0
-returns-then-a-ne0 c =
+pub returns-in-Err : goal.returns-in-Err
+returns-in-Err c =
     let going = c.loop-k.invariant in
-    reached_halt _ _ _ going.so_far_lem (rw going.all at c.loop-k-test.true) c.step_at-a.ensures c.if-a-ne0.true
+    rw c.into.ensures
+    (reached_halt _ _ _ going.so_far_lem (rw c.held-count.ensures at c.loop-k-test.true) c.in-Err.ensures (λ z. omega (arith, number_positive c.in-Err.refusal, z)))
 
 pub loop-k-preserved : goal.loop-k-preserved
 loop-k-preserved c =
     let going = c.loop-k.invariant in
-    let left = rw going.all at c.loop-k-test.true in
-    let s = c.step_at-a.auto in
+    let s = c.step_at.auto in
     record {
-      until = omega (arith, c.loop-k-test.true);
-      all = going.all;
       long = as_long_more going.long (s.i0, (s.z0, (s.i1, (s.z1, (s.i2, (s.z2, (s.i3, (s.z3, tt {0}))))))));
-      so_far_lem = rw c.wrapping_add_u64-sum.ensures.value (reached_more _ _ _ going.so_far_lem left c.step_at-a.ensures c.if-a-ne0.false);
+      so_far_lem = reached_more _ _ _ going.so_far_lem (rw c.held-count.ensures at c.loop-k-test.true) c.in-Ok.ensures refl;
     }
+
+pub returns : goal.returns
+returns c =
+    let going = c.loop-k.invariant in
+    let all : c.loop-k.k ≡ c.held-count.result = omega arith in
+    rw (← all) (reached_end _ _ _ going.so_far_lem (rw c.held-count.ensures at c.loop-k-test.false))

@@ -6,5 +6,4 @@ pub returns-then-units-u : goal.returns-then-units-u
 returns-then-units-u c = part_absent _ _ _ _ _ c.if-units-u.true
 
 pub returns : goal.returns
-returns c =
-    part_present _ _ _ _ _ c.if-units-u.false c.layout_of-layout.ensures c.in_layout-mine.ensures c.step.ensures
+returns c = rw (← c.layout_of.ensures, ← c.in_layout-mine.ensures) (part_present _ _ _ _ _ c.if-units-u.false c.layout_of.ensures c.in_layout-mine.ensures c.step.ensures)

@@ -1,13 +1,14 @@
 -- `draw::draw` meets its contract: a cut figure offers nothing, and any other is drawn whole. Assumes nothing.
+use Rattle.std.proofs.Common.{refl}
 use Rattle.chip.proofs.Figures.{cut_drawn, uncut_drawn}
 use Rattle.chip.proofs.draw.draw.Goals as goal
 
 pub returns-then-is_cut : goal.returns-then-is_cut
 returns-then-is_cut c =
     let a = c.args in
-    cut_drawn a.r a.im.now a.zm.now a.figure c.is_cut.ensures c.if-is_cut.true
+    ((refl, refl), cut_drawn a.r a.m.now.i.now a.m.now.z.now a.figure c.is_cut.ensures c.if-is_cut.true)
 
 pub returns : goal.returns
 returns c =
     let a = c.args in
-    uncut_drawn a.r a.im.now a.zm.now a.figure c.is_cut.ensures c.if-is_cut.false c.draw_whole.ensures
+    (c.draw_whole.ensures.0, uncut_drawn a.r a.m.now.i.now a.m.now.z.now a.figure c.is_cut.ensures c.if-is_cut.false c.draw_whole.ensures.1)

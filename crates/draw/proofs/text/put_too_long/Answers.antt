@@ -1,12 +1,9 @@
--- `text::put_too_long` meets its contract: nine bytes, stored one behind the other. Assumes nothing.
+-- `text::put_too_long` meets its contract: nine bytes, copied to the front. Assumes nothing.
 use mathlib.Core.Path.{refl}
-use native.Mathlib.Omega.{arith}
-use lib.Seq.{sets-eq}
 use Rattle.stream.specs.Calls.{over}
 use Rattle.report.proofs.Calls.{stands}
-use Rattle.draw.specs.Draw.{too_long}
 use Rattle.draw.proofs.text.put_too_long.Goals as goal
 
 pub returns : goal.returns
 unfolding over
-returns c = stands refl (sets-eq too_long c.args.out.now 0 (omega arith))
+returns c = stands refl (rw c.copy_from_slice.ensures.after)

@@ -3,25 +3,29 @@
 use Rattle.std.proofs.Common.{refl, ap, ◌∙◌, arith}
 use Rattle.line.specs.Segment.{first_of, segment_offers}
 use Rattle.line.specs.Ink.{joined_in}
+use Rattle.line.proofs.Steps.{slope_is}
 use Rattle.line.proofs.Loops.{first_low, walked_start, walked_reaches, walked_rows, walked_step, walked_end, before_first}
 use Rattle.line.proofs.anywhere.drawn_anywhere.Goals as goal
 
-pub loop-p-init : goal.loop-p-init
-loop-p-init c =
-    let a = c.args in
-    walked_start (before_first a.pen _ a.style a.a a.b a.style.mode) (first_low (joined_in a.style a.style.mode)) c.slope_of-s.ensures refl
-    (omega (arith, c.struct_known-1.given)) (rw c.is_deep.ensures at c.walk_of-w.ensures) (c.begin-p.ensures.0, c.begin-p.ensures.1 ∙ ap first_of c.is_joined.ensures)
+pub loop-step-init : goal.loop-step-init
+loop-step-init c =
+    let a = c.args in (
+      (refl, refl),
+      walked_start (before_first a.pen _ a.style a.slope.a a.slope.b a.style.mode) (first_low (joined_in a.style a.style.mode)) (slope_is a.slope) refl
+          (omega (arith, c.well_formed)) (rw c.is_deep.ensures at c.walk_of-walk.ensures) (c.begin-step.ensures.0, c.begin-step.ensures.1 ∙ ap first_of c.is_joined.ensures),
+    )
 
 pub put_step-passed-requires : goal.put_step-passed-requires
 put_step-passed-requires c =
-    let h = c.loop-p.invariant in
-    (rw c.kind_of-kind.ensures (walked_reaches h refl (omega (arith, c.loop-p-test.true))), c.kind_of-kind.ensures, rw (c.kind_of-kind.ensures, walked_rows h) c.field_of-field.ensures)
+    let h = c.loop-step.invariant.1 in
+    (walked_reaches h refl (omega (arith, c.loop-step-test.true)), rw (walked_rows h) c.direct_rows-direct.ensures)
 
-pub loop-p-preserved : goal.loop-p-preserved
-loop-p-preserved c =
+pub loop-step-preserved : goal.loop-step-preserved
+loop-step-preserved c =
     let d = c.put_step-passed.ensures in
-    walked_step c.loop-p.invariant (omega (arith, c.loop-p-test.true)) d.0 d.1 c.next-p.ensures
+    let h = c.loop-step.invariant in
+    ((d.0.0.0 ∙ h.0.0, d.0.0.1 ∙ h.0.1), walked_step h.1 (omega (arith, c.loop-step-test.true)) d.0.1 d.1 c.next-step.ensures)
 
 pub returns : goal.returns
 unfolding segment_offers
-returns c = walked_end c.loop-p.invariant (omega (arith, c.loop-p-test.false))
+returns c = let h = c.loop-step.invariant in (h.0, walked_end h.1 (omega (arith, c.loop-step-test.false)))

@@ -4,4 +4,4 @@ use Rattle.line.proofs.field.is_within.Goals as goal
 
 pub returns : goal.returns
 unfolding in_field
-returns c = rw c.is_in_window-window.ensures
+returns c = rw c.is_in_window.ensures

@@ -6,13 +6,13 @@ use Rattle.line.proofs.route.far_of.Goals as goal
 
 pub returns-then-part-eq1 : goal.returns-then-part-eq1
 unfolding far_of
-returns-then-part-eq1 c = rw (c.if-s.true, eq-eqb _ _ c.if-part-eq1.true, c.twice-second.ensures)
+returns-then-part-eq1 c = rw (c.if-slope.true, eq-eqb _ _ c.if-part-eq1.true, c.twice-second.ensures)
 
-pub returns-then-s : goal.returns-then-s
+pub returns-then-slope : goal.returns-then-slope
 unfolding far_of
-returns-then-s c =
-    rw (c.if-s.true, ne_eqb _ _ c.if-part-eq1.false) (c.twice.ensures ∙ ap twice_of c.twice-second.ensures)
+returns-then-slope c =
+    rw (c.if-slope.true, ne_eqb _ _ c.if-part-eq1.false) (c.twice.ensures ∙ ap twice_of c.twice-second.ensures)
 
 pub returns : goal.returns
 unfolding far_of
-returns c = rw c.if-s.false
+returns c = rw c.if-slope.false

@@ -1,25 +1,19 @@
 -- `route::way_of` meets its contract. Assumes nothing.
-use Rattle.std.proofs.Common.{◌≡◌, true, false, eq-eqb, ne_eqb}
-use Rattle.picture.specs.Place.{lies_tiled}
 use Rattle.line.specs.Route.{lies_of, way_of}
 use Rattle.line.proofs.route.way_of.Goals as goal
 
+pub returns-then-not-inside : goal.returns-then-not-inside
+unfolding way_of
+returns-then-not-inside c = rw c.if-not-inside.true
+
 pub returns-then-lies_plain : goal.returns-then-lies_plain
 unfolding way_of lies_of
-returns-then-lies_plain c = rw (c.if-inside.true, ← c.lies_plain.ensures, c.if-lies_plain.true)
+returns-then-lies_plain c = rw (c.if-not-inside.false, ← c.lies_plain.ensures, c.if-lies_plain.true)
 
-pub returns-then-frame-eq-TILED : goal.returns-then-frame-eq-TILED
+pub returns-then-lies_tiled : goal.returns-then-lies_tiled
 unfolding way_of lies_of
-returns-then-frame-eq-TILED c =
-    let t : lies_tiled c.args.frame ≡ true = eq-eqb _ _ c.if-frame-eq-TILED.true in
-    rw (c.if-inside.true, ← c.lies_plain.ensures, c.if-lies_plain.false, t)
+returns-then-lies_tiled c = rw (c.if-not-inside.false, ← c.lies_plain.ensures, c.if-lies_plain.false, ← c.lies_tiled.ensures, c.if-lies_tiled.true)
 
-pub returns-then-inside : goal.returns-then-inside
+pub returns-else-lies_tiled : goal.returns-else-lies_tiled
 unfolding way_of lies_of
-returns-then-inside c =
-    let t : lies_tiled c.args.frame ≡ false = ne_eqb _ _ c.if-frame-eq-TILED.false in
-    rw (c.if-inside.true, ← c.lies_plain.ensures, c.if-lies_plain.false, t)
-
-pub returns : goal.returns
-unfolding way_of
-returns c = rw c.if-inside.false
+returns-else-lies_tiled c = rw (c.if-not-inside.false, ← c.lies_plain.ensures, c.if-lies_plain.false, ← c.lies_tiled.ensures, c.if-lies_tiled.false)

@@ -9,43 +9,47 @@ use Rattle.line.proofs.Loops.{first_low, walked_start, walked_on, walked_reaches
 use Rattle.line.proofs.Routes.{far_few, goes_on}
 use Rattle.line.proofs.trace.trace.Goals as goal
 
-pub loop-p-init : goal.loop-p-init
-loop-p-init c = let a = c.args in
-    walked_start (before_first a.pen _ a.style a.a a.b a.style.mode) (first_low (joined_in a.style a.style.mode)) c.requires.0.route.sloped refl
-    (omega (arith, c.struct_known-1.given)) c.requires.0.route.carries c.requires.1
+pub loop-step-init : goal.loop-step-init
+loop-step-init g c =
+    let a = c.args in
+    let s = a.route.slope in
+    walked_start (before_first a.pen _ a.style s.a s.b a.style.mode) (first_low (joined_in a.style a.style.mode)) c.requires.0.route.sloped refl
+    (omega (arith, c.well_formed)) c.requires.0.route.carries c.requires.1
 
 pub spot_of-at-requires : goal.spot_of-at-requires
-spot_of-at-requires c =
-    (c.requires.0.route.placed, walked_on c.loop-p.invariant (omega (arith, c.loop-p-test.true)))
+spot_of-at-requires g c =
+    (c.requires.0.route.placed, walked_on c.loop-step.invariant (omega (arith, c.loop-step-test.true)))
 
 pub put_spot-passed-requires : goal.put_spot-passed-requires
-put_spot-passed-requires c =
-    (rw (walked_rows c.loop-p.invariant) c.requires.0, walked_reaches c.loop-p.invariant refl (omega (arith, c.loop-p-test.true)))
+put_spot-passed-requires g c =
+    (rw (walked_rows c.loop-step.invariant) c.requires.0, walked_reaches c.loop-step.invariant refl (omega (arith, c.loop-step-test.true)))
 
-pub onward-p-requires : goal.onward-p-requires
-onward-p-requires c =
-    let r = c.args.r in
+pub onward-step-requires : goal.onward-step-requires
+onward-step-requires g c =
+    let r = c.args.route in
     let o = c.requires.0.route in
     let far = (far_few r.near o.carries.single r.part r.slope).1 in
-    (omega (arith, c.loop-p.invariant.small, c.loop-p-test.true), omega (arith, o.carries.single), omega (arith, ap (λ (w : Walk). w.stride) o.further, far))
+    (omega (arith, c.loop-step.invariant.small, c.loop-step-test.true), omega (arith, o.carries.single), omega (arith, ap (λ (w : Walk). w.stride) o.further, far))
 
-pub loop-p-smaller : goal.loop-p-smaller
-loop-p-smaller c =
+pub loop-step-smaller : goal.loop-step-smaller
+loop-step-smaller g c =
     let a = c.args in
-    let h = c.loop-p.invariant in
-    let g = goes_on a.pen (length a.im.now) (length a.zm.now) a.style a.deep a.backing a.way a.r a.a a.b c.requires.0 h.stands (walked_on h (omega (arith, c.loop-p-test.true))).on
-    (c.onward-p.ensures ∙ ap (λ (at : ℕ). onward_of a.way a.r at c.loop-p.p) c.spot_of-at.ensures) in
-    omega (arith, g.further, c.loop-p-test.true)
+    let s = a.route.slope in
+    let h = c.loop-step.invariant in
+    let n = goes_on a.pen (length a.im.now) (length a.zm.now) a.style _ _ a.route c.requires.0 h.stands (walked_on h (omega (arith, c.loop-step-test.true))).on
+    (rw c.WAY.ensures at c.onward-step.ensures ∙ ap (λ (at : ℕ). onward_of g.P.Path.WAY a.route at c.loop-step.step) c.spot_of-at.ensures) in
+    omega (arith, n.further, c.loop-step-test.true)
 
-pub loop-p-preserved : goal.loop-p-preserved
-loop-p-preserved c =
+pub loop-step-preserved : goal.loop-step-preserved
+loop-step-preserved g c =
     let a = c.args in
-    let h = c.loop-p.invariant in
+    let s = a.route.slope in
+    let h = c.loop-step.invariant in
     let d = c.put_spot-passed.ensures in
-    let g = goes_on a.pen (length a.im.now) (length a.zm.now) a.style a.deep a.backing a.way a.r a.a a.b c.requires.0 h.stands (walked_on h (omega (arith, c.loop-p-test.true))).on
-    (c.onward-p.ensures ∙ ap (λ (at : ℕ). onward_of a.way a.r at c.loop-p.p) c.spot_of-at.ensures) in
-    walked_next h (omega (arith, c.loop-p-test.true)) d.0 d.1 g.stands g.further (λ k x y l. g.between k x y l)
+    let n = goes_on a.pen (length a.im.now) (length a.zm.now) a.style _ _ a.route c.requires.0 h.stands (walked_on h (omega (arith, c.loop-step-test.true))).on
+    (rw c.WAY.ensures at c.onward-step.ensures ∙ ap (λ (at : ℕ). onward_of g.P.Path.WAY a.route at c.loop-step.step) c.spot_of-at.ensures) in
+    walked_next h (omega (arith, c.loop-step-test.true)) d.0 d.1 n.stands n.further (λ k x y l. n.between k x y l)
 
 pub returns : goal.returns
 unfolding segment_offers
-returns c = walked_end c.loop-p.invariant (omega (arith, c.loop-p-test.false))
+returns g c = walked_end c.loop-step.invariant (omega (arith, c.loop-step-test.false))

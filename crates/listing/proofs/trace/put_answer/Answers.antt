@@ -1,15 +1,15 @@
 -- `trace::put_answer` meets its contract: two numbers, one behind the other. Assumes nothing.
 use Rattle.std.proofs.Common.{arith}
-use Rattle.report.proofs.Putting.{put_append}
+use Rattle.report.proofs.Putting.{add_after, room_after}
 use Rattle.listing.specs.Trace.{answer_text}
 use Rattle.listing.proofs.Traces.{length_number}
 use Rattle.listing.proofs.trace.put_answer.Goals as goal
 
-pub put_number-requires : goal.put_number-requires
-put_number-requires c =
-    omega (arith, length_number 2 c.args.refusal)
+pub put_number-requires-2 : goal.put_number-requires-2
+put_number-requires-2 c =
+    room_after _ c.put_number.ensures (omega (arith, length_number 2 c.args.refusal))
 
 pub returns : goal.returns
 unfolding answer_text
 returns c =
-    put_append c.put_number-next.ensures c.put_number.ensures
+    add_after c.put_number.ensures c.put_number-2.ensures

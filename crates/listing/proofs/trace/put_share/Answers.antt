@@ -1,22 +1,23 @@
 -- `trace::put_share` meets its contract: a mark, or two digits with one between them. Assumes nothing.
 use Rattle.std.proofs.Common.{arith, ne_eqb}
-use Rattle.report.proofs.Putting.{put_append}
+use Rattle.report.proofs.Putting.{add_after, room_after}
 use Rattle.listing.specs.Trace.{share}
-use Rattle.listing.proofs.Lines.{length_digits}
+use Rattle.report.proofs.Decimal.{length_digits}
 use Rattle.listing.proofs.trace.put_share.Goals as goal
 
 pub returns-then-wanted-eq0 : goal.returns-then-wanted-eq0
 unfolding share
 returns-then-wanted-eq0 c =
-    rw c.if-wanted-eq0.true c.put_part.ensures
+    rw c.if-wanted-eq0.true c.put_bytes.ensures
 
-pub put_part-last-requires-clause-count_in_bounds_2 : goal.put_part-last-requires-clause-count_in_bounds_2
-put_part-last-requires-clause-count_in_bounds_2 c = omega (arith, length_digits 10 1 c.args.came)
+pub put_byte-requires : goal.put_byte-requires
+put_byte-requires c = room_after _ c.put_digits.ensures (omega (arith, length_digits 10 1 c.args.came))
 
-pub put_digits-requires-clause-count_in_bounds : goal.put_digits-requires-clause-count_in_bounds
-put_digits-requires-clause-count_in_bounds c = omega (arith, length_digits 10 1 c.args.came)
+pub put_digits-requires-2-clause-count_in_bounds : goal.put_digits-requires-2-clause-count_in_bounds
+put_digits-requires-2-clause-count_in_bounds c =
+    room_after _ c.put_byte.ensures (room_after _ c.put_digits.ensures (omega (arith, length_digits 10 1 c.args.came)))
 
 pub returns : goal.returns
 unfolding share
 returns c =
-    rw (ne_eqb c.args.wanted 0 c.if-wanted-eq0.false) (put_append (put_append c.put_digits-slash.ensures c.put_part-last.ensures) c.put_digits.ensures)
+    rw (ne_eqb c.args.wanted 0 c.if-wanted-eq0.false) (add_after (add_after c.put_digits.ensures c.put_byte.ensures) c.put_digits-2.ensures)

@@ -1,18 +1,20 @@
 -- `trace::trace_line` meets its contract: it is put where the test finds room. Assumes nothing.
-use Rattle.std.proofs.Common.{length, not, ap, arith}
-use Rattle.report.proofs.Putting.{put_append}
+use Rattle.std.proofs.Common.{arith}
+use Rattle.report.proofs.Putting.{add_after, room_after}
 use Rattle.listing.specs.Trace.{trace_line}
-use Rattle.report.proofs.Laying.{roomy, laid_none, laid_put}
+use Rattle.report.proofs.Laying.{has, lays_none, lays_put}
 use Rattle.listing.proofs.Traces.{length_traced, length_trace}
 use Rattle.listing.proofs.trace.trace_line.Goals as goal
 
-pub returns-then-not-has_room : goal.returns-then-not-has_room
-returns-then-not-has_room c = laid_none _ _ _ (length_trace c.args.t) c.has_room.ensures (ap not c.if-not-has_room.true)
+pub put-requires : goal.put-requires
+put-requires c = omega (arith, has c.args.page.now _ c.has_room.ensures c.if-has_room.true)
 
-pub put_part-requires-clause-count_in_bounds_2 : goal.put_part-requires-clause-count_in_bounds_2
-put_part-requires-clause-count_in_bounds_2 c = omega (arith, roomy (length c.args.out.now) 52 c.args.at c.has_room.ensures (ap not c.if-not-has_room.false), length_traced c.args.t)
+pub put_byte-requires : goal.put_byte-requires
+put_byte-requires c = room_after _ c.put.ensures (omega (arith, has c.args.page.now _ c.has_room.ensures c.if-has_room.true, length_traced c.args.t))
 
-pub returns : goal.returns
+pub returns-then-has_room : goal.returns-then-has_room
 unfolding trace_line
-returns c =
-    laid_put _ _ _ (length_trace c.args.t) c.has_room.ensures (ap not c.if-not-has_room.false) (put_append c.put_traced-end.ensures c.put_part.ensures)
+returns-then-has_room c = lays_put _ _ (length_trace c.args.t) c.has_room.ensures c.if-has_room.true (add_after c.put.ensures c.put_byte.ensures)
+
+pub returns-else-has_room : goal.returns-else-has_room
+returns-else-has_room c = lays_none _ _ (length_trace c.args.t) c.has_room.ensures c.if-has_room.false

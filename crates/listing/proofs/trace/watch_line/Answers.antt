@@ -1,35 +1,39 @@
 -- `trace::watch_line` meets its contract: it is put where the test finds room. Assumes nothing.
-use Rattle.std.proofs.Common.{length, not, ap, arith}
-use Rattle.report.proofs.Putting.{put_append}
+use Rattle.std.proofs.Common.{arith}
+use Rattle.report.proofs.Putting.{add_after, room_after}
 use Rattle.listing.specs.Trace.{watch_line}
-use Rattle.report.proofs.Laying.{roomy, laid_none, laid_put}
+use Rattle.report.proofs.Laying.{has, lays_none, lays_put}
 use Rattle.listing.proofs.Traces.{length_traced, length_numbers, length_watch}
 use Rattle.listing.proofs.trace.watch_line.Goals as goal
 
-pub returns-then-not-has_room : goal.returns-then-not-has_room
-returns-then-not-has_room c = laid_none _ _ _ (length_watch c.args.t c.args.before c.args.after) c.has_room.ensures (ap not c.if-not-has_room.true)
+pub put-requires : goal.put-requires
+put-requires c = omega (arith, has c.args.page.now _ c.has_room.ensures c.if-has_room.true)
 
-pub put_numbers-second-requires : goal.put_numbers-second-requires
-put_numbers-second-requires c =
-    omega (arith, roomy (length c.args.out.now) 76 c.args.at c.has_room.ensures (ap not c.if-not-has_room.false), length_traced c.args.t)
-
-pub put_numbers-end-requires : goal.put_numbers-end-requires
-put_numbers-end-requires c =
-    let room = roomy (length c.args.out.now) 76 c.args.at c.has_room.ensures (ap not c.if-not-has_room.false) in
-    omega (arith, room, c.put_traced-first.ensures, length_traced c.args.t, c.put_numbers-second.ensures, length_numbers c.args.before)
-
-pub put_part-requires : goal.put_part-requires
-put_part-requires c =
-    let room = roomy (length c.args.out.now) 76 c.args.at c.has_room.ensures (ap not c.if-not-has_room.false) in
-    let traced = c.put_traced-first.ensures in
-    let first = c.put_numbers-second.ensures in
-    let second = c.put_numbers-end.ensures in
-    record { count_in_bounds = omega arith; count_in_bounds_2 = omega (arith, room, traced, length_traced c.args.t, first, length_numbers c.args.before, second, length_numbers c.args.after) }
-
-pub returns : goal.returns
-unfolding watch_line
-returns c =
+pub put-requires-then-has_room : goal.put-requires-then-has_room
+put-requires-then-has_room c =
     let a = c.args in
-    let first = put_append c.put_traced-first.ensures c.put_numbers-second.ensures in
-    let all = put_append (put_append first c.put_numbers-end.ensures) c.put_part.ensures in
-    laid_put _ _ _ (length_watch a.t a.before a.after) c.has_room.ensures (ap not c.if-not-has_room.false) all
+    let room = has a.page.now _ c.has_room.ensures c.if-has_room.true in
+    room_after _ c.put.ensures (omega (arith, room, length_traced a.t))
+
+pub put-requires-then-has_room-2 : goal.put-requires-then-has_room-2
+put-requires-then-has_room-2 c =
+    let a = c.args in
+    let room = has a.page.now _ c.has_room.ensures c.if-has_room.true in
+    room_after _ c.put-then-has_room.ensures (room_after _ c.put.ensures (omega (arith, room, length_traced a.t, length_numbers a.before)))
+
+pub put_byte-requires : goal.put_byte-requires
+put_byte-requires c =
+    let a = c.args in
+    let room = has a.page.now _ c.has_room.ensures c.if-has_room.true in
+    room_after _ c.put-then-has_room-2.ensures
+    (room_after _ c.put-then-has_room.ensures (room_after _ c.put.ensures (omega (arith, room, length_traced a.t, length_numbers a.before, length_numbers a.after))))
+
+pub returns-then-has_room : goal.returns-then-has_room
+unfolding watch_line
+returns-then-has_room c =
+    let a = c.args in
+    let all = add_after (add_after (add_after c.put.ensures c.put-then-has_room.ensures) c.put-then-has_room-2.ensures) c.put_byte.ensures in
+    lays_put _ _ (length_watch a.t a.before a.after) c.has_room.ensures c.if-has_room.true all
+
+pub returns-else-has_room : goal.returns-else-has_room
+returns-else-has_room c = lays_none _ _ (length_watch c.args.t c.args.before c.args.after) c.has_room.ensures c.if-has_room.false

@@ -1,5 +1,5 @@
 -- `write::list` meets its contract: a line has 26 bytes, so one division tells whether all lines fit. Assumes nothing.
-use Rattle.std.proofs.Common.{arith}
+use Rattle.std.proofs.Common.{rules, refl, arith}
 use Rattle.report.proofs.Calls.{unwritten, done}
 use Rattle.listing.specs.Text.{listing}
 use Rattle.listing.proofs.Lines.{length_listing}
@@ -14,4 +14,4 @@ pub returns : goal.returns
 unfolding listing
 returns c =
     let a = c.args in
-    done (listing a.from a.words.now) a.out.now (omega (arith, c.if-out-words.false, length_listing a.from a.words.now)) c.put_lines-n.ensures
+    done (listing a.from a.words.now) a.out.now (omega (arith, c.if-out-words.false, length_listing a.from a.words.now)) c.put_lines.ensures refl refl (search rules)

@@ -1,20 +1,24 @@
 -- `write::put_line` meets its contract: its four parts, one behind the other. Assumes nothing.
 use Rattle.std.proofs.Common.{arith}
-use Rattle.report.proofs.Putting.{put_append}
+use Rattle.report.proofs.Putting.{add_after, room_after}
 use Rattle.listing.specs.Text.{line}
-use Rattle.listing.proofs.Lines.{length_digits, length_placed, length_name}
+use Rattle.report.proofs.Decimal.{length_digits}
+use Rattle.listing.proofs.Lines.{length_placed, length_name}
 use Rattle.listing.proofs.write.put_line.Goals as goal
 
-pub put_name-operand-requires-clause-at_in_bounds : goal.put_name-operand-requires-clause-at_in_bounds
-put_name-operand-requires-clause-at_in_bounds c = omega (arith, length_placed c.args.index c.args.word)
+pub put_name-requires-clause-at_in_bounds : goal.put_name-requires-clause-at_in_bounds
+put_name-requires-clause-at_in_bounds c = room_after _ c.put_word.ensures (omega (arith, length_placed c.args.index c.args.word))
 
-pub put_digits-end-requires-clause-count_in_bounds : goal.put_digits-end-requires-clause-count_in_bounds
-put_digits-end-requires-clause-count_in_bounds c = omega (arith, length_placed c.args.index c.args.word, length_name c.args.word)
+pub put_digits-requires-clause-count_in_bounds : goal.put_digits-requires-clause-count_in_bounds
+put_digits-requires-clause-count_in_bounds c =
+    let a = c.args in
+    room_after _ c.put_name.ensures (room_after _ c.put_word.ensures (omega (arith, length_placed a.index a.word, length_name a.word)))
 
-pub put_part-requires-clause-count_in_bounds_2 : goal.put_part-requires-clause-count_in_bounds_2
-put_part-requires-clause-count_in_bounds_2 c = omega (arith, length_placed c.args.index c.args.word, length_name c.args.word, length_digits 16 4 c.args.word)
+pub put_byte-requires : goal.put_byte-requires
+put_byte-requires c =
+    let a = c.args in
+    room_after _ c.put_digits.ensures (room_after _ c.put_name.ensures (room_after _ c.put_word.ensures (omega (arith, length_placed a.index a.word, length_name a.word, length_digits 16 4 a.word))))
 
 pub returns : goal.returns
 unfolding line
-returns c =
-    put_append (put_append (put_append c.put_word-name.ensures c.put_name-operand.ensures) c.put_digits-end.ensures) c.put_part.ensures
+returns c = add_after (add_after (add_after c.put_word.ensures c.put_name.ensures) c.put_digits.ensures) c.put_byte.ensures

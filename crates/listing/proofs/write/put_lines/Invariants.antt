@@ -1,12 +1,7 @@
--- `write::put_lines` meets its contract. The invariant of its loop: the lines of the words passed are put, and the length is kept. The measure
--- is the number of words left. Assumes nothing.
-use Rattle.std.proofs.Common.{◌≡◌, ◌-◌, ◌≤◌, length}
-use Rattle.report.specs.Calls.{Put}
+-- `write::put_lines` meets its contract. The invariant of its loop: the lines of the words passed are put. Assumes nothing.
+use Rattle.report.specs.Calls.{Adds}
 use Rattle.listing.specs.Text.{lines}
 use Rattle.listing.proofs.write.put_lines.Given as goal
 
 abbrev pub invariant-loop-k : goal.invariant-loop-k
-invariant-loop-k l = (l.k ≤ length l.words) × (length l.out ≡ length l.initial.out) × Put (lines l.from l.words l.k) l.initial.out 0 l.out l.next
-
-abbrev pub decreases-loop-k : goal.decreases-loop-k
-decreases-loop-k l = length l.words - l.k
+invariant-loop-k l = Adds (lines l.from l.words l.k) l.initial.page l.page

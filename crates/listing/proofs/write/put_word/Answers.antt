@@ -1,17 +1,17 @@
 -- `write::put_word` meets its contract: digits, a mark and digits, one behind the other. Assumes nothing.
 use Rattle.std.proofs.Common.{arith}
-use Rattle.report.proofs.Putting.{put_append}
+use Rattle.report.proofs.Putting.{add_after, room_after}
 use Rattle.listing.specs.Text.{placed}
-use Rattle.listing.proofs.Lines.{length_digits}
+use Rattle.report.proofs.Decimal.{length_digits}
 use Rattle.listing.proofs.write.put_word.Goals as goal
 
-pub put_part-place-requires-clause-count_in_bounds_2 : goal.put_part-place-requires-clause-count_in_bounds_2
-put_part-place-requires-clause-count_in_bounds_2 c = omega (arith, length_digits 16 5 c.args.word)
+pub put_bytes-requires : goal.put_bytes-requires
+put_bytes-requires c = room_after _ c.put_digits.ensures (omega (arith, length_digits 16 5 c.args.word))
 
-pub put_digits-requires-clause-count_in_bounds : goal.put_digits-requires-clause-count_in_bounds
-put_digits-requires-clause-count_in_bounds c = omega (arith, length_digits 16 5 c.args.word)
+pub put_digits-requires-2-clause-count_in_bounds : goal.put_digits-requires-2-clause-count_in_bounds
+put_digits-requires-2-clause-count_in_bounds c =
+    room_after _ c.put_bytes.ensures (room_after _ c.put_digits.ensures (omega (arith, length_digits 16 5 c.args.word)))
 
 pub returns : goal.returns
 unfolding placed
-returns c =
-    put_append (put_append c.put_digits-remark.ensures c.put_part-place.ensures) c.put_digits.ensures
+returns c = add_after (add_after c.put_digits.ensures c.put_bytes.ensures) c.put_digits-2.ensures

@@ -5,4 +5,4 @@ use Rattle.mending.proofs.sort.tried.Goals as goal
 
 pub returns : goal.returns
 unfolding word_of
-returns c = judged _ _ c.step.ensures
+returns c = judged _ _ (rw (c.parts-command.ensures.0, c.parts-command.ensures.1) at c.step.ensures)

@@ -1,16 +1,13 @@
 -- `text::put_columns` meets its contract: what stands in front of the last digit, and that digit. Assumes nothing.
-use Prim.Native.Nat.{◌-◌, ◌/◌}
-use native.Mathlib.Omega.{arith}
-use Rattle.report.proofs.Putting.{put_byte, put_append}
+use Rattle.std.proofs.Common.{◌-◌, ◌/◌, arith}
+use Rattle.report.proofs.Putting.{add_after, room_after}
 use Rattle.overdraw.proofs.Lines.{length_front, columns_parts}
 use Rattle.overdraw.proofs.text.put_columns.Goals as goal
 
-pub bounds-out-next : goal.bounds-out-next
-bounds-out-next c = let a = c.args in omega (arith, length_front (a.width - 1) (a.n / 10))
-
-pub overflow_add-result : goal.overflow_add-result
-overflow_add-result c = let a = c.args in omega (arith, length_front (a.width - 1) (a.n / 10))
+pub put_byte-requires : goal.put_byte-requires
+put_byte-requires c =
+    let a = c.args in
+    room_after _ c.put_front.ensures (omega (arith, c.requires.le_width, c.requires.width_in_bounds, length_front (a.width - 1) (a.n / 10)))
 
 pub returns : goal.returns
-returns c =
-    rw (columns_parts c.args.width c.args.n c.requires.le_width) (put_append c.put_front-next.ensures (put_byte _ _ _))
+returns c = rw (columns_parts c.args.width c.args.n c.requires.le_width) (add_after c.put_front.ensures c.put_byte.ensures)

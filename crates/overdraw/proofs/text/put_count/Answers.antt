@@ -1,17 +1,23 @@
 -- `text::put_count` meets its contract: its four parts, one behind the other. Assumes nothing.
-use native.Mathlib.Omega.{arith}
-use Rattle.report.proofs.Putting.{put_append}
+use Rattle.std.proofs.Common.{arith}
+use Rattle.report.proofs.Putting.{add_after, room_after}
 use Rattle.overdraw.specs.Text.{count_line}
 use Rattle.overdraw.proofs.Lines.{length_numbers}
 use Rattle.overdraw.proofs.text.put_count.Goals as goal
 
-pub put_text-requires : goal.put_text-requires
-put_text-requires c =
-    omega (arith, length_numbers c.args.c)
+pub put_bytes-requires-2 : goal.put_bytes-requires-2
+put_bytes-requires-2 c = room_after _ c.put_bytes.ensures (omega (arith, c.requires.at_in_bounds))
+
+pub put_numbers-requires-clause-at_in_bounds : goal.put_numbers-requires-clause-at_in_bounds
+put_numbers-requires-clause-at_in_bounds c =
+    room_after _ c.put_bytes-2.ensures (room_after _ c.put_bytes.ensures (omega (arith, c.requires.at_in_bounds)))
+
+pub put_byte-requires : goal.put_byte-requires
+put_byte-requires c =
+    room_after _ c.put_numbers.ensures
+    (room_after _ c.put_bytes-2.ensures (room_after _ c.put_bytes.ensures (omega (arith, c.requires.at_in_bounds, length_numbers c.args.c))))
 
 pub returns : goal.returns
 unfolding count_line
 returns c =
-    put_append
-    (put_append (put_append c.put_text-first.ensures c.put_text-second.ensures) c.put_numbers-third.ensures)
-    c.put_text.ensures
+    add_after (add_after (add_after c.put_bytes.ensures c.put_bytes-2.ensures) c.put_numbers.ensures) c.put_byte.ensures

@@ -1,35 +1,25 @@
 -- `text::put_numbers` meets its contract: its five parts, one behind the other. Assumes nothing.
-use native.Mathlib.Omega.{arith}
-use Rattle.report.proofs.Putting.{put_append}
+use Rattle.std.proofs.Common.{arith}
+use Rattle.report.proofs.Putting.{add_after, room_after}
 use Rattle.overdraw.specs.Text.{numbers}
 use Rattle.overdraw.proofs.Lines.{length_columns}
 use Rattle.overdraw.proofs.text.put_numbers.Goals as goal
 
-pub put_columns-second-requires : goal.put_columns-second-requires
-put_columns-second-requires c =
-    let n = c.args.c in
-    record { le_width = omega arith; width_in_bounds = omega (arith, length_columns 8 n.figures) }
+pub put_columns-requires-2-clause-width_in_bounds : goal.put_columns-requires-2-clause-width_in_bounds
+put_columns-requires-2-clause-width_in_bounds c = let n = c.args.c in room_after _ c.put_columns.ensures (omega (arith, c.requires.at_in_bounds, length_columns 8 n.figures))
 
-pub put_columns-third-requires : goal.put_columns-third-requires
-put_columns-third-requires c =
-    let n = c.args.c in
-    record { le_width = omega arith; width_in_bounds = omega (arith, length_columns 8 n.figures, length_columns 16 n.offered) }
+pub put_columns-requires-3-clause-width_in_bounds : goal.put_columns-requires-3-clause-width_in_bounds
+put_columns-requires-3-clause-width_in_bounds c = let n = c.args.c in room_after _ c.put_columns-2.ensures (room_after _ c.put_columns.ensures (omega (arith, c.requires.at_in_bounds, length_columns 8 n.figures, length_columns 16 n.offered)))
 
-pub put_columns-fourth-requires : goal.put_columns-fourth-requires
-put_columns-fourth-requires c =
-    let n = c.args.c in
-    record { le_width = omega arith; width_in_bounds = omega (arith, length_columns 8 n.figures, length_columns 16 n.offered, length_columns 16 n.passed) }
+pub put_columns-requires-4-clause-width_in_bounds : goal.put_columns-requires-4-clause-width_in_bounds
+put_columns-requires-4-clause-width_in_bounds c = let n = c.args.c in room_after _ c.put_columns-3.ensures (room_after _ c.put_columns-2.ensures (room_after _ c.put_columns.ensures (omega (arith, c.requires.at_in_bounds, length_columns 8 n.figures, length_columns 16 n.offered, length_columns 16 n.passed))))
 
-pub put_columns-requires : goal.put_columns-requires
-put_columns-requires c =
-    let n = c.args.c in
-    record { le_width = omega arith; width_in_bounds = omega (arith, length_columns 8 n.figures, length_columns 16 n.offered, length_columns 16 n.passed, length_columns 16 n.hidden) }
+pub put_columns-requires-5-clause-width_in_bounds : goal.put_columns-requires-5-clause-width_in_bounds
+put_columns-requires-5-clause-width_in_bounds c = let n = c.args.c in room_after _ c.put_columns-4.ensures (room_after _ c.put_columns-3.ensures (room_after _ c.put_columns-2.ensures (room_after _ c.put_columns.ensures (omega (arith, c.requires.at_in_bounds, length_columns 8 n.figures, length_columns 16 n.offered, length_columns 16 n.passed, length_columns 16 n.hidden)))))
 
 pub returns : goal.returns
 unfolding numbers
 returns c =
-    put_append
-    (put_append
-    (put_append (put_append c.put_columns-first.ensures c.put_columns-second.ensures) c.put_columns-third.ensures)
-    c.put_columns-fourth.ensures)
-    (rw c.percent.ensures at c.put_columns.ensures)
+    add_after
+    (add_after (add_after (add_after c.put_columns.ensures c.put_columns-2.ensures) c.put_columns-3.ensures) c.put_columns-4.ensures)
+    (rw c.percent.ensures at c.put_columns-5.ensures)

@@ -1,23 +1,27 @@
--- `text::put_refusal` meets its contract: no line for 0, and otherwise its four parts. Assumes nothing.
-use native.Mathlib.Omega.{arith}
-use borrow.Author.Tests.{eq-eqb, ne_eqb}
-use Rattle.report.proofs.Putting.{put_none, put_append}
+-- `text::put_refusal` meets its contract: its four parts, one behind the other. Assumes nothing.
+use Rattle.std.proofs.Common.{ne_eqb, arith}
+use Rattle.ground.proofs.Numbers.{number_positive}
+use Rattle.ground.specs.Refusal.{number}
+use Rattle.report.proofs.Putting.{add_after, room_after}
 use Rattle.overdraw.specs.Text.{refusal_line}
 use Rattle.overdraw.proofs.Lines.{length_columns}
 use Rattle.overdraw.proofs.text.put_refusal.Goals as goal
 
-pub returns-then-refusal-eq0 : goal.returns-then-refusal-eq0
-unfolding refusal_line
-returns-then-refusal-eq0 c = rw (eq-eqb _ 0 c.if-refusal-eq0.true) (put_none _ _)
+pub put_bytes-requires-2 : goal.put_bytes-requires-2
+put_bytes-requires-2 c = room_after _ c.put_bytes.ensures (omega arith)
 
-pub put_text-requires : goal.put_text-requires
-put_text-requires c =
-    omega (arith, length_columns 8 c.args.refusal)
+pub put_columns-requires-clause-width_in_bounds : goal.put_columns-requires-clause-width_in_bounds
+put_columns-requires-clause-width_in_bounds c = room_after _ c.put_bytes-2.ensures (room_after _ c.put_bytes.ensures (omega arith))
+
+pub put_byte-requires : goal.put_byte-requires
+put_byte-requires c =
+    room_after _ c.put_columns.ensures
+    (room_after _ c.put_bytes-2.ensures (room_after _ c.put_bytes.ensures (omega (arith, length_columns 8 c.into.result))))
 
 pub returns : goal.returns
 unfolding refusal_line
 returns c =
-    rw (ne_eqb _ 0 c.if-refusal-eq0.false)
-    (put_append
-    (put_append (put_append c.put_text-first.ensures c.put_text-second.ensures) c.put_columns-third.ensures)
-    c.put_text.ensures)
+    rw (ne_eqb (number c.args.refusal) 0 (λ e. omega (arith, number_positive c.args.refusal, e)))
+    (add_after
+    (add_after (add_after c.put_bytes.ensures c.put_bytes-2.ensures) (rw c.into.ensures at c.put_columns.ensures))
+    c.put_byte.ensures)

@@ -8,14 +8,14 @@ pub returns-then-is_masked-is_shown : goal.returns-then-is_masked-is_shown
 returns-then-is_masked-is_shown c =
     let a = c.args in
     let p = picture a.im.now a.zm.now a.n in (
-      shown_drawn a.pen a.kind a.x a.y a.i a.z p _ (rw (c.is_masked.ensures, c.is_shown.ensures) at c.if-is_masked-is_shown.true)
-          (c.put_at.ensures.0 ∙ ap (λ (at : ℕ). step_at a.pen a.kind at a.i a.z p) c.requires.0),
+      shown_drawn a.pen a.kind a.v.x a.v.y a.v.i a.v.z p _ (rw (c.is_masked.ensures, c.is_shown.ensures) at c.if-is_masked-is_shown.true)
+          (c.put_at.ensures.0 ∙ ap (λ (at : ℕ). step_at a.pen a.kind at a.v.i a.v.z p) c.requires.0),
       c.put_at.ensures.1,
     )
 
 pub returns : goal.returns
 returns c =
     let a = c.args in (
-      shown_left a.pen a.kind a.x a.y a.i a.z (picture a.im.now a.zm.now a.n) (rw (c.is_masked.ensures, c.is_shown.ensures) at c.if-is_masked-is_shown.false),
+      shown_left a.pen a.kind a.v.x a.v.y a.v.i a.v.z (picture a.im.now a.zm.now a.n) (rw (c.is_masked.ensures, c.is_shown.ensures) at c.if-is_masked-is_shown.false),
       omega arith,
     )

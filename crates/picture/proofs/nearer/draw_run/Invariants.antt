@@ -1,12 +1,9 @@
 -- `nearer::draw_run` meets its contract. The invariant of its loop: j pixels are drawn, and the carried numbers are those of pixel j.
--- The measure is the number of pixels left. Assumes nothing.
-use Rattle.std.proofs.Common.{◌+◌, ◌-◌}
+-- Assumes nothing.
+use Rattle.std.proofs.Common.{◌+◌}
 use Rattle.picture.proofs.Loops.{Running}
 use Rattle.picture.proofs.nearer.draw_run.Given as goal
 
 abbrev pub invariant-loop-j : goal.invariant-loop-j
 invariant-loop-j l =
-    Running (λ m. l.run.base + m) l.run.i l.run.z l.run.count l.initial.im l.initial.zm 0 l.im l.zm l.ki l.kz l.j l.n
-
-abbrev pub decreases-loop-j : goal.decreases-loop-j
-decreases-loop-j l = l.run.count - l.j
+    Running (λ m. l.run.base + m) l.run.i l.run.z l.run.count l.initial.im l.initial.zm 0 l.im l.zm l.i l.z l.j l.n

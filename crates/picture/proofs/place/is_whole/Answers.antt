@@ -1,7 +1,7 @@
 -- `place::is_whole` meets its contract. Assumes nothing.
-use Rattle.std.proofs.Common.{sym, ◌∙◌}
+use Rattle.std.proofs.Common.{◌%◌, not, eqb, sym, ◌∙◌}
 use Rattle.picture.specs.Place.{is_whole}
-use Rattle.picture.proofs.Places.{lies_plain_lem, lies_tiled_lem, lies_shared}
+use Rattle.picture.proofs.Places.{lies_plain_lem, lies_tiled_lem, lies_shared, some_ways}
 use Rattle.picture.proofs.place.is_whole.Goals as goal
 
 pub returns-then-lies_plain : goal.returns-then-lies_plain
@@ -16,4 +16,5 @@ returns-then-lies_tiled c =
 pub returns : goal.returns
 unfolding is_whole
 returns c =
-    rw (lies_shared c.args.frame (sym c.lies_plain.ensures ∙ c.if-lies_plain.false) (sym c.lies_tiled.ensures ∙ c.if-lies_tiled.false), ← c.ways_of-ways.ensures.0)
+    rw (lies_shared c.args.frame (sym c.lies_plain.ensures ∙ c.if-lies_plain.false) (sym c.lies_tiled.ensures ∙ c.if-lies_tiled.false), ← c.ways_of.ensures.0)
+    (some_ways (not (eqb c.args.frame.line 0)) (eqb (c.args.frame.line % c.ways_of.result) 0) c.ways_of.result c.ways_of.ensures.1)

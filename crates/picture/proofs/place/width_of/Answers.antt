@@ -1,19 +1,16 @@
 -- `place::width_of` meets its contract. Assumes nothing.
-use Rattle.std.proofs.Common.{sym, ◌∙◌}
+use Rattle.std.proofs.Common.{sym}
+use Rattle.ground.proofs.Truth.{neither}
 use Rattle.picture.specs.Place.{width_of}
-use Rattle.picture.proofs.Places.{lies_plain_lem, lies_tiled_lem, lies_shared}
+use Rattle.picture.proofs.Places.{lies_shared, whole_width}
 use Rattle.picture.proofs.place.width_of.Goals as goal
 
-pub returns-then-lies_plain : goal.returns-then-lies_plain
-unfolding width_of
-returns-then-lies_plain c = rw (lies_plain_lem c.args.frame (sym c.lies_plain.ensures ∙ c.if-lies_plain.true))
-
-pub returns-then-lies_tiled : goal.returns-then-lies_tiled
-unfolding width_of
-returns-then-lies_tiled c =
-    rw (lies_tiled_lem c.args.frame (sym c.lies_tiled.ensures ∙ c.if-lies_tiled.true))
+pub returns-then-lies_plain-lies_tiled : goal.returns-then-lies_plain-lies_tiled
+returns-then-lies_plain-lies_tiled c =
+    sym (whole_width c.args.frame (rw (c.lies_plain.ensures, c.lies_tiled.ensures) at c.if-lies_plain-lies_tiled.true))
 
 pub returns : goal.returns
 unfolding width_of
 returns c =
-    rw (lies_shared c.args.frame (sym c.lies_plain.ensures ∙ c.if-lies_plain.false) (sym c.lies_tiled.ensures ∙ c.if-lies_tiled.false), ← c.ways_of-ways.ensures.0)
+    let other = neither _ _ (rw (c.lies_plain.ensures, c.lies_tiled.ensures) at c.if-lies_plain-lies_tiled.false) in
+    rw (lies_shared c.args.frame other.0 other.1, ← c.ways_of.ensures.0)

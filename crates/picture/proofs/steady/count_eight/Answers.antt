@@ -1,8 +1,9 @@
--- `steady::count_eight` meets its contract, a pixel at a time: no count exceeds the sum of all. Assumes nothing.
+-- `steady::count_eight` meets its contract, a pixel at a time. Assumes nothing.
+use Rattle.std.proofs.Common.{◌+◌, cond, ltb, get_or, rules}
+use Rattle.std.proofs.lemmas.List.FromFn.{fill_by_all}
 use Rattle.picture.specs.Loops.{each_of}
 use Rattle.picture.proofs.steady.count_eight.Goals as goal
 
 pub returns : goal.returns
 unfolding each_of
-returns c =
-    rw (c.pick-a.ensures, c.pick-b.ensures, c.pick-c.ensures, c.pick-d.ensures, c.pick-e.ensures, c.pick-f.ensures, c.pick-g.ensures, c.pick-h.ensures)
+returns c = let a = c.args in fill_by_all (λ k. cond (ltb a.z (get_or a.deep k 0)) (get_or a.n k 0 + 1) (get_or a.n k 0)) c.loop-k.counted 8 0 c.loop-k.invariant.0 (search rules)

@@ -6,6 +6,6 @@ use Rattle.picture.proofs.steady.draw_eight.Goals as goal
 pub returns : goal.returns
 returns c =
     let a = c.args in
-    eight_drawn a.at a.i a.z a.im.now a.zm.now a.n (omega (arith, c.well_formed)) (omega (arith, c.well_formed)) c.read_eight-deep.ensures
+    eight_drawn a.at a.i a.z a.im.now a.zm.now a.n (omega (arith, c.well_formed)) (omega (arith, c.well_formed)) (omega (arith, c.well_formed)) c.read_eight-deep.ensures
     c.read_eight-stood.ensures c.pick_eight-depths.ensures c.pick_eight-numbers.ensures c.write_eight.ensures
     c.write_eight-2.ensures c.count_eight.ensures

@@ -1,4 +1,5 @@
 -- `image::image_heading` meets its contract: the test decides between the two outcomes. Assumes nothing.
+use Rattle.std.proofs.Common.{rules, refl}
 use Prim.Native.Nat.{◌≤◌}
 use native.Mathlib.Omega.{arith}
 use lib.ListN.{length}
@@ -15,4 +16,4 @@ pub returns : goal.returns
 returns c =
     let a = c.args in
     let enough : length (image_heading a.most a.line a.rows) ≤ length a.out.now = omega (arith, c.size_of_heading.ensures.size, c.if-out-size_of_heading.false) in
-    done (image_heading a.most a.line a.rows) a.out.now enough c.put_image_heading-n.ensures
+    done (image_heading a.most a.line a.rows) a.out.now enough c.put_image_heading.ensures refl refl (search rules)

@@ -1,21 +1,19 @@
--- `image::put_pixel` meets its contract: one byte, or two. Assumes nothing.
-use native.Mathlib.Omega.{arith}
-use Rattle.report.proofs.Pages.{size_one, size_two, pixel_one, pixel_two}
-use Rattle.report.proofs.Putting.{put_byte}
+-- `image::put_pixel` meets its contract: the last byte, or both. Assumes nothing.
+use Rattle.std.proofs.Common.{ℕ, length, ap, arith}
+use Rattle.report.proofs.Pages.{size_low, length_pixel, pixel_cut}
 use Rattle.report.proofs.image.put_pixel.Goals as goal
 
-pub bounds-out-at : goal.bounds-out-at
-bounds-out-at c = omega (arith, size_one c.args.most c.if-most-lt256.true)
+pub overflow_sub-pixel_size : goal.overflow_sub-pixel_size
+overflow_sub-pixel_size c = omega (arith, c.pixel_size.ensures, size_low c.args.most)
 
-pub returns-then-most-lt256 : goal.returns-then-most-lt256
-returns-then-most-lt256 c =
+pub put_bytes-requires : goal.put_bytes-requires
+put_bytes-requires c =
     let a = c.args in
-    rw (pixel_one a.most a.n c.if-most-lt256.true) (put_byte _ _ _)
-
-pub put_two_bytes-requires : goal.put_two_bytes-requires
-put_two_bytes-requires c = omega (arith, size_two c.args.most c.if-most-lt256.false)
+    let cut = rw (← c.pixel_size.ensures, ← c.to_be_bytes-bytes.ensures) at (pixel_cut a.most a.n (omega arith)) in
+    omega (arith, ap (length {A = ℕ}) cut, length_pixel a.most a.n)
 
 pub returns : goal.returns
 returns c =
     let a = c.args in
-    rw (pixel_two a.most a.n c.if-most-lt256.false) c.put_two_bytes.ensures
+    let cut = rw (← c.pixel_size.ensures, ← c.to_be_bytes-bytes.ensures) at (pixel_cut a.most a.n (omega arith)) in
+    rw cut at c.put_bytes.ensures

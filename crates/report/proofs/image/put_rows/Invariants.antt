@@ -1,17 +1,7 @@
--- `image::put_rows` meets its contract. The invariant of its loop: the rows passed are put, and the length is kept. The measure is the number
--- of rows left. Assumes nothing.
-use mathlib.Core.Path.{◌≡◌}
-use Prim.Native.Nat.{◌-◌, ◌≤◌}
-use lib.ListN.{length}
+-- `image::put_rows` meets its contract. The invariant of its loop: the rows passed are put. Assumes nothing.
 use Rattle.report.specs.Image.{down}
-use Rattle.report.specs.Calls.{Put}
+use Rattle.report.specs.Calls.{Adds}
 use Rattle.report.proofs.image.put_rows.Given as goal
 
 abbrev pub invariant-loop-k : goal.invariant-loop-k
-invariant-loop-k l =
-    (l.k ≤ l.count)
-    × (length l.out ≡ length l.initial.out)
-    × Put (down l.most l.line l.memory l.below l.k) l.initial.out l.at l.out l.next
-
-abbrev pub decreases-loop-k : goal.decreases-loop-k
-decreases-loop-k l = l.count - l.k
+invariant-loop-k l = Adds (down l.most l.line l.memory l.below l.k) l.initial.page l.page

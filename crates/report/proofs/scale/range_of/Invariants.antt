@@ -1,13 +1,7 @@
--- `scale::range_of` meets its contract. The invariant of its loop: the range so far is that of the places passed. The measure is the number of places
--- left. Assumes nothing.
-use mathlib.Core.Path.{◌≡◌}
-use Prim.Native.Nat.{◌-◌, ◌≤◌}
-use lib.ListN.{length}
+-- `scale::range_of` meets its contract. The invariant of its loop: the range so far is that of the places passed. Assumes nothing.
+use Rattle.std.proofs.Common.{◌≡◌}
 use Rattle.report.specs.Levels.{range_of}
 use Rattle.report.proofs.scale.range_of.Given as goal
 
-abbrev pub invariant-loop-k : goal.invariant-loop-k
-invariant-loop-k l = (l.k ≤ length l.im) × (l.r ≡ range_of l.depth l.im l.zm l.k)
-
-abbrev pub decreases-loop-k : goal.decreases-loop-k
-decreases-loop-k l = length l.im - l.k
+abbrev pub invariant-loop-place : goal.invariant-loop-place
+invariant-loop-place l = l.range ≡ range_of l.depth l.im l.zm l.place

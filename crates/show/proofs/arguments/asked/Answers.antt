@@ -1,19 +1,12 @@
--- `arguments::asked` meets its contract: the test decides. Assumes nothing.
-use mathlib.Core.Path.{◌≡◌, sym, ◌∙◌}
-use borrow.Author.Tests.{ne_eqb}
-use Rattle.show.specs.Arguments.{memory_of, asked_of}
+-- `arguments::asked` meets its contract: what the first argument names decides. Assumes nothing.
+use mathlib.Core.Path.{sym, ◌∙◌}
+use Rattle.show.specs.Arguments.{asked_of}
 use Rattle.show.proofs.arguments.asked.Goals as goal
 
-pub returns-then-memory-eq0 : goal.returns-then-memory-eq0
+pub returns-in-None : goal.returns-in-None
 unfolding asked_of
-returns-then-memory-eq0 c =
-    let a = c.args in
-    let none : memory_of a.first.now ≡ 0 = sym c.memory_of-memory.ensures ∙ c.if-memory-eq0.true in
-    rw none c.scaled.ensures
+returns-in-None c = rw (sym c.memory_of.ensures ∙ c.in-None.is) c.scaled.ensures
 
-pub returns : goal.returns
+pub returns-in-Some : goal.returns-in-Some
 unfolding asked_of
-returns c =
-    let a = c.args in
-    let some : memory_of a.first.now ≡ 0 → ⊥ = λ e. c.if-memory-eq0.false (c.memory_of-memory.ensures ∙ e) in
-    rw (ne_eqb (memory_of a.first.now) 0 some) (rw c.memory_of-memory.ensures at c.scaled-2.ensures)
+returns-in-Some c = rw (sym c.memory_of.ensures ∙ c.in-Some.is) c.scaled-in-Some.ensures

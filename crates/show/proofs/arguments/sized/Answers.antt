@@ -1,4 +1,6 @@
 -- `arguments::sized` meets its contract: the test decides. Assumes nothing.
+use Rattle.std.proofs.Common.{rules}
+use mathlib.Core.Path.{sym, ◌∙◌}
 use Prim.Native.Nat.{◌+◌}
 use borrow.Author.Tests.{lt-ltb, le-ltb}
 use Rattle.show.specs.Arguments.{sized_of}
@@ -10,8 +12,14 @@ returns-then-used-count c =
     let a = c.args in
     rw (lt-ltb (a.used + 1) a.count c.if-used-count.true)
 
+pub returns-in_err-places : goal.returns-in_err-places
+unfolding sized_of
+returns-in_err-places c =
+    let a = c.args in
+    rw (le-ltb (a.used + 1) a.count c.if-used-count.false, sym c.places_if.ensures ∙ c.in_err-places.was) (search rules)
+
 pub returns : goal.returns
 unfolding sized_of
 returns c =
     let a = c.args in
-    rw (le-ltb (a.used + 1) a.count c.if-used-count.false) (rw c.places_if.ensures at c.asked_for.ensures)
+    rw (le-ltb (a.used + 1) a.count c.if-used-count.false, sym c.places_if.ensures ∙ c.in_ok-places.was)

@@ -4,4 +4,4 @@ use Rattle.show.proofs.page.page_rows.Goals as goal
 
 pub returns : goal.returns
 unfolding page_rows
-returns c = c.least.ensures
+returns c = c.min.ensures

@@ -2,19 +2,18 @@
 use native.Mathlib.Omega.{arith}
 use Rattle.report.specs.Image.{down}
 use Rattle.report.proofs.Pages.{length_down}
-use Rattle.report.proofs.Calls.{answer_stands, answer_fits}
+use Rattle.report.proofs.Calls.{answer_stands, answer_done}
 use Rattle.show.proofs.Pages.{page_sized}
 use Rattle.show.proofs.page.put_page.Goals as goal
 
-pub returns-in-Done : goal.returns-in-Done
-returns-in-Done c =
+pub unwrap-requires : goal.unwrap-requires
+unwrap-requires c =
     let a = c.args in
     let size = length_down a.most a.line a.memory.now a.below a.count in
-    answer_stands (down a.most a.line a.memory.now a.below a.count) a.page.now _ (omega (arith, size, page_sized a.line a.most a.count c.requires)) c.image_rows-answer.ensures c.in-Done.is
+    answer_done (down a.most a.line a.memory.now a.below a.count) a.page.now _ (omega (arith, size, page_sized a.line a.most a.count c.requires)) c.image_rows.ensures
 
-pub returns-in-NoRoom : goal.returns-in-NoRoom
-returns-in-NoRoom c =
+pub returns : goal.returns
+returns c =
     let a = c.args in
     let size = length_down a.most a.line a.memory.now a.below a.count in
-    absurd
-    (answer_fits (down a.most a.line a.memory.now a.below a.count) a.page.now _ (omega (arith, size, page_sized a.line a.most a.count c.requires)) c.image_rows-answer.ensures c.in-NoRoom.is)
+    answer_stands (down a.most a.line a.memory.now a.below a.count) a.page.now _ (omega (arith, size, page_sized a.line a.most a.count c.requires)) c.image_rows.ensures c.unwrap.ensures

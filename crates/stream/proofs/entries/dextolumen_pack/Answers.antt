@@ -3,4 +3,4 @@ use Rattle.stream.proofs.Calls.{answer_told}
 use Rattle.stream.proofs.entries.dextolumen_pack.Goals as goal
 
 pub returns : goal.returns
-returns c = answer_told c.pack-coded.ensures c.number_of.ensures
+returns c = answer_told _ c.pack.ensures c.encoded.ensures

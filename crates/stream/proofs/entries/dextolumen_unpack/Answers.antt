@@ -3,4 +3,4 @@ use Rattle.stream.proofs.Calls.{answer_told}
 use Rattle.stream.proofs.entries.dextolumen_unpack.Goals as goal
 
 pub returns : goal.returns
-returns c = answer_told c.unpack-coded.ensures c.number_of.ensures
+returns c = answer_told _ c.unpack.ensures c.encoded.ensures

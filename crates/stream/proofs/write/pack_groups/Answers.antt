@@ -1,5 +1,4 @@
--- `write::pack_groups` meets its contract. The invariant of its loop: the first 10 j bytes stand at the front of `out`, and its length is kept.
--- The measure is the number of groups left. Assumes nothing.
+-- `write::pack_groups` meets its contract. Assumes nothing.
 use mathlib.Core.Path.{◌≡◌, ap, ◌∙◌}
 use Prim.Native.Nat.{ℕ, ◌*◌, ◌/◌}
 use native.Mathlib.Omega.{arith}
@@ -11,11 +10,8 @@ use Rattle.stream.proofs.write.pack_groups.Goals as goal
 
 pub loop-j-preserved : goal.loop-j-preserved
 loop-j-preserved c =
-    let a = c.args in (
-      omega arith,
-      c.put_group.auto.out ∙ c.loop-j.invariant.1,
-      c.put_group.ensures ∙ group_turn a.words.now a.out.now c.loop-j.out (omega arith) c.loop-j.j (omega arith) c.loop-j.invariant.2,
-    )
+    let a = c.args in
+    c.put_group.ensures ∙ group_turn a.words.now a.out.now c.loop-j.out (omega arith) c.loop-j.j (omega arith) c.loop-j.invariant
 
 pub returns : goal.returns
 returns c =
@@ -23,4 +19,4 @@ returns c =
     let ws = a.words.now in
     let n = 10 * (length ws / 4) in
     let all : 10 * c.loop-j.j ≡ n = omega arith in
-    c.loop-j.invariant.2 ∙ ap (λ (i : ℕ). front i (pack_of ws) a.out.now) all ∙ front_part n (pack_of ws) a.out.now (omega (arith, length_pack ws))
+    c.loop-j.invariant ∙ ap (λ (i : ℕ). front i (pack_of ws) a.out.now) all ∙ front_part n (pack_of ws) a.out.now (omega (arith, length_pack ws))

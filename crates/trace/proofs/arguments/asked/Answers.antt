@@ -1,4 +1,5 @@
 -- `arguments::asked` meets its contract: the tests decide. Assumes nothing.
+use mathlib.Core.Path.{sym, ◌∙◌}
 use borrow.Author.Tests.{lt-ltb, le-ltb, eq-eqb, ne_eqb}
 use Rattle.trace.specs.Arguments.{asked_of}
 use Rattle.trace.proofs.arguments.asked.Goals as goal
@@ -12,39 +13,30 @@ unfolding asked_of
 returns-then-count-ne3 c =
     rw (le-ltb c.args.count 2 c.if-count-lt2.false, ne_eqb c.args.count 3 c.if-count-ne3.true)
 
-pub returns-then-x-gt16383 : goal.returns-then-x-gt16383
+pub returns-in_default : goal.returns-in_default
 unfolding asked_of
-returns-then-x-gt16383 c =
-    let x = c.coordinate-x in
+returns-in_default c =
     let count = c.args.count in
-    rw (le-ltb count 2 c.if-count-lt2.false, eq-eqb count 3 c.if-count-ne3.false, ← x.ensures, lt-ltb 16383 x.result c.if-x-gt16383.true)
+    rw (le-ltb count 2 c.if-count-lt2.false, eq-eqb count 3 c.if-count-ne3.false, sym c.coordinate.ensures ∙ c.in_default.is)
 
-pub returns-then-y-gt16383 : goal.returns-then-y-gt16383
+pub returns-in_default-coordinate : goal.returns-in_default-coordinate
 unfolding asked_of
-returns-then-y-gt16383 c =
-    let y = c.coordinate-y in
-    let x = c.coordinate-x in
+returns-in_default-coordinate c =
     let count = c.args.count in
     rw (
       le-ltb count 2 c.if-count-lt2.false,
       eq-eqb count 3 c.if-count-ne3.false,
-      ← x.ensures,
-      ← y.ensures,
-      le-ltb 16383 x.result c.if-x-gt16383.false,
-      lt-ltb 16383 y.result c.if-y-gt16383.true,
+      sym c.coordinate.ensures ∙ c.in-Some.is,
+      sym c.coordinate-2.ensures ∙ c.in_default-coordinate.is,
     )
 
 pub returns : goal.returns
 unfolding asked_of
 returns c =
-    let y = c.coordinate-y in
-    let x = c.coordinate-x in
     let count = c.args.count in
     rw (
       le-ltb count 2 c.if-count-lt2.false,
       eq-eqb count 3 c.if-count-ne3.false,
-      ← x.ensures,
-      ← y.ensures,
-      le-ltb 16383 x.result c.if-x-gt16383.false,
-      le-ltb 16383 y.result c.if-y-gt16383.false,
+      sym c.coordinate.ensures ∙ c.in-Some.is,
+      sym c.coordinate-2.ensures ∙ c.in-Some-coordinate.is,
     )

@@ -1,23 +1,28 @@
 -- `arguments::coordinate` meets its contract: the tests decide. Assumes nothing.
 use mathlib.Core.Path.{◌≡◌, sym, ◌∙◌}
 use mathlib.Core.Bool.{true, false}
-use borrow.Author.Tests.{eq-eqb, ne_eqb}
-use Rattle.console.specs.Digits.{digits_only}
+use borrow.Author.Tests.{lt-ltb, le-ltb}
 use Rattle.trace.specs.Arguments.{coordinate_of}
 use Rattle.trace.proofs.arguments.coordinate.Goals as goal
 
-pub returns-then-arg-eq0 : goal.returns-then-arg-eq0
+pub returns-then-is_empty : goal.returns-then-is_empty
 unfolding coordinate_of
-returns-then-arg-eq0 c = rw (eq-eqb _ _ c.if-arg-eq0.true)
+returns-then-is_empty c = rw (sym c.is_empty.ensures ∙ c.if-is_empty.true)
 
-pub returns-then-digits_only : goal.returns-then-digits_only
+pub returns-then-not-digits_only : goal.returns-then-not-digits_only
 unfolding coordinate_of
-returns-then-digits_only c =
-    let digits : digits_only c.args.arg.now ≡ true = sym c.digits_only.ensures ∙ c.if-digits_only.true in
-    rw (ne_eqb _ _ c.if-arg-eq0.false, digits) c.value.ensures
+returns-then-not-digits_only c =
+    let digits : c.digits_only.result ≡ false = c.if-not-digits_only.true in
+    rw (sym c.is_empty.ensures ∙ c.if-is_empty.false, sym c.digits_only.ensures ∙ digits)
+
+pub returns-then-n-gt16383 : goal.returns-then-n-gt16383
+unfolding coordinate_of
+returns-then-n-gt16383 c =
+    let digits : c.digits_only.result ≡ true = c.if-not-digits_only.false in
+    rw (sym c.is_empty.ensures ∙ c.if-is_empty.false, sym c.digits_only.ensures ∙ digits, ← c.value-n.ensures, lt-ltb 16383 c.value-n.result c.if-n-gt16383.true)
 
 pub returns : goal.returns
 unfolding coordinate_of
 returns c =
-    let digits : digits_only c.args.arg.now ≡ false = sym c.digits_only.ensures ∙ c.if-digits_only.false in
-    rw (ne_eqb _ _ c.if-arg-eq0.false, digits)
+    let digits : c.digits_only.result ≡ true = c.if-not-digits_only.false in
+    rw (sym c.is_empty.ensures ∙ c.if-is_empty.false, sym c.digits_only.ensures ∙ digits, ← c.value-n.ensures, le-ltb 16383 c.value-n.result c.if-n-gt16383.false)

@@ -1,19 +1,14 @@
--- `print::print_words` meets its contract. The invariant of its loop: the next line begins on the page, and all lengths stay. The measure is the number of words left. Assumes nothing.
-use mathlib.Core.Path.{◌≡◌}
-use mathlib.Core.List.{List}
-use Prim.Native.Nat.{ℕ, ◌-◌, ◌≤◌}
-use lib.ListN.{length}
+-- `print::print_words` meets its contract. The invariant of its loop: the next line begins on the page, and the memories keep their lengths. Assumes nothing.
+use Rattle.std.proofs.Common.{◌≡◌, ℕ, List, length}
+use Rattle.report.specs.Calls.{OnPage}
+use Rattle.report.specs.declared.page.Page.{Page}
 use Rattle.trace.proofs.print.print_words.Given as goal
 
--- the next line begins on the page or where it ends, the page has its 65536 bytes, and the memories are as long as they were
-pub record Printing (im₀ zm₀ im zm page : List ℕ) (at : ℕ) : Type 0 where
-  pub until : at ≤ 65536
-  pub whole : 65536 ≡ length page
+-- the next line begins on the page or where it ends, and the memories are as long as they were
+pub record Printing (im₀ zm₀ im zm : List ℕ) (page : Page) : Type 0 where
+  pub on_page : OnPage page
   pub i_long : length im ≡ length im₀
   pub z_long : length zm ≡ length zm₀
 
-abbrev pub invariant-loop-k : goal.invariant-loop-k
-invariant-loop-k g l = Printing l.initial.im l.initial.zm l.im l.zm l.page l.at
-
-abbrev pub decreases-loop-k : goal.decreases-loop-k
-decreases-loop-k g l = l.count - l.k
+abbrev pub invariant-loop : goal.invariant-loop
+invariant-loop g l = Printing l.initial.im l.initial.zm l.im l.zm l.page

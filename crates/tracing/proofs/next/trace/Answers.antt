@@ -7,11 +7,11 @@ pub returns-then-is_over : goal.returns-then-is_over
 returns-then-is_over c =
     let a = c.args in
     let e = sym c.is_over.ensures ∙ c.if-is_over.true in
-    turns_over a.bytes.now a.a a.im.now a.zm.now e (line_over a.bytes.now a.a a.im.now a.zm.now e)
+    turns_over a.bytes.now a.run a.im.now a.zm.now e (line_over a.bytes.now a.run a.im.now a.zm.now e)
 
 pub returns : goal.returns
 returns c =
     let a = c.args in
     let e = sym c.is_over.ensures ∙ c.if-is_over.false in
-    let k = c.take-t.ensures in
-    turns_next a.bytes.now a.a a.im.now a.zm.now e k (line_next a.bytes.now a.a a.im.now a.zm.now e k) c.trace_line-next.ensures
+    let k = c.take-taken.ensures in
+    turns_next a.bytes.now a.run a.im.now a.zm.now e k (line_next a.bytes.now a.run a.im.now a.zm.now e k) c.trace_line.ensures

@@ -6,24 +6,26 @@ use Rattle.picture.specs.Place.{rows_of}
 use Rattle.picture.specs.Picture.{picture}
 use Rattle.triangle.proofs.draw.divided_pixel.Goals as goal
 
-pub number-i-requires : goal.number-i-requires
-number-i-requires c =
+pub number-requires : goal.number-requires
+number-requires c =
     let a = c.args in
-    let k = c.requires.0 in
-    ready_of a.t a.x a.y a.d _ k.turned k.area k.small c.requires.1 c.edges_at-e.ensures
+    let k = a.facet.sized in
+    ready_of a.facet.corners a.x a.y a.facet.area _ k.turned k.area k.small c.requires.0 c.edges_at-edges.ensures
 
-pub number-z-requires : goal.number-z-requires
-number-z-requires c =
+pub number-requires-2 : goal.number-requires-2
+number-requires-2 c =
     let a = c.args in
-    let k = c.requires.0 in
-    ready_of a.t a.x a.y a.d _ k.turned k.area k.small c.requires.1 c.edges_at-e.ensures
+    let k = a.facet.sized in
+    ready_of a.facet.corners a.x a.y a.facet.area _ k.turned k.area k.small c.requires.0 c.edges_at-edges.ensures
 
 pub returns : goal.returns
 returns c =
     let a = c.args in
-    let t = a.t in
-    let e = c.edges_at-e.ensures in
-    pixel_drawn a.pen (rows_of a.pen.frame (length a.im.now) (length a.zm.now)) t a.x a.y _ _ (picture a.im.now a.zm.now 0) _ c.requires.1
-    (number_told t t.a.i t.b.i t.c.i a.x a.y a.d _ _ c.requires.0.area e c.number-i.ensures)
-    (number_told t t.a.z t.b.z t.c.z a.x a.y a.d _ _ c.requires.0.area e c.number-z.ensures)
-    c.put.ensures
+    let t = a.facet.corners in
+    let e = c.edges_at-edges.ensures in (
+      c.put.ensures.0,
+      pixel_drawn a.pen (rows_of a.pen.frame (length a.m.now.i.now) (length a.m.now.z.now)) t a.x a.y _ _ (picture a.m.now.i.now a.m.now.z.now 0) _ c.requires.0
+          (number_told t t.a.i t.b.i t.c.i a.x a.y a.facet.area _ _ a.facet.sized.area e (rw c.intensities.ensures at c.number.ensures))
+          (number_told t t.a.z t.b.z t.c.z a.x a.y a.facet.area _ _ a.facet.sized.area e (rw c.depths.ensures at c.number-2.ensures))
+          c.put.ensures.1,
+    )

@@ -1,12 +1,10 @@
--- `draw::draw_flat` meets its contract. Its loop keeps that the rows below y are drawn, and which edges bound row y. The measure is the number of rows left.
+-- `draw::draw_flat` meets its contract. Its loop keeps that the rows below y are drawn, and which edges bound row y.
 -- Assumes nothing.
-use Rattle.std.proofs.Common.{◌-◌, true}
+use Rattle.std.proofs.Common.{true}
+use Rattle.picture.specs.Lent.{Same}
 use Rattle.triangle.specs.Loops.{Flanked}
 use Rattle.triangle.proofs.Going.{Going}
 use Rattle.triangle.proofs.draw.draw_flat.Given as goal
 
 abbrev pub invariant-loop-y : goal.invariant-loop-y
-invariant-loop-y l = (Going l.pen true l.t l.initial.im l.initial.zm l.first l.top l.im l.zm l.y l.n) × (Flanked l.t l.y l.f)
-
-abbrev pub decreases-loop-y : goal.decreases-loop-y
-decreases-loop-y l = l.top - l.y
+invariant-loop-y l = (Going l.pen true l.corners l.initial.m.i.now l.initial.m.z.now l.fn.first l.fn.top l.m.i.now l.m.z.now l.y l.passed) × (Same l.initial.m l.m) × (Flanked l.corners l.y l.flanks)

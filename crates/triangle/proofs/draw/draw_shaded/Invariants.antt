@@ -1,12 +1,9 @@
--- `draw::draw_shaded` meets its contract. Its loop keeps that the rows below y are drawn, and that what is carried from row to row is that of row y. The measure
--- is the number of rows left. Assumes nothing.
-use Rattle.std.proofs.Common.{◌-◌}
+-- `draw::draw_shaded` meets its contract. Its loop keeps that the rows below y are drawn, and that what is carried from row to row is that of row y. Assumes
+-- nothing.
+use Rattle.picture.specs.Lent.{Same}
 use Rattle.triangle.specs.Loops.{Rises}
 use Rattle.triangle.proofs.Going.{Going}
 use Rattle.triangle.proofs.draw.draw_shaded.Given as goal
 
 abbrev pub invariant-loop-y : goal.invariant-loop-y
-invariant-loop-y l = (Going l.pen l.constant l.t l.initial.im l.initial.zm l.first l.top l.im l.zm l.y l.n) × (Rises l.t l.y l.w)
-
-abbrev pub decreases-loop-y : goal.decreases-loop-y
-decreases-loop-y l = l.top - l.y
+invariant-loop-y l = (Going l.brush.pen l.brush.constant l.facet.corners l.initial.m.i.now l.initial.m.z.now l.fn.first l.fn.top l.m.i.now l.m.z.now l.y l.passed) × (Same l.initial.m l.m) × (Rises l.facet.corners l.y l.rising)

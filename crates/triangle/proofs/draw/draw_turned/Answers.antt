@@ -4,16 +4,17 @@ use Rattle.picture.specs.Place.{rows_of}
 use Rattle.triangle.proofs.Turning.{lowest_lowest, lowest_turned, lowest_area, lowest_offers}
 use Rattle.triangle.proofs.draw.draw_turned.Goals as goal
 
+pub invariant_of-lowest : goal.invariant_of-lowest
+invariant_of-lowest c =
+    let t = c.args.facet.corners in
+    let k = c.args.facet.sized in
+    rw c.lowest_first.ensures (record { sized = record { turned = lowest_turned t k.turned; area = k.area ∙ lowest_area t; small = k.small } })
+
 pub draw_lowest-requires : goal.draw_lowest-requires
-draw_lowest-requires c =
-    let t = c.args.t in
-    rw c.lowest_first.ensures (
-      record { turned = lowest_turned t c.requires.turned; area = c.requires.area ∙ lowest_area t; small = c.requires.small },
-      lowest_lowest t,
-    )
+draw_lowest-requires c = rw c.lowest_first.ensures (lowest_lowest c.args.facet.corners)
 
 pub returns : goal.returns
 returns c =
     let a = c.args in
-    let rows = rows_of a.pen.frame (length a.im.now) (length a.zm.now) in
-    rw (sym (lowest_offers a.t a.pen rows a.constant)) (rw c.lowest_first.ensures at c.draw_lowest.ensures)
+    let rows = rows_of a.pen.frame (length a.m.now.i.now) (length a.m.now.z.now) in
+    (c.draw_lowest.ensures.0, rw (sym (lowest_offers a.facet.corners a.pen rows a.constant)) (rw c.lowest_first.ensures at c.draw_lowest.ensures.1))

@@ -1,5 +1,5 @@
 -- `draw::flat_row` meets its contract: the covered columns with the completing vertex's numbers are the row. Assumes nothing.
-use Rattle.std.proofs.Common.{true, List, length, sym, ap, ◌∙◌, arith}
+use Rattle.std.proofs.Common.{true, List, length, sym, refl, ap, ◌∙◌, arith}
 use Rattle.picture.specs.declared.Kind.TheVariants.{Constant}
 use Rattle.picture.specs.Draw.{steady_of}
 use Rattle.picture.specs.Place.{rows_of}
@@ -11,23 +11,27 @@ use Rattle.triangle.specs.Offers.{pixel_at}
 use Rattle.triangle.proofs.Rows.{row_span, row_empty}
 use Rattle.triangle.proofs.draw.flat_row.Goals as goal
 
-pub returns-then-s : goal.returns-then-s
+pub returns-in-Some : goal.returns-in-Some
 unfolding pixel_at
-returns-then-s c =
+returns-in-Some c =
     let a = c.args in
-    let rows = rows_of a.pen.frame (length a.im.now) (length a.zm.now) in
-    let p = picture a.im.now a.zm.now 0 in
-    let k = c.spanned-s in
-    let i = steady_of a.t.last.i in
-    let z = steady_of a.t.last.z in
-    rw c.requires.0.rows at c.span_steady.ensures
-    ∙ sym (plain_span a.pen Constant c.requires.0.plain rows k.result.lo k.result.hi a.y i z p)
-    ∙ ap (λ (os : List Offer). drawn a.pen os p)
-    (row_span a.pen rows true a.t a.y k.result k.ensures c.requires.3 c.if-s.true i z
-    (λ j l. (steady_at a.t.last.i j (omega (arith, c.well_formed.1.0)), steady_at a.t.last.z j (omega (arith, c.well_formed.1.0)))))
+    let rows = rows_of a.pen.frame (length a.m.now.i.now) (length a.m.now.z.now) in
+    let p = picture a.m.now.i.now a.m.now.z.now 0 in
+    let s = c.in-Some.span in
+    let i = steady_of a.corners.last.i in
+    let z = steady_of a.corners.last.z in (
+      c.span_steady.ensures.0,
+      rw c.requires.0.rows at c.span_steady.ensures.1
+          ∙ sym (plain_span a.pen Constant c.requires.0.plain rows s.lo s.hi a.y i z p)
+          ∙ ap (λ (os : List Offer). drawn a.pen os p)
+          (row_span a.pen rows true a.corners a.y s.lo s.hi c.in-Some.ensures c.requires.3 s.some i z
+          (λ j l. (steady_at a.corners.last.i j (omega arith), steady_at a.corners.last.z j (omega arith)))),
+    )
 
-pub returns : goal.returns
-returns c =
-    let a = c.args in
-    row_empty a.pen (rows_of a.pen.frame (length a.im.now) (length a.zm.now)) true a.t a.y _
-    c.spanned-s.ensures (omega (arith, c.if-s.false)) (picture a.im.now a.zm.now 0)
+pub returns-in-None : goal.returns-in-None
+returns-in-None c =
+    let a = c.args in (
+      (refl, refl),
+      row_empty a.pen (rows_of a.pen.frame (length a.m.now.i.now) (length a.m.now.z.now)) true a.corners a.y 0 0
+          c.in-None.ensures (omega arith) (picture a.m.now.i.now a.m.now.z.now 0),
+    )

@@ -1,8 +1,0 @@
--- `digits::is_digit` meets its contract: the same test. Assumes nothing.
-use mathlib.Core.Path.{refl}
-use Rattle.console.specs.Digits.{is_digit}
-use Rattle.console.proofs.digits.is_digit.Goals as goal
-
-pub returns : goal.returns
-unfolding is_digit
-returns c = refl

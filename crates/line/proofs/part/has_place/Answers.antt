@@ -1,8 +1,0 @@
--- `part::has_place` meets its contract. Assumes nothing.
-use Rattle.std.proofs.Common.{refl}
-use Rattle.line.specs.Part.{has_place}
-use Rattle.line.proofs.part.has_place.Goals as goal
-
-pub returns : goal.returns
-unfolding has_place
-returns c = refl

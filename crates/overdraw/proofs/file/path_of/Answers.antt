@@ -1,7 +1,0 @@
--- `file::path_of` is safe: digits are text. Assumes nothing.
-use Rattle.std.proofs.lemmas.Str.{IsUtf8-from_ascii}
-use Rattle.std.proofs.Common.{rules}
-use Rattle.overdraw.proofs.file.path_of.Goals as goal
-
-pub unwrap-requires : goal.unwrap-requires
-unwrap-requires c = search (rules, IsUtf8-from_ascii _ c.requires)
