@@ -18,14 +18,17 @@ use Rattle.show.specs.declared.Usage.TheVariants.{TooMany, Unclear}
 
 -- ---- a number of places
 
+-- no places are unclear
 pub counted_none : {n : ℕ} → n ≡ 0 → Err Unclear ≡ counted n
 unfolding counted
 counted_none e = rw e
 
+-- as many as a memory may have are what they are
 pub counted_some : {n : ℕ} → 1 ≤ n → n ≤ 1048576 → Ok n ≡ counted n
 unfolding counted
 counted_some {n} h k = rw (ne_eqb n 0 (λ e. omega (arith, h, e)), le-ltb 1048576 n k)
 
+-- more are too many
 pub counted_many : {n : ℕ} → 1048576 < n → Err TooMany ≡ counted n
 unfolding counted
 counted_many {n} h = rw (ne_eqb n 0 (λ e. omega (arith, h, e)), lt-ltb 1048576 n h)

@@ -55,6 +55,7 @@ unfolding raised
 raised_high a false height rows h = h
 raised_high a true height rows h = either High (ltb (risen a) height) (λ e. omega (arith, ltb-true (risen a) height e)) (λ e. h)
 
+-- what a stream's first words reach above has a height above 0
 pub reached_high : (places : ℕ) (bytes : List ℕ) (n : ℕ) → High (reached places bytes n).above
 unfolding reached onward
 reached_high places bytes zero = tt

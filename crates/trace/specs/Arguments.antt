@@ -1,5 +1,6 @@
 -- What the arguments of the program ask for: `trace`, or `trace X Y`.
-use Rattle.std.specs.Prelude.{ℕ, min, cond, List, length, ltb, eqb, Option, None, Some, Result, Ok, Err}
+use Rattle.std.specs.Prelude.{ℕ, ◌+◌, min, cond, List, length, ltb, eqb, Option, None, Some, Result, Ok, Err}
+use Rattle.picture.specs.Limits.{largest_coordinate}
 use Rattle.console.specs.Digits.{digits_only, value_of}
 use Rattle.tracing.specs.declared.pixel.Pixel.{Pixel}
 use Rattle.trace.specs.declared.Usage.{Usage}
@@ -7,11 +8,11 @@ use Rattle.trace.specs.declared.Usage.TheVariants.{Unclear}
 
 -- a number, if it may be a coordinate
 abbrev pub within : ℕ → Option ℕ
-within n = cond (ltb 16383 n) None (Some n)
+within n = cond (ltb largest_coordinate n) None (Some n)
 
 -- the coordinate that an argument tells, if it tells one
 unfoldable pub coordinate_of : List ℕ → Option ℕ
-coordinate_of arg = cond (eqb (length arg) 0) None (cond (digits_only arg) (within (min (value_of 0 arg) 16384)) None)
+coordinate_of arg = cond (eqb (length arg) 0) None (cond (digits_only arg) (within (min (value_of 0 arg) (largest_coordinate + 1))) None)
 
 -- the pixel that two coordinates name
 abbrev pub pixel_of : Option ℕ → Option ℕ → Result (Option Pixel) Usage

@@ -4,6 +4,7 @@ ghost use Rattle.trace.specs.Arguments.{coordinate_of, asked_of};
 
 use crate::Usage;
 use console::digits::{digits_only, value};
+use picture::limits::LARGEST_COORDINATE;
 use tracing::Pixel;
 
 // The coordinate that an argument tells.
@@ -16,8 +17,8 @@ fn coordinate(arg: &[u8]) -> Option<u16>
     if !digits_only(arg) {
         return None;
     }
-    let n = value(arg, 16384);
-    if 16383 < n {
+    let n = value(arg, LARGEST_COORDINATE as u32 + 1);
+    if n > LARGEST_COORDINATE as usize {
         return None;
     }
     Some(n as u16)

@@ -9,13 +9,32 @@ pub put_columns-requires-2-clause-width_in_bounds : goal.put_columns-requires-2-
 put_columns-requires-2-clause-width_in_bounds c = let n = c.args.c in room_after _ c.put_columns.ensures (omega (arith, c.requires.at_in_bounds, length_columns 8 n.figures))
 
 pub put_columns-requires-3-clause-width_in_bounds : goal.put_columns-requires-3-clause-width_in_bounds
-put_columns-requires-3-clause-width_in_bounds c = let n = c.args.c in room_after _ c.put_columns-2.ensures (room_after _ c.put_columns.ensures (omega (arith, c.requires.at_in_bounds, length_columns 8 n.figures, length_columns 16 n.offered)))
+put_columns-requires-3-clause-width_in_bounds c =
+    let n = c.args.c in
+    let figures = length_columns 8 n.figures in
+    let offered = length_columns 16 n.offered in
+    let behind_one = room_after _ c.put_columns.ensures (omega (arith, c.requires.at_in_bounds, figures, offered)) in
+    room_after _ c.put_columns-2.ensures behind_one
 
 pub put_columns-requires-4-clause-width_in_bounds : goal.put_columns-requires-4-clause-width_in_bounds
-put_columns-requires-4-clause-width_in_bounds c = let n = c.args.c in room_after _ c.put_columns-3.ensures (room_after _ c.put_columns-2.ensures (room_after _ c.put_columns.ensures (omega (arith, c.requires.at_in_bounds, length_columns 8 n.figures, length_columns 16 n.offered, length_columns 16 n.passed))))
+put_columns-requires-4-clause-width_in_bounds c =
+    let n = c.args.c in
+    let figures = length_columns 8 n.figures in
+    let offered = length_columns 16 n.offered in
+    let passed = length_columns 16 n.passed in
+    let behind_one = room_after _ c.put_columns.ensures (omega (arith, c.requires.at_in_bounds, figures, offered, passed)) in
+    room_after _ c.put_columns-3.ensures (room_after _ c.put_columns-2.ensures behind_one)
 
 pub put_columns-requires-5-clause-width_in_bounds : goal.put_columns-requires-5-clause-width_in_bounds
-put_columns-requires-5-clause-width_in_bounds c = let n = c.args.c in room_after _ c.put_columns-4.ensures (room_after _ c.put_columns-3.ensures (room_after _ c.put_columns-2.ensures (room_after _ c.put_columns.ensures (omega (arith, c.requires.at_in_bounds, length_columns 8 n.figures, length_columns 16 n.offered, length_columns 16 n.passed, length_columns 16 n.hidden)))))
+put_columns-requires-5-clause-width_in_bounds c =
+    let n = c.args.c in
+    let figures = length_columns 8 n.figures in
+    let offered = length_columns 16 n.offered in
+    let passed = length_columns 16 n.passed in
+    let hidden = length_columns 16 n.hidden in
+    let behind_one = room_after _ c.put_columns.ensures (omega (arith, c.requires.at_in_bounds, figures, offered, passed, hidden)) in
+    let behind_two = room_after _ c.put_columns-2.ensures behind_one in
+    room_after _ c.put_columns-4.ensures (room_after _ c.put_columns-3.ensures behind_two)
 
 pub returns : goal.returns
 unfolding numbers

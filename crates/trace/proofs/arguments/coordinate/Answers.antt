@@ -2,6 +2,7 @@
 use mathlib.Core.Path.{◌≡◌, sym, ◌∙◌}
 use mathlib.Core.Bool.{true, false}
 use borrow.Author.Tests.{lt-ltb, le-ltb}
+use Rattle.picture.specs.Limits.{largest_coordinate}
 use Rattle.trace.specs.Arguments.{coordinate_of}
 use Rattle.trace.proofs.arguments.coordinate.Goals as goal
 
@@ -15,14 +16,14 @@ returns-then-not-digits_only c =
     let digits : c.digits_only.result ≡ false = c.if-not-digits_only.true in
     rw (sym c.is_empty.ensures ∙ c.if-is_empty.false, sym c.digits_only.ensures ∙ digits)
 
-pub returns-then-n-gt16383 : goal.returns-then-n-gt16383
+pub returns-then-n : goal.returns-then-n
 unfolding coordinate_of
-returns-then-n-gt16383 c =
+returns-then-n c =
     let digits : c.digits_only.result ≡ true = c.if-not-digits_only.false in
-    rw (sym c.is_empty.ensures ∙ c.if-is_empty.false, sym c.digits_only.ensures ∙ digits, ← c.value-n.ensures, lt-ltb 16383 c.value-n.result c.if-n-gt16383.true)
+    rw (sym c.is_empty.ensures ∙ c.if-is_empty.false, sym c.digits_only.ensures ∙ digits, ← c.value-n.ensures, lt-ltb largest_coordinate c.value-n.result c.if-n.true)
 
 pub returns : goal.returns
 unfolding coordinate_of
 returns c =
     let digits : c.digits_only.result ≡ true = c.if-not-digits_only.false in
-    rw (sym c.is_empty.ensures ∙ c.if-is_empty.false, sym c.digits_only.ensures ∙ digits, ← c.value-n.ensures, le-ltb 16383 c.value-n.result c.if-n-gt16383.false)
+    rw (sym c.is_empty.ensures ∙ c.if-is_empty.false, sym c.digits_only.ensures ∙ digits, ← c.value-n.ensures, le-ltb largest_coordinate c.value-n.result c.if-n.false)
