@@ -76,6 +76,16 @@ module _ (n m width rows : ℕ) where
       go true false z = refl
       go false b z = refl
 
+  -- the number of what is wrong is at most 9
+  pub flaw_small : checked n m width rows 0 ≤ 9
+  unfolding checked
+  flaw_small = go (eqb n m) (good_size n width rows)
+    where
+      go : (a b : Bool) → cond a (cond b 0 9) 2 ≤ 9
+      go true true = omega arith
+      go true false = omega arith
+      go false b = omega arith
+
 -- ---- answers
 
 module _ (value : ℕ) (result lent : List ℕ) where
@@ -108,13 +118,18 @@ five = refl
 
 module _ (old new : List ℕ) (width rows : ℕ) (out : List ℕ) where
   -- listing tells 2 ^ 63 plus the number of what is wrong with the pictures, and leaves the output as it was
-  pub list_flawed : (refusal : Refusal) → number refusal ≡ checked (length old) (length new) width rows 0
-      → answer (2 ^ 63 + number refusal) out ≡ listing old new width rows out
+  pub list_flawed : {number : ℕ} → number ≡ checked (length old) (length new) width rows 0 → (number ≡ 0 → ⊥)
+      → answer (2 ^ 63 + number) out ≡ listing old new width rows out
   unfolding listing
-  list_flawed refusal e =
+  list_flawed {number} e h =
       let list = listed old new width rows in
-      let f = flaw_told (length old) (length new) width rows (no_room list out) (λ z. omega (arith, number_positive refusal, e, z)) in
-      rw (f, ← e) (refused (length list) (over list out) out (number refusal) (λ z. omega (arith, number_positive refusal, z)))
+      let f = flaw_told (length old) (length new) width rows (no_room list out) (λ z. h (e ∙ z)) in
+      rw (f, ← e) (refused (length list) (over list out) out number h)
+
+  -- so of the refusal that has that number
+  pub list_refused : (refusal : Refusal) → number refusal ≡ checked (length old) (length new) width rows 0
+      → answer (2 ^ 63 + number refusal) out ≡ listing old new width rows out
+  list_refused refusal e = list_flawed e (λ z. omega (arith, number_positive refusal, z))
 
   module _ (good : checked (length old) (length new) width rows 0 ≡ 0) where
     -- where the output has fewer places than there are squares, listing tells 2 ^ 63 + 13 and leaves the output as it was
@@ -150,12 +165,17 @@ module _ (list new : List ℕ) (width rows : ℕ) (view : List ℕ) where
   corners = map corner_of list
 
   -- copying tells 2 ^ 63 plus the number of what is wrong with the pictures, and leaves the view as it was
-  pub copy_flawed : (refusal : Refusal) → number refusal ≡ checked (length view) (length new) width rows 0
-      → answer (2 ^ 63 + number refusal) view ≡ copying list new width rows view
+  pub copy_flawed : {number : ℕ} → number ≡ checked (length view) (length new) width rows 0 → (number ≡ 0 → ⊥)
+      → answer (2 ^ 63 + number) view ≡ copying list new width rows view
   unfolding copying
-  copy_flawed refusal e =
-      let f = flaw_told (length view) (length new) width rows (cond (are_squares width rows corners) 0 9) (λ z. omega (arith, number_positive refusal, e, z)) in
-      rw (f, ← e) (refused (length list) (copy_squares width new view corners) view (number refusal) (λ z. omega (arith, number_positive refusal, z)))
+  copy_flawed {number} e h =
+      let f = flaw_told (length view) (length new) width rows (cond (are_squares width rows corners) 0 9) (λ z. h (e ∙ z)) in
+      rw (f, ← e) (refused (length list) (copy_squares width new view corners) view number h)
+
+  -- so of the refusal that has that number
+  pub copy_refused : (refusal : Refusal) → number refusal ≡ checked (length view) (length new) width rows 0
+      → answer (2 ^ 63 + number refusal) view ≡ copying list new width rows view
+  copy_refused refusal e = copy_flawed e (λ z. omega (arith, number_positive refusal, z))
 
   module _ (good : checked (length view) (length new) width rows 0 ≡ 0) where
     -- where one of the list is no square of the picture, copying tells 2 ^ 63 + 9 and leaves the view as it was

@@ -7,14 +7,14 @@ use Rattle.std.proofs.lemmas.Result.{err_from_is_err_and}
 use Rattle.squares.specs.Change.{differs}
 use Rattle.squares.specs.Calls.{listed}
 use Rattle.squares.proofs.Few.{few}
-use Rattle.squares.proofs.Calls.{sized, five, list_flawed, list_short, list_done}
+use Rattle.squares.proofs.Calls.{sized, five, list_refused, list_short, list_done}
 use Rattle.squares.proofs.list_squares.Goals as goal
 
 pub returns-in_err-checked : goal.returns-in_err-checked
 returns-in_err-checked c =
     let a = c.args in
     let p = err_from_is_err_and c.from_residual.result c.from_residual.ensures.1 in
-    rw (p.1, p.2) (list_flawed a.old.now a.new.now a.size.width a.size.rows a.out.now _ c.in_err-checked.ensures)
+    rw (p.1, p.2) (list_refused a.old.now a.new.now a.size.width a.size.rows a.out.now _ c.in_err-checked.ensures)
 
 pub invariant_of-quarter : goal.invariant_of-quarter
 invariant_of-quarter c =
