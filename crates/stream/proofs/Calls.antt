@@ -57,6 +57,16 @@ good s next = go (bad_length s) (bad_tail s)
 pub good_told : (s : List ℕ) (next : ℕ) → checked s 0 ≡ 0 → checked s next ≡ next
 good_told s next e = let g = good s 0 e in next_told s next g.0 g.1
 
+-- the number of what is wrong with a stream is at most 12
+pub flaw_small : (s : List ℕ) → checked s 0 ≤ 12
+unfolding checked
+flaw_small s = go (bad_length s) (bad_tail s)
+  where
+    go : (a b : Bool) → cond a 11 (cond b 12 0) ≤ 12
+    go true b = omega arith
+    go false true = omega arith
+    go false false = omega arith
+
 -- a result that is longer than the output is refused with 13
 pub no_room_lem : (result out : List ℕ) → length out < length result → no_room result out ≡ 13
 unfolding no_room
@@ -144,10 +154,14 @@ module _ (s : List ℕ) where
   unfolding word_count entry
   count_good e = rw e
 
-  -- the count of a stream with something wrong is what its refusal tells
-  pub count_flaw : (refusal : Refusal) → number refusal ≡ checked s 0 → 2 ^ 63 + number refusal ≡ word_count s
-  unfolding word_count
-  count_flaw refusal e = sym (entry_refused refusal (length (unpack_of s))) ∙ ap (λ (n : ℕ). entry n (length (unpack_of s))) e
+  -- the count of a stream with something wrong is 2 ^ 63 plus the number of that
+  pub count_flaw : (checked s 0 ≡ 0 → ⊥) → word_count s ≡ 2 ^ 63 + checked s 0
+  unfolding word_count entry
+  count_flaw e = rw (ne_eqb (checked s 0) 0 e)
+
+  -- which is what its refusal tells
+  pub count_refused : (refusal : Refusal) → number refusal ≡ checked s 0 → 2 ^ 63 + number refusal ≡ word_count s
+  count_refused refusal e = ap (λ (n : ℕ). 2 ^ 63 + n) e ∙ sym (count_flaw (λ z. omega (arith, number_positive refusal, e, z)))
 
   module _ (k : ℕ) where
     -- at a place before its end, the entry tells a good stream's word there
@@ -160,19 +174,23 @@ module _ (s : List ℕ) where
     unfolding word_entry entry
     word_past e h = rw (le-ltb k (length (unpack_of s)) h, good_told s 13 e)
 
-    -- of a stream with something wrong, the entry tells what its refusal tells
-    pub word_flaw : (refusal : Refusal) → number refusal ≡ checked s 0 → 2 ^ 63 + number refusal ≡ word_entry s k
-    unfolding word_entry
-    word_flaw refusal e =
-        let next : ℕ = cond (ltb k (length (unpack_of s))) 0 13 in
-        let some : checked s 0 ≡ 0 → ⊥ = (λ z. omega (arith, number_positive refusal, e, z)) in
-        sym (entry_refused refusal (word_at s k))
-        ∙ ap (λ (n : ℕ). entry n (word_at s k)) (e ∙ sym (flaw_told s next some))
+    -- of a stream with something wrong, the entry tells 2 ^ 63 plus the number of that
+    pub word_flaw : (checked s 0 ≡ 0 → ⊥) → word_entry s k ≡ 2 ^ 63 + checked s 0
+    unfolding word_entry entry
+    word_flaw e = rw (flaw_told s (cond (ltb k (length (unpack_of s))) 0 13) e, ne_eqb (checked s 0) 0 e)
+
+    -- which is what its refusal tells
+    pub word_refused : (refusal : Refusal) → number refusal ≡ checked s 0 → 2 ^ 63 + number refusal ≡ word_entry s k
+    word_refused refusal e = ap (λ (n : ℕ). 2 ^ 63 + n) e ∙ sym (word_flaw (λ z. omega (arith, number_positive refusal, e, z)))
 
 -- what packing or unpacking comes to, as an entry gives it
-pub answer_told : (r : Result ℕ Refusal) {n : ℕ} {left : List ℕ} {o : Outcome} → coded_told r left ≡ o → n ≡ encoded r → answer n left ≡ answered o
+pub answer_told : {o : Outcome} {number size r : ℕ} {left : List ℕ} → record { refusal = number; size = size; left = left } ≡ o → r ≡ entry number size → answer r left ≡ answered o
 unfolding answered
-answer_told r {left = left} e f = ap (λ (m : ℕ). answer m left) (f ∙ encoded_entry r) ∙ ap answered e
+answer_told {left = left} e f = ap (λ (n : ℕ). answer n left) f ∙ ap answered e
+
+-- the same of an answer as one number
+pub encoded_told : (r : Result ℕ Refusal) {n : ℕ} {left : List ℕ} {o : Outcome} → coded_told r left ≡ o → n ≡ encoded r → answer n left ≡ answered o
+encoded_told r e f = answer_told e (f ∙ encoded_entry r)
 
 -- ---- what is told to be written fits the output
 

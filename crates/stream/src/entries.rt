@@ -8,7 +8,7 @@ use crate::write::pack;
 use ground::{Refusal, encoded};
 
 // How many words a packed stream holds, or why it is none.
-#[tactic(auto, using(crate::proofs::Calls::count_flaw, crate::proofs::Calls::count_good), unfolding(crate::specs::Calls::entry))]
+#[tactic(auto, using(crate::proofs::Calls::count_refused, crate::proofs::Calls::count_good), unfolding(crate::specs::Calls::entry))]
 fn count(bytes: &[u8]) -> Result<usize, Refusal>
     ensures { encoded result ≡ word_count bytes.now }
 {
@@ -17,7 +17,7 @@ fn count(bytes: &[u8]) -> Result<usize, Refusal>
 }
 
 // The word at place k of a packed stream, counted from 0, or why there is none.
-#[tactic(auto, using(crate::proofs::Calls::word_flaw, crate::proofs::Calls::word_past, crate::proofs::Calls::word_good), unfolding(crate::specs::Calls::entry))]
+#[tactic(auto, using(crate::proofs::Calls::word_refused, crate::proofs::Calls::word_past, crate::proofs::Calls::word_good), unfolding(crate::specs::Calls::entry))]
 fn find(bytes: &[u8], k: usize) -> Result<usize, Refusal>
     ensures { encoded result ≡ word_entry bytes.now k }
 {

@@ -1,6 +1,7 @@
--- `entries::dextolumen_pack` meets its contract: it gives on what `write::pack` answers. Assumes nothing.
-use Rattle.stream.proofs.Calls.{answer_told}
+-- `entries::dextolumen_pack` meets its contract: what it encodes is what `write::pack` answers. Assumes nothing.
+use Rattle.std.proofs.Common.{arith}
+use Rattle.stream.proofs.Calls.{encoded_told}
 use Rattle.stream.proofs.entries.dextolumen_pack.Goals as goal
 
 pub returns : goal.returns
-returns c = answer_told _ c.pack.ensures c.encoded.ensures
+returns c = encoded_told c.pack.result c.pack.ensures (grind arith)

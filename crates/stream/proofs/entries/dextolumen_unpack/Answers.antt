@@ -1,6 +1,7 @@
--- `entries::dextolumen_unpack` meets its contract: it gives on what `read::unpack` answers. Assumes nothing.
-use Rattle.stream.proofs.Calls.{answer_told}
+-- `entries::dextolumen_unpack` meets its contract: what it encodes is what `read::unpack` answers. Assumes nothing.
+use Rattle.std.proofs.Common.{arith}
+use Rattle.stream.proofs.Calls.{encoded_told}
 use Rattle.stream.proofs.entries.dextolumen_unpack.Goals as goal
 
 pub returns : goal.returns
-returns c = answer_told _ c.unpack.ensures c.encoded.ensures
+returns c = encoded_told c.unpack.result c.unpack.ensures (grind arith)
