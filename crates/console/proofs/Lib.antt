@@ -2,3 +2,4 @@
 pub mod Settled
 pub mod Front
 pub mod Arguments
+pub mod Ascii

@@ -1,8 +1,7 @@
-// What is said to whoever started the program, line by line on standard error. Whether it is read no contract can say, so that nothing is answered; the
-// text that is lent stays.
-ghost use Rattle.std.specs.Prelude.{◌≡◌, ◌≤◌, length};
+// What is said to whoever started the program, line by line on standard error. Whether it is read no contract can say, so that nothing is answered. What is
+// said comes by value: a text, which lends its bytes by `&`, so that they stay by its type; bytes, as `Ascii`; or what `format_args!` puts together.
+ghost use Rattle.std.specs.Prelude.{◌≤◌, length, Some, encode_utf8_all};
 
-use ground::Refusal;
 use std::fmt::{Display, Write};
 use std::io::{Eprint, Error, Print};
 use std::{fmt, io};
@@ -14,10 +13,7 @@ pub fn say(rt: &impl Eprint, line: impl Display + Drop) {
 
 // That a program met a word which is refused: the number that refuses it, and its index. (The number is all that is ever printed of a refusal, so that no `Display` of it would
 // be plainer than `u64::from`.)
-pub fn say_refused(rt: &impl Eprint, program: &str, refusal: Refusal, word: u64)
-    ensures { program.now ≡ program.now }
-{
-    let number = u64::from(refusal);
+pub fn say_refused(rt: &impl Eprint, program: impl Display + Drop, number: u64, word: u64) {
     say(
         rt,
         format_args!("{program}: refusal {number} at word {word}"),
@@ -25,19 +21,23 @@ pub fn say_refused(rt: &impl Eprint, program: &str, refusal: Refusal, word: u64)
 }
 
 // Prints the number that refuses what a program was given, and says it as well.
-pub fn refuse(rt: &(impl Print + Eprint), program: &str, refusal: Refusal) -> io::Result<()>
-    ensures { program.now ≡ program.now }
-{
-    let number = u64::from(refusal);
+pub fn refuse(
+    rt: &(impl Print + Eprint),
+    program: impl Display + Drop,
+    number: u64,
+) -> io::Result<()> {
     say(rt, format_args!("{program}: refusal {number}"));
     println!(rt; "refusal {number}")
 }
 
-// Bytes that are letters, digits and signs of ASCII, as text.
+// Bytes as text: those of ASCII as they are. A byte above 127 becomes the character of its number, of two bytes in UTF-8: what is displayed is text, and std has no
+// way by which a `Display` or an `Eprint` puts a byte that is none.
 #[derive(Clone, Copy)]
 pub struct Ascii<'a>(pub &'a [u8]);
 
 impl<'a> Display for Ascii<'a> {
+    ghost output = { λ bytes. Some (encode_utf8_all bytes.0.now) };
+
     fn fmt<W: fmt::Write>(&self, f: &mut fmt::Formatter<W>) -> fmt::Result {
         for byte in self.0 {
             f.write_char(char::from(*byte))?;
@@ -78,9 +78,7 @@ fn bare(text: &[u8]) -> &[u8]
 }
 
 // That something failed, and why: what it is, a colon and the system's text.
-pub fn fail(rt: &impl Eprint, what: &str, error: Error)
-    ensures { what.now ≡ what.now }
-{
+pub fn fail(rt: &impl Eprint, what: impl Display + Drop, error: Error) {
     let mut why = Front {
         text: [0; 64],
         size: 0,
@@ -92,9 +90,7 @@ pub fn fail(rt: &impl Eprint, what: &str, error: Error)
 }
 
 // That something failed, and why, if it did.
-pub fn tell(rt: &impl Eprint, what: &str, done: io::Result<()>)
-    ensures { what.now ≡ what.now }
-{
+pub fn tell(rt: &impl Eprint, what: impl Display + Drop, done: io::Result<()>) {
     if let Err(error) = done {
         fail(rt, what, error);
     }

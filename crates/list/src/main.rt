@@ -36,7 +36,7 @@ fn print_listing(rt: &(impl Print + Eprint), bytes: &[u8]) -> io::Result<()> {
     let mut words = words();
     match unpack(bytes, &mut words) {
         Ok(n) => print_words(rt, &words[..n]),
-        Err(refusal) => refuse(rt, "list", refusal),
+        Err(refusal) => refuse(rt, "list", u64::from(refusal)),
     }
 }
 

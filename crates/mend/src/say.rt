@@ -7,16 +7,15 @@ use listing::write::list;
 use mending::Mended;
 use stream::read::word;
 
-// The line of a dropped word: the number that refuses it, and the line that `list` prints of it, which ends with its own end.
+// The line of a dropped word: the number that refuses it, and the line that `list` prints of it, without its end, which `say` puts.
 fn say_dropped(rt: &impl Eprint, number: u8, index: u64, word: u32)
     requires { index < 4294967296 }
 {
     let mut line = [0u8; 26];
-    // A line has 26 bytes, so that it fits.
+    // A line has 26 bytes, its end the last, so that it fits.
     let _ = list(index as u32, &[word], &mut line);
-    let text = Ascii(&line);
-    // Whether it is read no contract can say.
-    let _ = eprint!(rt; "refusal {number} {text}");
+    let text = Ascii(&line[..25]);
+    say(rt, format_args!("refusal {number} {text}"));
 }
 
 // The lines of all words that were dropped.

@@ -41,9 +41,13 @@ pub(crate) fn find(rt: &impl Files, k: u64, bytes: &mut [u8]) -> Result<usize, L
     take_from(&mut file, bytes).map_err(Lost::Unreadable)
 }
 
-// Says that the file with number k cannot be read, and why. (`fail` takes a text that stands, so that the name is laid into one.)
+// Says that the file with number k cannot be read, and why.
 pub(crate) fn say_unread(rt: &impl Eprint, k: u64, error: Error) {
-    let mut what = *b"overdraw: no totals: cannot read 000";
-    what[33..].copy_from_slice(&name_of(k)[..3]);
-    fail(rt, text_of(&what), error);
+    let name = name_of(k);
+    let path = text_of(&name[..3]);
+    fail(
+        rt,
+        format_args!("overdraw: no totals: cannot read {path}"),
+        error,
+    );
 }

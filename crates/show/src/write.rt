@@ -130,7 +130,7 @@ pub(crate) fn write_drawn(
             );
             return Ok(());
         }
-        say_refused(rt, "show", refusal, end.index);
+        say_refused(rt, "show", u64::from(refusal), end.index);
     }
     if end.registers.started == 0 {
         say(rt, "show: no image, since no INIT was accepted");

@@ -78,7 +78,7 @@ fn tell(rt: &impl Eprint, printed: io::Result<()>) {
 // Traces a stream on fresh memories, or prints the number that refuses it, which is no line of a word, so that nothing takes it for the trace of an empty recording.
 fn print_stream(rt: &(impl Print + Eprint), pixel: Option<Pixel>, bytes: &[u8]) {
     if let Err(refusal) = checked(bytes) {
-        tell(rt, refuse(rt, "trace", refusal));
+        tell(rt, refuse(rt, "trace", u64::from(refusal)));
         return;
     }
     let mut im = blank(0);
@@ -86,7 +86,7 @@ fn print_stream(rt: &(impl Print + Eprint), pixel: Option<Pixel>, bytes: &[u8]) 
     let (run, printed) = print_words(rt, pixel, bytes, &mut im, &mut zm);
     tell(rt, printed);
     if let Err(refusal) = run.outcome {
-        say_refused(rt, "trace", refusal, run.index);
+        say_refused(rt, "trace", u64::from(refusal), run.index);
     }
 }
 
