@@ -3,8 +3,8 @@ ghost use Rattle.std.specs.Prelude.{◌≡◌, ◌+◌, ◌*◌, ◌<◌, take, 
 ghost use Rattle.report.specs.Calls.{Adds, Lays, Room};
 ghost use Rattle.listing.specs.Trace.{meanings, meaning_name, share, meaning_text, number_text, answer_text, traced_text, numbers_text, trace_line, watch_line};
 
-use crate::write::{put_name, put_word};
-use report::{Page, has_room};
+use crate::write::{put_digits, put_name, put_text, put_word};
+use report::{Base, Page, has_room};
 
 // What a word means: a row of the table of meanings, and which of how many parameters it is, 0 of 0 where there are none. The row is a number: up to 15
 // it is AUX's own, and IMG's behind those, so that an enum of 32 rows would be made of numbers only to be told by them again. Its two numbers are no flag with a value: a subcommand may want no
@@ -34,8 +34,8 @@ pub struct Numbers {
     pub z: u16,
 }
 
-// The meanings, each in twelve columns, in the order of their rows.
-const MEANINGS: [[u8; 12]; 32] = [
+// The meanings, each in twelve columns, in the order of their rows. (A static, as the names of write.rt.)
+static MEANINGS: [[u8; 12]; 32] = [
     *b" PMODE      ",
     *b" LMODE      ",
     *b" IMODE      ",
@@ -85,7 +85,7 @@ fn put_row(row: u64, page: &mut Page<'_>)
     requires { Room 12 page.old }
     ensures { Adds (meaning_name row) page.old page.new }
 {
-    page.put_bytes(&meaning_at((row % 32) as usize));
+    put_text(&meaning_at((row % 32) as usize), page);
 }
 
 // Puts which of how many parameters it is.
@@ -94,12 +94,12 @@ fn put_share(came: u64, wanted: u64, page: &mut Page<'_>)
     ensures { Adds (share came wanted) page.old page.new }
 {
     if wanted == 0 {
-        page.put_bytes(b"-  ");
+        put_text(b"-  ", page);
         return;
     }
-    page.put_digits(came, 10, 1);
-    page.put_byte(b'/');
-    page.put_digits(wanted, 10, 1);
+    put_digits(came, Base::Ten, 1, page);
+    put_text(b"/", page);
+    put_digits(wanted, Base::Ten, 1, page);
 }
 
 // Puts a blank and a number of so many digits.
@@ -107,8 +107,8 @@ fn put_number(n: u64, count: usize, page: &mut Page<'_>)
     requires { Room (1 + count) page.old }
     ensures { Adds (number_text count n) page.old page.new }
 {
-    page.put_byte(b' ');
-    page.put_digits(n, 10, count);
+    put_text(b" ", page);
+    put_digits(n, Base::Ten, count, page);
 }
 
 // Puts the number that refuses a word, and how many pixels passed.
@@ -132,16 +132,23 @@ impl Meaning {
 }
 
 impl Traced {
-    // Puts a word with what the machine made of it, and no line's end. (As in write.rt no `parts`, which asks for a word of 20 bits: a line has any word.)
+    // Puts a word with what the machine made of it, and no line's end, as `put_line` of write.rt puts a line. (As there no `parts`, which asks for a word of 20
+    // bits: a line has any word.)
     fn put(self, page: &mut Page<'_>)
         requires { Room 51 page.old }
         ensures { Adds (traced_text self) page.old page.new }
     {
-        put_word(self.index, self.word, page);
-        put_name((self.word / 65536 % 16) as usize, page);
-        page.put_digits(self.word as u64, 16, 4);
-        self.meaning.put(page);
-        put_answer(self.refusal, self.passed, page);
+        let mut text = [0u8; 51];
+        let mut line = Page {
+            out: &mut text,
+            at: 0,
+        };
+        put_word(self.index, self.word, &mut line);
+        put_name((self.word / 65536 % 16) as usize, &mut line);
+        put_digits(self.word as u64, Base::Sixteen, 4, &mut line);
+        self.meaning.put(&mut line);
+        put_answer(self.refusal, self.passed, &mut line);
+        put_text(&text, page);
     }
 }
 
@@ -162,7 +169,7 @@ pub fn trace_line(t: Traced, page: &mut Page<'_>)
 {
     if has_room(page.out.len(), 52, page.at) {
         t.put(page);
-        page.put_byte(b'\n');
+        put_text(b"\n", page);
     }
 }
 
@@ -174,6 +181,6 @@ pub fn watch_line(t: Traced, before: Numbers, after: Numbers, page: &mut Page<'_
         t.put(page);
         before.put(page);
         after.put(page);
-        page.put_byte(b'\n');
+        put_text(b"\n", page);
     }
 }

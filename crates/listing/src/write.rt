@@ -1,12 +1,13 @@
 // Words to text: a line for each.
 ghost use Rattle.std.specs.Prelude.{◌≡◌, ◌*◌, ◌<◌, length, take, drop};
+ghost use Rattle.report.specs.Text.{last_digits, radix};
 ghost use Rattle.report.specs.Calls.{Adds, Room, wrote, writing_text};
 ghost use Rattle.listing.specs.Text.{name_of, placed, line, lines, listing};
 
-use report::{NoRoom, Page};
+use report::{Base, NoRoom, Page};
 
-// The names of the commands 0 to F hex, each in six columns.
-const NAMES: [[u8; 6]; 16] = [
+// The names of the commands 0 to F hex, each in six columns. (A static, since a constant would be made anew on the stack at each word.)
+static NAMES: [[u8; 6]; 16] = [
     *b" PTRN ", *b" I    ", *b" Z    ", *b" Y    ", *b" X    ", *b" T1X  ", *b" T2X  ", *b" RSVD ",
     *b" LX   ", *b" IMG  ", *b" ADDR ", *b" PX   ", *b" RSVD ", *b" PARM ", *b" AUX  ", *b" INIT ",
 ];
@@ -20,13 +21,29 @@ fn name_of(command: usize) -> [u8; 6]
     NAMES[command]
 }
 
+// Puts a text, for which there is room. (So has overdraw, where it says why.)
+pub(crate) fn put_text(text: &[u8], page: &mut Page<'_>)
+    requires { Room (length text.now) page.old }
+    ensures { Adds text.now page.old page.new }
+{
+    page.lay(text);
+}
+
+// Puts the last `count` digits of a number, for which there is room.
+pub(crate) fn put_digits(n: u64, base: Base, count: usize, page: &mut Page<'_>)
+    requires { Room count page.old }
+    ensures { Adds (last_digits (radix base) count n) page.old page.new }
+{
+    page.lay_digits(n, base, count);
+}
+
 // Puts a command's name.
 pub(crate) fn put_name(command: usize, page: &mut Page<'_>)
     requires command_bound { command < 16 }
     requires at_in_bounds { Room 6 page.old }
     ensures { Adds (name_of command) page.old page.new }
 {
-    page.put_bytes(&name_of(command));
+    put_text(&name_of(command), page);
 }
 
 // Puts a word, and the index that its remark begins with.
@@ -34,20 +51,27 @@ pub(crate) fn put_word(index: u64, word: u32, page: &mut Page<'_>)
     requires { Room 15 page.old }
     ensures { Adds (placed index word) page.old page.new }
 {
-    page.put_digits(word as u64, 16, 5);
-    page.put_bytes(b" # ");
-    page.put_digits(index, 10, 7);
+    put_digits(word as u64, Base::Sixteen, 5, page);
+    put_text(b" # ", page);
+    put_digits(index, Base::Ten, 7, page);
 }
 
-// Puts the line of a word, of any size: no `parts` splits it, which asks for 20 bits.
+// Puts the line of a word, of any size: no `parts` splits it, which asks for 20 bits. Its parts are laid on a page of its own, of which the room is known when
+// this is compiled, and the line as one text.
 fn put_line(index: u64, word: u32, page: &mut Page<'_>)
     requires { Room 26 page.old }
     ensures { Adds (line index word) page.old page.new }
 {
-    put_word(index, word, page);
-    put_name((word / 65536 % 16) as usize, page);
-    page.put_digits(word as u64, 16, 4);
-    page.put_byte(b'\n');
+    let mut text = [0u8; 26];
+    let mut line = Page {
+        out: &mut text,
+        at: 0,
+    };
+    put_word(index, word, &mut line);
+    put_name((word / 65536 % 16) as usize, &mut line);
+    put_digits(word as u64, Base::Sixteen, 4, &mut line);
+    put_text(b"\n", &mut line);
+    put_text(&text, page);
 }
 
 // Puts the lines of all words.

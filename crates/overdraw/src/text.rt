@@ -1,5 +1,5 @@
 // The lines of the report, put on its page.
-ghost use Rattle.std.specs.Prelude.{◌≡◌, ◌≤◌};
+ghost use Rattle.std.specs.Prelude.{◌≡◌, ◌≤◌, length};
 ghost use Rattle.report.specs.Calls.{Adds, Room};
 ghost use Rattle.ground.specs.Refusal.{number};
 ghost use Rattle.tally.specs.Tally.{EachWithin};
@@ -9,6 +9,14 @@ ghost use Rattle.overdraw.specs.Text.{glyph, front, columns, percent_of, name_of
 use ground::Refusal;
 use report::Page;
 use tally::{Count, Entry, Stop, Tally};
+
+// Puts a text, for which there is room. (So has listing: report's public calls ask for nothing, so that who knows of the room says it in a call of its own.)
+fn put_text(text: &[u8], page: &mut Page<'_>)
+    requires { Room (length text.now) page.old }
+    ensures { Adds text.now page.old page.new }
+{
+    page.lay(text);
+}
 
 // The last digit of a number, or a blank where nothing is left of it.
 #[tactic(auto, unfolding(crate::specs::Text::glyph))]
@@ -22,7 +30,7 @@ fn glyph_of(n: u64) -> u8
 }
 
 // Puts a number into `width` columns, as it stands in front of another digit. The digits come from the last to the first, so that one division finds
-// each. (report's `put_digits` puts zeros where this puts blanks: to call it, the digits would have to be counted first.)
+// each. (report's `lay_digits` lays zeros where this puts blanks: to call it, the digits would have to be counted first.)
 fn put_front(n: u64, width: usize, page: &mut Page<'_>)
     requires { Room width page.old }
     ensures { Adds (front width n) page.old page.new }
@@ -42,7 +50,7 @@ fn put_columns(n: u64, width: usize, page: &mut Page<'_>)
     ensures { Adds (columns width n) page.old page.new }
 {
     put_front(n / 10, width - 1, page);
-    page.put_byte(b'0' + (n % 10) as u8);
+    put_text(&[b'0' + (n % 10) as u8], page);
 }
 
 // The share that is hidden. (What is asked of `hidden` is said again of each count on its way here: so many, times a hundred, is still a number of 64 bits.)
@@ -77,8 +85,9 @@ pub(crate) fn put_heading(page: &mut Page<'_>)
     requires { Room 79 page.old }
     ensures { Adds heading page.old page.new }
 {
-    page.put_bytes(
+    put_text(
         b"file  kind     figures         offered          passed          hidden percent\n",
+        page,
     );
 }
 
@@ -101,10 +110,10 @@ fn put_count(name: [u8; 6], kind: [u8; 8], c: Count, page: &mut Page<'_>)
     requires at_in_bounds { Room 79 page.old }
     ensures { Adds (count_line name kind c) page.old page.new }
 {
-    page.put_bytes(&name);
-    page.put_bytes(&kind);
+    put_text(&name, page);
+    put_text(&kind, page);
     put_numbers(c, page);
-    page.put_byte(b'\n');
+    put_text(b"\n", page);
 }
 
 // Puts a line a kind.
@@ -125,10 +134,10 @@ fn put_refusal(name: [u8; 6], refusal: Refusal, page: &mut Page<'_>)
     requires { Room 23 page.old }
     ensures { Adds (refusal_line name (number refusal)) page.old page.new }
 {
-    page.put_bytes(&name);
-    page.put_bytes(b"refusal ");
+    put_text(&name, page);
+    put_text(b"refusal ", page);
     put_columns(refusal.into(), 8, page);
-    page.put_byte(b'\n');
+    put_text(b"\n", page);
 }
 
 // Puts the line of a recording that is too long.
@@ -136,9 +145,9 @@ fn put_too_long(name: [u8; 6], page: &mut Page<'_>)
     requires { Room 15 page.old }
     ensures { Adds (too_long_line name) page.old page.new }
 {
-    page.put_bytes(&name);
-    page.put_bytes(b"too long");
-    page.put_byte(b'\n');
+    put_text(&name, page);
+    put_text(b"too long", page);
+    put_text(b"\n", page);
 }
 
 // Puts the lines of a recording that was not run to its end.

@@ -1,10 +1,13 @@
 -- What writing a text comes to, from the test on its way. Assumes nothing.
 use mathlib.Core.Path.{◌≡◌, refl, sym, ap, ◌∙◌}
+use mathlib.Core.Bool.{Bool, true, false}
 use mathlib.Core.List.{List}
 use Rattle.std.specs.Prelude.{Result, Ok, Err, IsOk}
 use Rattle.std.specs.Result.{result_unwrap_or}
 use Prim.Native.Nat.{ℕ, ◌≤◌, ◌<◌}
 use native.Mathlib.Omega.{arith}
+use borrow.Author.Tests.{ltb-true, ltb-false}
+use lib.Dec.{ltb}
 use lib.ListN.{length, drop, length-append}
 use lib.Seq.{length-take-le}
 use Rattle.stream.specs.Calls.{Outcome, over, written, concluded}
@@ -31,6 +34,14 @@ module _ (text out : List ℕ) where
   done h p e f g =
       let all = put_over h (rw (e, f, g) at p.put) in
       rw (writes h, all.0, all.1)
+
+  -- the test's answer decides
+  pub longer : {answer : Bool} {e : NoRoom} → answer ≡ ltb (length out) (length text) → answer ≡ true → wrote (Err e) out ≡ writing_text text out
+  longer f t = unwritten (ltb-true (length out) (length text) (sym f ∙ t))
+
+  -- where the test answers that the buffer is not shorter than the text, the text fits
+  pub fits : {answer : Bool} → answer ≡ ltb (length out) (length text) → answer ≡ false → length text ≤ length out
+  fits e t = ltb-false (length out) (length text) (sym e ∙ t)
 
 -- what was written stands
 pub stands : {text old new : List ℕ} {n : ℕ} → n ≡ length text → new ≡ over text old → Stands text old new n

@@ -94,3 +94,7 @@ pub put_laid : {text old new : List ℕ} {at next : ℕ} → at + length text �
 put_laid {text} {old} {new} {at} {next} h p =
     let yes : fits text old at ≡ true = le-leb (at + length text) (length old) h in
     record { stands = rw yes at p.left; ends = rw yes at p.end }
+
+-- and so of a page
+pub put_lays : {text : List ℕ} {old new : Page} → Room (length text) old → Lays text old new → Adds text old new
+put_lays h p = record { put = put_laid h p.laid; same = p.same }

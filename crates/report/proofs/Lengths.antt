@@ -10,7 +10,7 @@ use mathlib.Core.Bool.{Bool, true, false, not}
 use lib.Dec.{eqb}
 use lib.ListN.{length, get_or, length-append}
 use Rattle.report.specs.declared.place.Place.{Place}
-use Rattle.report.specs.Text.{decimal, field, pair, place_of, shown, place_line, lines, named, heading, report, words_name, refusal_name, passed_name}
+use Rattle.report.specs.Text.{decimal, field, pair, column_of, row_of, place_of, shown, place_line, lines, named, heading, report, words_name, refusal_name, passed_name}
 
 -- a number with the byte after it is one byte longer than its digits
 pub length_field : (n after : ℕ) → length (field n after) ≡ length (decimal n) + 1
@@ -37,12 +37,12 @@ module _ (i : ℕ) {r : Bool} (e : r ≡ not (eqb i 0)) where
   seen t = eqb-false i 0 (not-true (eqb i 0) (sym e ∙ t))
 
 -- a place that shows has a line of its column, its row, its I and its Z
-pub shown_lem : (p : Place) → (p.i ≡ 0 → ⊥) → shown p ≡ pair p.column p.row 32 ++ pair p.i p.z 10
+pub shown_lem : (p : Place) → (p.i ≡ 0 → ⊥) → shown p ≡ pair (column_of p.line p.index) (row_of p.line p.index) 32 ++ pair p.i p.z 10
 shown_lem p h = rw (ne_eqb p.i 0 h)
 
 -- that line is as long as its two pairs
-pub length_shown : (p : Place) → (p.i ≡ 0 → ⊥) → length (shown p) ≡ length (pair p.column p.row 32) + length (pair p.i p.z 10)
-length_shown p h = rw (shown_lem p h) (length-append (pair p.column p.row 32) (pair p.i p.z 10))
+pub length_shown : (p : Place) → (p.i ≡ 0 → ⊥) → length (shown p) ≡ length (pair (column_of p.line p.index) (row_of p.line p.index) 32) + length (pair p.i p.z 10)
+length_shown p h = rw (shown_lem p h) (length-append (pair (column_of p.line p.index) (row_of p.line p.index) 32) (pair p.i p.z 10))
 
 -- a place that does not show has none
 pub shown_none : (p : Place) → p.i ≡ 0 → shown p ≡ []

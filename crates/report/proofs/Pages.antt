@@ -1,9 +1,9 @@
 -- Images: how long each part is, rows that reach past a memory's end, and pages that join. Assumes nothing.
-use mathlib.Core.Path.{◌≡◌, refl, sym, ap}
+use mathlib.Core.Path.{◌≡◌, refl, sym, ap, ◌∙◌}
 use mathlib.Core.Bool.{Bool, true, false, cond}
 use mathlib.Core.List.{List, [], ◌∷◌, ◌++◌, append_assoc, append-nil}
 use Prim.Native.Nat.{ℕ, zero, suc, ◌+◌, ◌-◌, ◌*◌, ◌/◌, ◌%◌, ◌^◌, ◌≤◌, ◌<◌, min}
-use native.Mathlib.Nat.{add-zero, add-suc, add_assoc, mul-zero, mul-suc, suc-mul, mul-le-mul_left, mul-le-mul_right}
+use native.Mathlib.Nat.{add-zero, add-suc, add_assoc, mul-zero, mul-suc, suc-mul, mul-le-mul_left, mul-le-mul_right, le-div_iff_mul-le, div-lt_iff_lt-mul}
 use native.Mathlib.Numerals.{add-one}
 use native.Mathlib.Omega.{arith}
 use borrow.Author.Tests.{lt-ltb, le-ltb, ltb-true, ltb-false}
@@ -34,6 +34,14 @@ module _ (most line rows : ℕ) where
 
 -- ---- rows
 
+-- a product is more than the room where its factor is more than the quotient
+pub over_quotient : (room row count : ℕ) → 0 < row → ltb (room / row) count ≡ ltb room (count * row)
+over_quotient room row count h = go (ltb (room / row) count) refl
+  where
+    go : (b : Bool) → ltb (room / row) count ≡ b → b ≡ ltb room (count * row)
+    go true t = sym (lt-ltb room (count * row) ((div-lt_iff_lt-mul h).0 (ltb-true (room / row) count t)))
+    go false t = sym (le-ltb room (count * row) ((le-div_iff_mul-le h).0 (ltb-false (room / row) count t)))
+
 -- a pixel has one byte, or two
 module _ (most : ℕ) where
   -- where no number is above 255, a pixel has one byte
@@ -45,6 +53,16 @@ module _ (most : ℕ) where
   pub size_two : 256 ≤ most → pixel_size most ≡ 2
   unfolding pixel_size
   size_two h = rw (le-ltb most 256 h)
+
+  -- where no number is above 255, a pixel's byte is its number mod 256
+  pub pixel_one : (n : ℕ) → most < 256 → pixel most n ≡ n % 256 ∷ []
+  unfolding pixel
+  pixel_one n h = rw (lt-ltb most 256 h)
+
+  -- where a number may be above 255, a pixel is its number's two bytes
+  pub pixel_two : (n : ℕ) → 256 ≤ most → pixel most n ≡ two_bytes n
+  unfolding pixel
+  pixel_two n h = rw (le-ltb most 256 h)
 
 -- it has at most two
 pub size_low : (most : ℕ) → pixel_size most ≤ 2
@@ -150,6 +168,10 @@ module _ (most line : ℕ) (memory : List ℕ) where
   length_down below (suc k) =
       let row = row_bytes most line memory (below - suc k) in
       omega (arith, length-append (down most line memory below k) row, length_down below k, length_row (below - suc k), suc-mul k (pixel_size most * line))
+
+  -- a test of the product is a test of the rows' length
+  pub rows_asked : (below k room : ℕ) {answer : Bool} → answer ≡ ltb room (k * (pixel_size most * line)) → answer ≡ ltb room (length (down most line memory below k))
+  rows_asked below k room e = e ∙ ap (ltb room) (sym (length_down below k))
 
   -- a row and those above it
   pub down_within : (below k count : ℕ) → k < count

@@ -1,6 +1,6 @@
 -- Texts put one behind the other. Assumes nothing.
 use mathlib.Core.Path.{◌≡◌, refl, sym, ap, ap₂, ◌∙◌}
-use mathlib.Core.List.{List, [], ◌∷◌, ◌++◌, append_assoc}
+use mathlib.Core.List.{List, [], ◌∷◌, ◌++◌, append_assoc, append-nil}
 use Prim.Native.Nat.{ℕ, suc, ◌+◌, ◌/◌, ◌%◌, ◌≤◌}
 use native.Mathlib.Nat.{add-zero, zero-add, add-suc, suc-add}
 use native.Mathlib.Numerals.{add-one}
@@ -8,6 +8,7 @@ use native.Mathlib.Omega.{arith}
 use lib.ListN.{length, set, take, drop, length-append}
 use lib.Seq.{sets, sets-eq, length-sets, set_comm, drop-drop}
 use borrow.Rule.Slice.PartMut.{put_mid}
+use Rattle.std.proofs.Math.ListN.{drop_of_length-le}
 use Rattle.stream.specs.Calls.{over}
 use Rattle.report.specs.Text.{glyph, last_digits}
 use Rattle.report.specs.Calls.{Put, Adds, Room}
@@ -49,11 +50,22 @@ pub put_over : {text l m : List ℕ} {n : ℕ} → length text ≤ length l → 
 unfolding over
 put_over {text} {l} {m} {n} h p = (p.ends ∙ zero-add (length text), p.stands ∙ sets-eq text l 0 (omega arith) ∙ rw (zero-add (length text)))
 
+-- a text that is as long as the buffer is all of it
+pub put_whole : {text l m : List ℕ} {n : ℕ} → length text ≡ length l → Put text l 0 m n → m ≡ text
+unfolding over
+put_whole {text} {l} h p =
+    let end : length l ≤ length text = omega (arith, h) in
+    (put_over (omega (arith, h)) p).1 ∙ rw (drop_of_length-le l end) (append-nil text)
+
 -- ---- the same of a page
 
 -- nothing
 pub add_none : (page : Page) → Adds [] page page
 add_none page = record { put = put_none page.out.now page.at; same = refl }
+
+-- a text that is as long as the buffer is all that the buffer has in the end
+pub add_whole : {text left : List ℕ} {old new : Page} → Adds text old new → old.at ≡ 0 → length text ≡ length old.out.now → new.out.now ≡ left → left ≡ text
+add_whole p e h same = sym same ∙ put_whole h (rw e at p.put)
 
 -- a text behind a text
 pub add_after : {a b : List ℕ} {l m n : Page} → Adds a l m → Adds b m n → Adds (a ++ b) l n

@@ -1,5 +1,7 @@
 -- The text of a run (document 01, "Examples", the drawing program): bytes in ASCII, of which 32 is a space and 10 ends a line.
 use Rattle.std.specs.Prelude.{ℕ, zero, suc, ◌+◌, ◌/◌, ◌%◌, cond, List, [], ◌∷◌, ◌++◌, length, get_or, ltb, eqb}
+use Rattle.report.specs.declared.number.Base.{Base}
+use Rattle.report.specs.declared.number.Base.TheVariants.{Ten, Sixteen}
 use Rattle.report.specs.declared.place.Place.{Place}
 
 -- ---- numbers
@@ -26,6 +28,11 @@ unfoldable pub last_digits : ℕ → ℕ → ℕ → List ℕ
 last_digits base zero n = []
 last_digits base (suc k) n = last_digits base k (n / base) ++ (glyph (n % base) ∷ [])
 
+-- a base, as a number
+abbrev pub radix : Base → ℕ
+radix Ten = 10
+radix Sixteen = 16
+
 -- ---- the places that show
 
 -- two numbers, a space between them, and the byte after them
@@ -40,13 +47,13 @@ column_of line place = place % line
 abbrev pub row_of : ℕ → ℕ → ℕ
 row_of line place = place / line
 
--- a place, by its column and its row, and its numbers
+-- a place, by the line length and its index, and its numbers
 abbrev pub place_of : ℕ → ℕ → ℕ → ℕ → Place
-place_of line place i z = record { column = column_of line place; row = row_of line place; i = i; z = z }
+place_of line place i z = record { line = line; index = place; i = i; z = z }
 
 -- the line of a place that is so given: column, row, I and Z; none where I is 0
 abbrev pub shown : Place → List ℕ
-shown p = cond (eqb p.i 0) [] (pair p.column p.row 32 ++ pair p.i p.z 10)
+shown p = cond (eqb p.i 0) [] (pair (column_of p.line p.index) (row_of p.line p.index) 32 ++ pair p.i p.z 10)
 
 -- the line of a place
 unfoldable pub place_line : ℕ → ℕ → ℕ → ℕ → List ℕ

@@ -1,6 +1,6 @@
 // The image of a memory: its heading, and its rows from the top down, as many at a time as the lent output is to hold. `most` is the greatest number
 // that a pixel may have.
-ghost use Rattle.std.specs.Prelude.{◌≡◌, ◌+◌, ◌≤◌, length};
+ghost use Rattle.std.specs.Prelude.{◌≡◌, ◌*◌, ◌≤◌, min, length, ltb};
 ghost use Rattle.report.specs.Image.{image_heading, pixel, pixel_size, numbers, row_bytes, down};
 ghost use Rattle.report.specs.Calls.{Adds, Room, Sized, wrote, writing_text};
 
@@ -54,7 +54,12 @@ fn put_pixel(most: u16, n: u16, page: &mut Page<'_>)
     ensures { Adds (pixel most n) page.old page.new }
 {
     let bytes = n.to_be_bytes();
-    page.put_bytes(&bytes[2 - pixel_size(most)..]);
+    if most < 256 {
+        page.put_byte(bytes[1]);
+        return;
+    }
+    page.put_byte(bytes[0]);
+    page.put_byte(bytes[1]);
 }
 
 // Puts the numbers of `count` places, from a place on.
@@ -68,12 +73,26 @@ fn put_numbers(most: u16, memory: &[u16], from: usize, count: u16, page: &mut Pa
     }
 }
 
-// Puts the numbers of a row. From the memory's end on all is 0, so that it starts there at the latest.
+// Where a row starts, or the memory's end if that comes first: all is 0 from there on, and the product cannot wrap.
+fn row_start(line: u16, y: usize, end: usize) -> usize
+    ensures { result ≡ min (y * line) end }
+{
+    let wide = line as usize;
+    if wide == 0 {
+        return 0;
+    }
+    if end / wide < y {
+        return end;
+    }
+    y * wide
+}
+
+// Puts the numbers of a row.
 fn put_row(most: u16, line: u16, y: usize, memory: &[u16], page: &mut Page<'_>)
     requires { Room (length (row_bytes most line memory.now y)) page.old }
     ensures { Adds (row_bytes most line memory.now y) page.old page.new }
 {
-    let start = y.saturating_mul(line as usize).min(memory.len());
+    let start = row_start(line, y, memory.len());
     put_numbers(most, memory, start, line, page);
 }
 
@@ -88,6 +107,17 @@ fn put_rows(most: u16, line: u16, below: usize, count: usize, memory: &[u16], pa
     }
 }
 
+// Whether so many rows take more bytes than the room. A division asks it, since the product might wrap.
+fn rows_longer(most: u16, line: u16, count: usize, room: usize) -> bool
+    ensures { result ≡ ltb room (count * (pixel_size most * line)) }
+{
+    let row_size = pixel_size(most) * line as usize;
+    if row_size == 0 {
+        return false;
+    }
+    room / row_size < count
+}
+
 // Writes the `count` rows under row `below`, the topmost first, to the front of `out`, or refuses where that is too short.
 pub fn image_rows(
     most: u16,
@@ -99,8 +129,7 @@ pub fn image_rows(
 ) -> Result<usize, NoRoom>
     ensures { wrote result out.new ≡ writing_text (down most line memory.now below count) out.old }
 {
-    let row_size = pixel_size(most) * line as usize;
-    if out.len() < count.saturating_mul(row_size) {
+    if rows_longer(most, line, count, out.len()) {
         return Err(NoRoom);
     }
     let mut page = Page { out, at: 0 };

@@ -1,5 +1,5 @@
 // The text of a run: a line for its three numbers, and one for each place of the picture that shows. And the image of a memory, as it stands or
-// in levels. And any text, put or laid on a page. specs/Text.antt is the text, specs/Image.antt the image, specs/Levels.antt the levels, specs/Calls.antt what the calls that write
+// in levels. And any text or digits, laid on a page. specs/Text.antt is the text, specs/Image.antt the image, specs/Levels.antt the levels, specs/Calls.antt what the calls that write
 // tell and leave.
 #![tactic(auto)]
 
@@ -12,6 +12,7 @@ mod scale;
 mod text;
 
 pub use image::{image_heading, image_rows};
+pub use number::Base;
 pub use page::{Page, has_room};
 pub use scale::{drawn_places, to_levels};
 pub use text::write;

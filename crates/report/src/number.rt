@@ -1,9 +1,16 @@
 // Numbers in digits, and the byte after each.
 ghost use Rattle.std.specs.Prelude.{◌≡◌, ◌+◌, ◌<◌, ◌≤◌, length};
-ghost use Rattle.report.specs.Text.{glyph, last_digits, decimal, field, pair};
-ghost use Rattle.report.specs.Calls.{Adds, Room, Sized};
+ghost use Rattle.report.specs.Text.{glyph, last_digits, radix, decimal, field, pair};
+ghost use Rattle.report.specs.Calls.{Adds, Lays, Room, Sized};
 
-use crate::page::Page;
+use crate::page::{Page, has_room};
+
+// The bases in which digits are laid. (No number: of a base of 0 there are no digits, and of one above 16 some have no character.)
+#[derive(Clone, Copy, Debug, PartialEq, Eq)]
+pub enum Base {
+    Ten,
+    Sixteen,
+}
 
 // The character of a digit.
 #[tactic(auto, unfolding(crate::specs::Text::glyph))]
@@ -32,7 +39,7 @@ pub(crate) fn digits(n: u64) -> usize
 
 impl Page<'_> {
     // Puts the last `count` digits of a number. They come from the last to the first, so that one division finds each.
-    pub fn put_digits(&mut self, n: u64, base: u64, count: usize)
+    pub(crate) fn put_digits(&mut self, n: u64, base: u64, count: usize)
         requires base_nonzero { 0 < base }
         requires base_bound { base ≤ 16 }
         requires count_in_bounds { Room count self.old }
@@ -44,6 +51,18 @@ impl Page<'_> {
             rest /= base;
         }
         self.at += count;
+    }
+
+    // Lays the last `count` digits of a number; where they have no room, they are left out.
+    pub fn lay_digits(&mut self, n: u64, base: Base, count: usize)
+        ensures { Lays (last_digits (radix base) count n) self.old self.new }
+    {
+        if has_room(self.out.len(), count, self.at) {
+            match base {
+                Base::Ten => self.put_digits(n, 10, count),
+                Base::Sixteen => self.put_digits(n, 16, count),
+            }
+        }
     }
 
     // Puts a number and the byte after it.

@@ -18,7 +18,7 @@ pub fn has_room(room: usize, size: usize, at: usize) -> bool
 
 impl Page<'_> {
     // Puts bytes.
-    pub fn put_bytes(&mut self, text: &[u8])
+    pub(crate) fn put_bytes(&mut self, text: &[u8])
         requires { Room (length text.now) self.old }
         ensures { Adds text.now self.old self.new }
     {
@@ -28,7 +28,7 @@ impl Page<'_> {
     }
 
     // Puts a byte.
-    pub fn put_byte(&mut self, byte: u8)
+    pub(crate) fn put_byte(&mut self, byte: u8)
         requires { Room 1 self.old }
         ensures { Adds (byte ∷ []) self.old self.new }
     {

@@ -6,11 +6,12 @@ ghost use Rattle.report.specs.Calls.{Adds, Room, Sized};
 use crate::number::digits;
 use crate::page::Page;
 
-// A place of a picture, and its two numbers.
+// A place of a picture, by the line length and its index, and its two numbers. Its column and its row take a division each, so that only a place that
+// shows is asked for them.
 #[derive(Clone, Copy)]
 pub(crate) struct Place {
-    column: u64,
-    row: u64,
+    line: u16,
+    index: usize,
     i: u16,
     z: u16,
 }
@@ -44,15 +45,10 @@ fn row(line: u16, place: usize) -> u64
 
 impl Place {
     // The place with an index, where these numbers are.
-    pub(crate) fn at(line: u16, place: usize, i: u16, z: u16) -> Place
-        ensures { result ≡ place_of line place i z }
+    pub(crate) fn at(line: u16, index: usize, i: u16, z: u16) -> Place
+        ensures { result ≡ place_of line index i z }
     {
-        Place {
-            column: column(line, place),
-            row: row(line, place),
-            i,
-            z,
-        }
+        Place { line, index, i, z }
     }
 
     // Whether it has a line.
@@ -69,7 +65,7 @@ impl Place {
         if !self.shows() {
             return 0;
         }
-        let first = digits(self.column) + digits(self.row);
+        let first = digits(column(self.line, self.index)) + digits(row(self.line, self.index));
         first + digits(self.i as u64) + digits(self.z as u64) + 4
     }
 
@@ -79,7 +75,9 @@ impl Place {
         ensures { Adds (shown self) page.old page.new }
     {
         if self.shows() {
-            page.put_pair(self.column, self.row, b' ');
+            let x = column(self.line, self.index);
+            let y = row(self.line, self.index);
+            page.put_pair(x, y, b' ');
             page.put_pair(self.i as u64, self.z as u64, b'\n');
         }
     }

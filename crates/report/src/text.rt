@@ -1,5 +1,5 @@
 // The whole text: first whether it fits, so that a short buffer stays untouched, and then its bytes.
-ghost use Rattle.std.specs.Prelude.{◌≡◌, length, min};
+ghost use Rattle.std.specs.Prelude.{◌≡◌, length, ltb};
 ghost use Rattle.report.specs.Text.{lines, report};
 ghost use Rattle.report.specs.Calls.{Adds, Room, wrote, writing};
 
@@ -8,16 +8,22 @@ use crate::heading::Heading;
 use crate::page::Page;
 use crate::place::{Place, number_at};
 
-// How many bytes the text takes, or as many as no buffer has.
-fn size_of(heading: Heading, line: u16, im: &[u16], zm: &[u16]) -> usize
-    ensures { result ≡ min (length (report heading.words heading.refusal heading.passed line im.now zm.now)) 18446744073709551615 }
+// Whether the text is longer than the room. The size never grows past the room, so no sum of sizes can wrap.
+fn is_longer(heading: Heading, line: u16, im: &[u16], zm: &[u16], room: usize) -> bool
+    ensures { result ≡ ltb room (length (report heading.words heading.refusal heading.passed line im.now zm.now)) }
 {
     let mut size = heading.size();
-    for (place, i) in im.iter().enumerate() {
-        let shown = Place::at(line, place, *i, number_at(zm, place));
-        size = size.saturating_add(shown.size());
+    if room < size {
+        return true;
     }
-    size
+    for (place, i) in im.iter().enumerate() {
+        let more = Place::at(line, place, *i, number_at(zm, place)).size();
+        if room - size < more {
+            return true;
+        }
+        size += more;
+    }
+    false
 }
 
 // Puts the lines of all places.
@@ -48,7 +54,7 @@ pub fn write(
         refusal,
         passed,
     };
-    if out.len() < size_of(heading, line, im, zm) {
+    if is_longer(heading, line, im, zm, out.len()) {
         return Err(NoRoom);
     }
     let mut page = Page { out, at: 0 };

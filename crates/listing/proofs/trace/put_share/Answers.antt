@@ -8,16 +8,16 @@ use Rattle.listing.proofs.trace.put_share.Goals as goal
 pub returns-then-wanted-eq0 : goal.returns-then-wanted-eq0
 unfolding share
 returns-then-wanted-eq0 c =
-    rw c.if-wanted-eq0.true c.put_bytes.ensures
+    rw c.if-wanted-eq0.true c.put_text.ensures
 
-pub put_byte-requires : goal.put_byte-requires
-put_byte-requires c = room_after _ c.put_digits.ensures (omega (arith, length_digits 10 1 c.args.came))
+pub put_text-requires-2 : goal.put_text-requires-2
+put_text-requires-2 c = room_after _ c.put_digits.ensures (omega (arith, length_digits 10 1 c.args.came))
 
-pub put_digits-requires-2-clause-count_in_bounds : goal.put_digits-requires-2-clause-count_in_bounds
-put_digits-requires-2-clause-count_in_bounds c =
-    room_after _ c.put_byte.ensures (room_after _ c.put_digits.ensures (omega (arith, length_digits 10 1 c.args.came)))
+pub put_digits-requires-2 : goal.put_digits-requires-2
+put_digits-requires-2 c =
+    room_after _ c.put_text-2.ensures (room_after _ c.put_digits.ensures (omega (arith, length_digits 10 1 c.args.came)))
 
 pub returns : goal.returns
 unfolding share
 returns c =
-    rw (ne_eqb c.args.wanted 0 c.if-wanted-eq0.false) (add_after (add_after c.put_digits.ensures c.put_byte.ensures) c.put_digits-2.ensures)
+    rw (ne_eqb c.args.wanted 0 c.if-wanted-eq0.false) (add_after (add_after c.put_digits.ensures c.put_text-2.ensures) c.put_digits-2.ensures)

@@ -9,12 +9,12 @@ use Rattle.listing.proofs.trace.trace_line.Goals as goal
 pub put-requires : goal.put-requires
 put-requires c = omega (arith, has c.args.page.now _ c.has_room.ensures c.if-has_room.true)
 
-pub put_byte-requires : goal.put_byte-requires
-put_byte-requires c = room_after _ c.put.ensures (omega (arith, has c.args.page.now _ c.has_room.ensures c.if-has_room.true, length_traced c.args.t))
+pub put_text-requires : goal.put_text-requires
+put_text-requires c = room_after _ c.put.ensures (omega (arith, has c.args.page.now _ c.has_room.ensures c.if-has_room.true, length_traced c.args.t))
 
 pub returns-then-has_room : goal.returns-then-has_room
 unfolding trace_line
-returns-then-has_room c = lays_put _ _ (length_trace c.args.t) c.has_room.ensures c.if-has_room.true (add_after c.put.ensures c.put_byte.ensures)
+returns-then-has_room c = lays_put _ _ (length_trace c.args.t) c.has_room.ensures c.if-has_room.true (add_after c.put.ensures c.put_text.ensures)
 
 pub returns-else-has_room : goal.returns-else-has_room
 returns-else-has_room c = lays_none _ _ (length_trace c.args.t) c.has_room.ensures c.if-has_room.false

@@ -21,8 +21,8 @@ put-requires-then-has_room-2 c =
     let room = has a.page.now _ c.has_room.ensures c.if-has_room.true in
     room_after _ c.put-then-has_room.ensures (room_after _ c.put.ensures (omega (arith, room, length_traced a.t, length_numbers a.before)))
 
-pub put_byte-requires : goal.put_byte-requires
-put_byte-requires c =
+pub put_text-requires : goal.put_text-requires
+put_text-requires c =
     let a = c.args in
     let room = has a.page.now _ c.has_room.ensures c.if-has_room.true in
     room_after _ c.put-then-has_room-2.ensures
@@ -32,7 +32,7 @@ pub returns-then-has_room : goal.returns-then-has_room
 unfolding watch_line
 returns-then-has_room c =
     let a = c.args in
-    let all = add_after (add_after (add_after c.put.ensures c.put-then-has_room.ensures) c.put-then-has_room-2.ensures) c.put_byte.ensures in
+    let all = add_after (add_after (add_after c.put.ensures c.put-then-has_room.ensures) c.put-then-has_room-2.ensures) c.put_text.ensures in
     lays_put _ _ (length_watch a.t a.before a.after) c.has_room.ensures c.if-has_room.true all
 
 pub returns-else-has_room : goal.returns-else-has_room

@@ -5,13 +5,13 @@ use Rattle.listing.specs.Text.{placed}
 use Rattle.report.proofs.Decimal.{length_digits}
 use Rattle.listing.proofs.write.put_word.Goals as goal
 
-pub put_bytes-requires : goal.put_bytes-requires
-put_bytes-requires c = room_after _ c.put_digits.ensures (omega (arith, length_digits 16 5 c.args.word))
+pub put_text-requires : goal.put_text-requires
+put_text-requires c = room_after _ c.put_digits.ensures (omega (arith, length_digits 16 5 c.args.word))
 
-pub put_digits-requires-2-clause-count_in_bounds : goal.put_digits-requires-2-clause-count_in_bounds
-put_digits-requires-2-clause-count_in_bounds c =
-    room_after _ c.put_bytes.ensures (room_after _ c.put_digits.ensures (omega (arith, length_digits 16 5 c.args.word)))
+pub put_digits-requires-2 : goal.put_digits-requires-2
+put_digits-requires-2 c =
+    room_after _ c.put_text.ensures (room_after _ c.put_digits.ensures (omega (arith, length_digits 16 5 c.args.word)))
 
 pub returns : goal.returns
 unfolding placed
-returns c = add_after (add_after c.put_digits.ensures c.put_bytes.ensures) c.put_digits-2.ensures
+returns c = add_after (add_after c.put_digits.ensures c.put_text.ensures) c.put_digits-2.ensures

@@ -5,19 +5,19 @@ use Rattle.overdraw.specs.Text.{count_line}
 use Rattle.overdraw.proofs.Lines.{length_numbers}
 use Rattle.overdraw.proofs.text.put_count.Goals as goal
 
-pub put_bytes-requires-2 : goal.put_bytes-requires-2
-put_bytes-requires-2 c = room_after _ c.put_bytes.ensures (omega (arith, c.requires.at_in_bounds))
+pub put_text-requires-2 : goal.put_text-requires-2
+put_text-requires-2 c = room_after _ c.put_text.ensures (omega (arith, c.requires.at_in_bounds))
 
 pub put_numbers-requires-clause-at_in_bounds : goal.put_numbers-requires-clause-at_in_bounds
 put_numbers-requires-clause-at_in_bounds c =
-    room_after _ c.put_bytes-2.ensures (room_after _ c.put_bytes.ensures (omega (arith, c.requires.at_in_bounds)))
+    room_after _ c.put_text-2.ensures (room_after _ c.put_text.ensures (omega (arith, c.requires.at_in_bounds)))
 
-pub put_byte-requires : goal.put_byte-requires
-put_byte-requires c =
+pub put_text-requires-3 : goal.put_text-requires-3
+put_text-requires-3 c =
     room_after _ c.put_numbers.ensures
-    (room_after _ c.put_bytes-2.ensures (room_after _ c.put_bytes.ensures (omega (arith, c.requires.at_in_bounds, length_numbers c.args.c))))
+    (room_after _ c.put_text-2.ensures (room_after _ c.put_text.ensures (omega (arith, c.requires.at_in_bounds, length_numbers c.args.c))))
 
 pub returns : goal.returns
 unfolding count_line
 returns c =
-    add_after (add_after (add_after c.put_bytes.ensures c.put_bytes-2.ensures) c.put_numbers.ensures) c.put_byte.ensures
+    add_after (add_after (add_after c.put_text.ensures c.put_text-2.ensures) c.put_numbers.ensures) c.put_text-3.ensures

@@ -4,12 +4,12 @@ use Rattle.report.proofs.Putting.{add_after, room_after}
 use Rattle.overdraw.specs.Text.{too_long_line}
 use Rattle.overdraw.proofs.text.put_too_long.Goals as goal
 
-pub put_bytes-requires-2 : goal.put_bytes-requires-2
-put_bytes-requires-2 c = room_after _ c.put_bytes.ensures (omega arith)
+pub put_text-requires-2 : goal.put_text-requires-2
+put_text-requires-2 c = room_after _ c.put_text.ensures (omega arith)
 
-pub put_byte-requires : goal.put_byte-requires
-put_byte-requires c = room_after _ c.put_bytes-2.ensures (room_after _ c.put_bytes.ensures (omega arith))
+pub put_text-requires-3 : goal.put_text-requires-3
+put_text-requires-3 c = room_after _ c.put_text-2.ensures (room_after _ c.put_text.ensures (omega arith))
 
 pub returns : goal.returns
 unfolding too_long_line
-returns c = add_after (add_after c.put_bytes.ensures c.put_bytes-2.ensures) c.put_byte.ensures
+returns c = add_after (add_after c.put_text.ensures c.put_text-2.ensures) c.put_text-3.ensures

@@ -1,17 +1,17 @@
--- `trace::Traced::put` meets its contract: its five parts, one behind the other. Assumes nothing.
-use Rattle.std.proofs.Common.{arith}
-use Rattle.report.proofs.Putting.{add_after, room_after}
+-- `trace::Traced::put` meets its contract: its five parts, one behind the other, fill a page of its own. Assumes nothing.
+use Rattle.std.proofs.Common.{rules, refl, arith}
+use Rattle.report.proofs.Putting.{add_after, add_whole, room_after}
 use Rattle.listing.specs.Trace.{traced_text}
 use Rattle.report.proofs.Decimal.{length_digits}
 use Rattle.listing.proofs.Lines.{length_placed, length_name}
-use Rattle.listing.proofs.Traces.{length_meaning}
+use Rattle.listing.proofs.Traces.{length_meaning, length_traced}
 use Rattle.listing.proofs.trace.Traced.put.Goals as goal
 
 pub put_name-requires-clause-at_in_bounds : goal.put_name-requires-clause-at_in_bounds
 put_name-requires-clause-at_in_bounds c = room_after _ c.put_word.ensures (omega (arith, length_placed c.args.self.index c.args.self.word))
 
-pub put_digits-requires-clause-count_in_bounds : goal.put_digits-requires-clause-count_in_bounds
-put_digits-requires-clause-count_in_bounds c =
+pub put_digits-requires : goal.put_digits-requires
+put_digits-requires c =
     let t = c.args.self in
     room_after _ c.put_name.ensures (room_after _ c.put_word.ensures (omega (arith, length_placed t.index t.word, length_name t.word)))
 
@@ -29,4 +29,5 @@ put_answer-requires c =
 pub returns : goal.returns
 unfolding traced_text
 returns c =
-    add_after (add_after (add_after (add_after c.put_word.ensures c.put_name.ensures) c.put_digits.ensures) c.put.ensures) c.put_answer.ensures
+    let all = add_after (add_after (add_after (add_after c.put_word.ensures c.put_name.ensures) c.put_digits.ensures) c.put.ensures) c.put_answer.ensures in
+    rw (add_whole {left = c.text-2-1.given.0} all refl (length_traced c.args.self) (search rules)) at c.put_text.ensures
