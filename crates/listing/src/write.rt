@@ -39,7 +39,7 @@ pub(crate) fn put_word(index: u64, word: u32, page: &mut Page<'_>)
     page.put_digits(index, 10, 7);
 }
 
-// Puts the line of a word, of any size: no `parts` splits it, which asks for 20 bits.
+// Puts the line of a word, of any size: its name is that of the low four bits of its command.
 fn put_line(index: u64, word: u32, page: &mut Page<'_>)
     requires { Room 26 page.old }
     ensures { Adds (line index word) page.old page.new }
