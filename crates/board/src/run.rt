@@ -26,7 +26,7 @@ pub struct Ended {
 }
 
 // The word at place k of a stream, taken.
-#[tactic(auto, using(stream::proofs::Round::word_fits), unfolding(registers::specs::Word::word_of))]
+#[tactic(auto, using(stream::proofs::Round::word_fits, registers::proofs::Words::command_whole), unfolding(registers::specs::Word::word_of))]
 fn step_at(
     board: Board,
     bytes: &[u8],

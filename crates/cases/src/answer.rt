@@ -2,6 +2,7 @@
 use chip::step::step;
 use ground::Refusal;
 use registers::Registers;
+use registers::word::parts;
 
 // How many pixels pass at the last of the words, from reset, or why it is refused; none where there is no word. A refused word on the way changes
 // nothing.
@@ -9,9 +10,7 @@ pub(crate) fn last(words: &[u32], im: &mut [u16], zm: &mut [u16]) -> Result<u64,
     let mut r = Registers::reset();
     let mut got = Ok(0);
     for word in words {
-        // not by `parts`, which asks for a word of 20 bits: a row may have one with a command above 15
-        let command = (*word / 65536 % 256) as u8;
-        let data = (*word % 65536) as u16;
+        let (command, data) = parts(*word);
         got = match step(r, command, data, im, zm) {
             Ok(answer) => {
                 r = answer.registers;

@@ -27,7 +27,6 @@ pub struct Ran {
 }
 
 // The word at place k of a stream, taken.
-#[tactic(auto, using(stream::proofs::Round::word_fits))]
 fn step_at(
     r: Registers,
     bytes: &[u8],

@@ -132,8 +132,7 @@ impl Meaning {
 }
 
 impl Traced {
-    // Puts a word with what the machine made of it, and no line's end, as `put_line` of write.rt puts a line. (As there no `parts`, which asks for a word of 20
-    // bits: a line has any word.)
+    // Puts a word of any size with what the machine made of it, and no line's end, as `put_line` of write.rt puts a line.
     fn put(self, page: &mut Page<'_>)
         requires { Room 51 page.old }
         ensures { Adds (traced_text self) page.old page.new }

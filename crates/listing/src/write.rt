@@ -56,8 +56,8 @@ pub(crate) fn put_word(index: u64, word: u32, page: &mut Page<'_>)
     put_digits(index, Base::Ten, 7, page);
 }
 
-// Puts the line of a word, of any size: no `parts` splits it, which asks for 20 bits. Its parts are laid on a page of its own, of which the room is known when
-// this is compiled, and the line as one text.
+// Puts the line of a word, of any size: its name is that of the low four bits of its command. Its parts are laid on a page of its own, of which the room is known
+// when this is compiled, and the line as one text.
 fn put_line(index: u64, word: u32, page: &mut Page<'_>)
     requires { Room 26 page.old }
     ensures { Adds (line index word) page.old page.new }

@@ -52,8 +52,8 @@ fn put_words(words: &[u32], j: usize, out: &mut [u8])
 // Keeps a word behind j others: it waits for the next, or is packed with the one that waited for it.
 fn put_kept(waiting: Option<u32>, word: u32, j: usize, out: &mut [u8]) -> Option<u32>
     requires waits { Waits waiting j }
-    requires words_value { fit 20 (word_in waiting ∷ word ∷ []) ≡ true }
     requires words_in_bounds { j % 2 ≡ 1 → 5 * (j / 2) + 5 ≤ length out.old }
+    requires words_value { fit 20 (word_in waiting ∷ word ∷ []) ≡ true }
     ensures stream { out.new ≡ put_waiting (word_in waiting ∷ word ∷ []) j out.old }
     ensures next { result ≡ next_waiting waiting word }
 {

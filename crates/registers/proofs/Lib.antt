@@ -10,3 +10,5 @@ pub mod Layouts
 pub mod Lengths
 -- a rule that holds at each entry of a list holds at every place of it
 pub mod Table
+-- a word of 20 bits is split whole, and of more bits no command is known
+pub mod Words

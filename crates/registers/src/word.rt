@@ -1,5 +1,5 @@
 // Words: a command of four bits and sixteen bits of data.
-ghost use Rattle.std.specs.Prelude.{◌≡◌, ◌/◌, ◌%◌, ◌<◌};
+ghost use Rattle.std.specs.Prelude.{◌≡◌, ◌/◌, ◌%◌};
 ghost use Rattle.registers.specs.Word.{decode, word_of};
 
 // The commands that carry a number of a vertex.
@@ -54,21 +54,18 @@ pub fn decoded(command: u8, data: u16) -> Word
     }
 }
 
-// The command and the data of a word of 20 bits. (That it has no more stands here and at `word_of` and not in a type: words are `u32` in C and in streams, and each
-// caller knows it of `stream`'s `word` or of the bits that it holds.)
+// The command and the data of a word. (A word of more than 20 bits, which no stream has, is split too: its command comes modulo 256, as a `u8` holds it.)
 pub fn parts(word: u32) -> (u8, u16)
-    requires { word < 1048576 }
-    ensures { (result.0 ≡ word / 65536) × (result.1 ≡ word % 65536) }
+    ensures { (result.0 ≡ word / 65536 % 256) × (result.1 ≡ word % 65536) }
 {
-    ((word / 65536) as u8, (word % 65536) as u16)
+    ((word / 65536 % 256) as u8, (word % 65536) as u16)
 }
 
-// What a word of 20 bits means.
-#[tactic(auto, unfolding(crate::specs::Word::word_of))]
+// What a word means. One of more than 20 bits has a command above F hex, which is not known, and the least of them stands for all.
+#[tactic(auto, using(crate::proofs::Words::large_unknown), unfolding(crate::specs::Word::word_of))]
 pub fn word_of(word: u32) -> Word
-    requires { word < 1048576 }
     ensures { result ≡ word_of word }
 {
-    let (command, data) = parts(word);
+    let (command, data) = parts(word.min(1048576));
     decoded(command, data)
 }

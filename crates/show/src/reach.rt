@@ -90,7 +90,6 @@ fn taken(places: usize, s: Came, word: Word) -> Came
 }
 
 // The word at place k of a stream, taken.
-#[tactic(auto, using(stream::proofs::Round::word_fits))]
 fn taken_at(places: usize, s: Came, bytes: &[u8], k: usize) -> Came
     ensures { result ≡ onward places s (word_of (word_at bytes.now k)) }
 {

@@ -41,7 +41,7 @@ fn take(
 }
 
 // The word at place k of a stream, taken and counted.
-#[tactic(auto, using(stream::proofs::Round::word_fits), unfolding(registers::specs::Word::word_of))]
+#[tactic(auto, using(stream::proofs::Round::word_fits, registers::proofs::Words::command_whole), unfolding(registers::specs::Word::word_of))]
 fn take_at(
     r: Registers,
     bytes: &[u8],

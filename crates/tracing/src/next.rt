@@ -49,7 +49,6 @@ fn move_on(run: Ran, answer: Result<Answer, Refusal>) -> Ran
 }
 
 // Takes the next word. (The memories are lent one by one, as `step` takes them, here and in the calls of this crate.)
-#[tactic(auto, using(stream::proofs::Round::word_fits))]
 pub(crate) fn take(run: Ran, bytes: &[u8], im: &mut [u16], zm: &mut [u16]) -> Taken
     requires { is_over bytes.now (told run.outcome) run.index ≡ false }
     ensures { TakesTraced bytes.now (standing run im.old zm.old) result im.new zm.new }

@@ -113,7 +113,6 @@ fn lay(word: Traced, count: u64, before: Numbers, after: Numbers, page: &mut Pag
 }
 
 // Takes the next word and, if it has the pixel, lays its line with the numbers there on a page; does nothing where nothing is left.
-#[tactic(auto, using(stream::proofs::Round::word_fits))]
 pub fn watch(
     pixel: Pixel,
     run: Ran,
