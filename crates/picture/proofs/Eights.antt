@@ -177,7 +177,7 @@ one_counted true n = refl
 one_counted false n = sym (add-zero n)
 
 -- eight numbers summed up, one by one
-eight_sum : (n : List ℕ) → length n ≡ 8
+pub eight_sum : (n : List ℕ) → length n ≡ 8
     → sum_of n ≡ get_or n 0 0 + get_or n 1 0 + get_or n 2 0 + get_or n 3 0 + get_or n 4 0 + get_or n 5 0 + get_or n 6 0 + get_or n 7 0
 eight_sum n eight =
     let whole : n ≡ for_eight (λ k. get_or n k 0) = fill_by_all (λ k. get_or n k 0) n 8 0 eight (λ k l. refl) in

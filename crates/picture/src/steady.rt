@@ -56,12 +56,13 @@ fn count_eight(z: u16, deep: [u16; 8], n: [u16; 8]) -> [u16; 8]
     counted
 }
 
-// Eight numbers summed up.
+// Eight numbers summed up. (Place by place: what hands an array's numbers over one by one is compiled to a copy of them on the stack and a loop over that, at each row.)
+#[tactic(auto, using(crate::proofs::Eights::eight_sum))]
 fn sum_eight(n: [u16; 8]) -> u16
     requires { sum_of n ≤ 65535 }
     ensures { result ≡ sum_of n }
 {
-    n.into_iter().sum()
+    n[0] + n[1] + n[2] + n[3] + n[4] + n[5] + n[6] + n[7]
 }
 
 // The eight pixels from a place on. n has the counts so far.
