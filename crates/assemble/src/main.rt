@@ -5,20 +5,21 @@
 ghost use Rattle.std.specs.Prelude.{◌≤◌, length};
 
 use console::args::count;
-use console::say::{fail, say, tell};
+use console::say::{fail, say_line, tell};
 use console::{piece, recording, take, words};
 use listing::read::{Mood, Reader, read, start};
 use stream::write::pack;
 
 // Writes the recording of some words, or says that it cannot. They were read from five digits each, and there is room for all of them, so that no
-// refusal comes (by reasoning, not by proof).
+// refusal comes (by reasoning, not by proof). (Not compiled into `main`, which would take the stack of a recording before it has read the text.)
+#[inline(never)]
 fn write_packed(rt: &(impl Print + Eprint), words: &[u32]) {
     let mut out = recording();
     match pack(words, &mut out) {
         Ok(n) => tell(rt, "assemble: standard output", rt.write_all(&out[..n])),
         Err(refusal) => {
             let number = u64::from(refusal);
-            say(rt, format_args!("assemble: refusal {number}"));
+            say_line(rt, format_args!("assemble: refusal {number}"));
         }
     }
 }
@@ -32,12 +33,12 @@ fn finish(rt: &(impl Print + Eprint), r: Reader, words: &mut [u32])
         Mood::Words | Mood::Remark => write_packed(rt, &words[..end.held]),
         Mood::NotWord => {
             let line = end.line;
-            say(
+            say_line(
                 rt,
                 format_args!("assemble: line {line}: not a word of five hexadecimal digits"),
             );
         }
-        Mood::NoRoom => say(rt, "assemble: the text has more than 419430 words"),
+        Mood::NoRoom => say_line(rt, "assemble: the text has more than 419430 words"),
     }
 }
 
@@ -60,12 +61,12 @@ fn assemble(rt: &(impl Input + Print + Eprint), words: &mut [u32]) {
             return;
         }
     }
-    say(rt, "assemble: the text has 16777216 bytes or more");
+    say_line(rt, "assemble: the text has 16777216 bytes or more");
 }
 
 fn main(rt: HostRuntime) {
     if 1 < count(&rt) {
-        say(&rt, "usage: assemble < TEXT > RECORDING");
+        say_line(&rt, "usage: assemble < TEXT > RECORDING");
         return;
     }
     let mut words = words();

@@ -10,6 +10,8 @@ pub mod Streams
 pub mod Demands
 -- what words and runs keep, where pixels lie, and how many pass
 pub mod Laws
+-- over memories without places no figure draws anything
+pub mod Nowhere
 -- where no figure is cut a word offers what it did before SECTION, and a cut triangle offers nothing
 pub mod Section
 -- why the line pattern runs on along a line

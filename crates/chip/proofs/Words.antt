@@ -35,6 +35,11 @@ accepted a m = outcome 0 a.passed a.registers m
 abbrev pub answered : Registers → Result Answer Refusal → Memories → Outcome Registers Memories
 answered r a m = outcome (told a) (passed_in a) (registers_in r a) m
 
+-- what was left in two memories was left in the lists that they are
+pub left_as : {refusal passed : ℕ} {next : Registers} {i z i' z' : List ℕ} {made : Outcome Registers Memories} → outcome refusal passed next (memories i z) ≡ made
+    → i' ≡ i → z' ≡ z → outcome refusal passed next (memories i' z') ≡ made
+left_as {refusal = refusal} {passed = passed} {next = next} is same_i same_z = ap₂ (λ (i z : List ℕ). outcome refusal passed next (memories i z)) same_i same_z ∙ is
+
 -- the word that was decoded
 module _ (r : Registers) (w : Word) (i z : List ℕ) {word : Word} (is : word ≡ w) where
   abbrev rows : ℕ

@@ -3,10 +3,11 @@ ghost use Rattle.std.specs.Prelude.{◌≡◌, ◌+◌, ◌*◌};
 ghost use Rattle.picture.specs.Picture.{drawn};
 ghost use Rattle.registers.specs.Next.{pen_of};
 ghost use Rattle.chip.specs.Chip.{style_of, whole_offers, is_cut, figure_offers};
+ghost use Rattle.line.specs.Segment.{segment_offers};
 ghost use Rattle.picture.specs.Lent.{Draws};
 
 use line::{Mode, Style, segment};
-use picture::Memories;
+use picture::{Memories, Pen, Vertex};
 use registers::shape::Completed;
 use registers::{Registers, SECTIONING};
 use triangle::draw::triangle;
@@ -32,6 +33,14 @@ fn style_of(r: Registers) -> Style
     }
 }
 
+// Draws a segment. It is not compiled into what calls it: in one function with the loops of triangles, its loops and those run short of registers.
+#[inline(never)]
+fn draw_segment(pen: Pen, style: Style, a: Vertex, b: Vertex, m: &mut Memories) -> u64
+    ensures { Draws pen (λ rows. segment_offers pen rows style a b) m 0 result }
+{
+    segment(pen, style, a, b, m)
+}
+
 // Draws what a word completed, cut or not. Answers how many pixels passed.
 fn draw_whole(r: Registers, figure: Completed, m: &mut Memories) -> u64
     ensures { Draws (pen_of r) (λ rows. whole_offers rows r figure) m 0 result }
@@ -39,7 +48,7 @@ fn draw_whole(r: Registers, figure: Completed, m: &mut Memories) -> u64
     match figure {
         Completed::Nothing => 0,
         Completed::Triangle(a, b, c) => triangle(r.pen(), r.modes.pmode == 1, a, b, c, m),
-        Completed::Segment(a, b) => segment(r.pen(), style_of(r), a, b, m),
+        Completed::Segment(a, b) => draw_segment(r.pen(), style_of(r), a, b, m),
     }
 }
 
@@ -56,10 +65,13 @@ fn is_cut(r: Registers, figure: Completed) -> bool
     }
 }
 
-// Draws what a word completed, unless it is cut. Answers how many pixels passed.
+// Draws what a word completed, unless it is cut. Answers how many pixels passed. Over memories without places, as `mending` lends them, no figure is even set up.
 pub fn draw(r: Registers, figure: Completed, m: &mut Memories) -> u64
     ensures { Draws (pen_of r) (λ rows. figure_offers rows r figure) m 0 result }
 {
+    if m.i.len() == 0 {
+        return 0;
+    }
     if is_cut(r, figure) {
         return 0;
     }

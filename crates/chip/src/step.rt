@@ -4,8 +4,7 @@ ghost use Rattle.ground.specs.Refusal.{told};
 ghost use Rattle.refusals.specs.Bounds.{in_bounds};
 ghost use Rattle.refusals.specs.Refusal.{refusal_of};
 ghost use Rattle.registers.specs.Word.{decode};
-ghost use Rattle.picture.specs.Lent.{Kept};
-ghost use Rattle.machine.specs.Lent.{found, left, held_in};
+ghost use Rattle.machine.specs.Lent.{found, left};
 ghost use Rattle.chip.specs.Promises.{Takes, passed_in, registers_in};
 
 use crate::draw::draw;
@@ -43,17 +42,17 @@ fn quiet(registers: Registers) -> Answer
     }
 }
 
-// Takes a word that nothing refuses.
-fn take(r: Registers, word: Word, m: &mut Memories) -> Answer
-    requires { refusal_of (length m.old.i.now) (length m.old.z.now) r word ≡ 0 }
-    ensures { Kept m × Takes r word (held_in m.old) 0 result.passed result.registers (held_in m.new) }
+// Takes a word that nothing refuses. The two slices become one struct where something is drawn or stored, and not before, so that LLVM sees here what is known of them.
+fn take(r: Registers, word: Word, im: &mut [u16], zm: &mut [u16]) -> Answer
+    requires { refusal_of (length im.old) (length zm.old) r word ≡ 0 }
+    ensures { Takes r word (found im zm) 0 result.passed result.registers (left im zm) }
 {
     match word {
         Word::Init(d) => quiet(r.init(d)),
         Word::Aux(n) => quiet(r.aux(n)),
         Word::Parm(v) => quiet(r.parm(v)),
         Word::At(c, n) => {
-            let passed = draw(r, r.completed_by(c, n), m);
+            let passed = draw(r, r.completed_by(c, n), &mut Memories { i: im, z: zm });
             Answer {
                 passed,
                 registers: r.coordinate(c, n),
@@ -61,7 +60,7 @@ fn take(r: Registers, word: Word, m: &mut Memories) -> Answer
         }
         Word::Img(d) => quiet(r.img(d)),
         Word::Ptrn(v) => {
-            load(r, v, m);
+            load(r, v, &mut Memories { i: im, z: zm });
             quiet(r.transferred())
         }
         // These are refused, so that none of them comes here.
@@ -69,8 +68,8 @@ fn take(r: Registers, word: Word, m: &mut Memories) -> Answer
     }
 }
 
-// Takes a word, or refuses it and leaves registers and memories as they were. It is lent two slices, which calls for C hand on as they got them, and
-// lends both on in one struct. Command and data come as two numbers too: C sends them so, and `decode` takes them so.
+// Takes a word, or refuses it and leaves registers and memories as they were. It is lent two slices, which calls for C hand on as they got them. Command and data
+// come as two numbers too: C sends them so, and `decode` takes them so.
 pub fn step(
     r: Registers,
     command: u8,
@@ -82,8 +81,7 @@ pub fn step(
 {
     let word = decoded(command, data);
     checked(r, word, im.len(), zm.len())?;
-    let mut m = Memories { i: im, z: zm };
-    Ok(take(r, word, &mut m))
+    Ok(take(r, word, im, zm))
 }
 
 // The same of a decoded word, for a caller that knows that the record breaks no bound and that the memories are of one length: neither is asked
@@ -99,6 +97,5 @@ pub(crate) fn step_kept(
     ensures { Takes r word (found im zm) (told result) (passed_in result) (registers_in r result) (left im zm) }
 {
     judged(r, word)?;
-    let mut m = Memories { i: im, z: zm };
-    Ok(take(r, word, &mut m))
+    Ok(take(r, word, im, zm))
 }

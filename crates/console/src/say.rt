@@ -1,20 +1,35 @@
-// What is said to whoever started the program, line by line on standard error. Whether it is read no contract can say, so that nothing is answered. What is
+// What is said to whoever started the program, on standard error, line by line but for `say`. Whether it is read no contract can say, so that nothing is answered. What is
 // said comes by value: a text, which lends its bytes by `&`, so that they stay by its type; bytes, as `Ascii`; or what `format_args!` puts together.
-ghost use Rattle.std.specs.Prelude.{◌≤◌, length, Some, encode_utf8_all};
+ghost use Rattle.std.specs.Prelude.{◌≡◌, ◌≤◌, length, Some, encode_utf8_all};
 
 use std::fmt::{Display, Write};
 use std::io::{Eprint, Error, Print};
 use std::{fmt, io};
 
+// Any bytes, as they are: a text, or a part of one, since no line's end is added.
+pub fn say(stderr: &impl Print, text: &[u8])
+    ensures { text.now ≡ text.now }
+{
+    let _ = stderr.write_all(text);
+}
+
+// A name and its number.
+pub fn say_number(stderr: &impl Print, name: &[u8], n: u64)
+    ensures { name.now ≡ name.now }
+{
+    say(stderr, name);
+    let _ = stderr.print(n);
+}
+
 // A line.
-pub fn say(rt: &impl Eprint, line: impl Display + Drop) {
+pub fn say_line(rt: &impl Eprint, line: impl Display + Drop) {
     let _ = rt.eprintln(line);
 }
 
 // That a program met a word which is refused: the number that refuses it, and its index. (The number is all that is ever printed of a refusal, so that no `Display` of it would
 // be plainer than `u64::from`.)
 pub fn say_refused(rt: &impl Eprint, program: impl Display + Drop, number: u64, word: u64) {
-    say(
+    say_line(
         rt,
         format_args!("{program}: refusal {number} at word {word}"),
     );
@@ -26,7 +41,7 @@ pub fn refuse(
     program: impl Display + Drop,
     number: u64,
 ) -> io::Result<()> {
-    say(rt, format_args!("{program}: refusal {number}"));
+    say_line(rt, format_args!("{program}: refusal {number}"));
     println!(rt; "refusal {number}")
 }
 
@@ -86,7 +101,7 @@ pub fn fail(rt: &impl Eprint, what: impl Display + Drop, error: Error) {
     // `Front` takes what it has room for, and never fails.
     let _ = write!(why, "{error}");
     let reason = Ascii(bare(&why.text[..why.size]));
-    say(rt, format_args!("{what}: {reason}"));
+    say_line(rt, format_args!("{what}: {reason}"));
 }
 
 // That something failed, and why, if it did.

@@ -5,7 +5,7 @@
 mod text;
 
 use console::args::count;
-use console::say::{fail, say, tell};
+use console::say::{fail, say_line, tell};
 use console::take;
 use text::put_printed;
 
@@ -20,7 +20,7 @@ fn print(rt: &(impl Print + Eprint), bytes: &[u8]) {
 // function of `console` all four would be passed in, and what the next call asks for besides.)
 fn main(rt: HostRuntime) {
     if 1 < count(&rt) {
-        say(&rt, "usage: draw < RECORDING > TEXT");
+        say_line(&rt, "usage: draw < RECORDING > TEXT");
         return;
     }
     let mut bytes = [0u8; 8193];

@@ -7,7 +7,7 @@ mod page;
 ghost use Rattle.std.specs.Prelude.{◌≤◌, length};
 
 use console::args::count;
-use console::say::{fail, refuse, say, tell};
+use console::say::{fail, refuse, say_line, tell};
 use console::{piece, recording, take, words};
 use page::put_page;
 use std::io;
@@ -30,7 +30,7 @@ fn print_words(rt: &impl Print, words: &[u32]) -> io::Result<()>
 // of words either.
 fn print_listing(rt: &(impl Print + Eprint), bytes: &[u8]) -> io::Result<()> {
     if 1048576 < bytes.len() {
-        say(rt, "list: the recording is longer than 1048576 bytes");
+        say_line(rt, "list: the recording is longer than 1048576 bytes");
         return rt.write_all(b"too long\n");
     }
     let mut words = words();
@@ -47,7 +47,7 @@ fn list(rt: &(impl Print + Eprint), bytes: &[u8]) {
 
 fn main(rt: HostRuntime) {
     if 1 < count(&rt) {
-        say(&rt, "usage: list < RECORDING > TEXT");
+        say_line(&rt, "usage: list < RECORDING > TEXT");
         return;
     }
     let mut bytes = recording();

@@ -1,7 +1,6 @@
--- The two memories that a call is lent, as it finds them and as it leaves them: each by itself, or both in one struct.
+-- The two memories that a call is lent, as it finds them and as it leaves them.
 use Rattle.std.specs.Prelude.{ℕ, List}
 use Rattle.std.specs.Borrow.{MutBor}
-use Rattle.picture.specs.declared.Memories.{Memories as Both}
 use Rattle.picture.specs.Lent.{Lent}
 use Rattle.machine.specs.Machine.{Memories, memories}
 
@@ -16,7 +15,3 @@ found im zm = holding im.entry zm.entry
 -- the two memories as a call leaves them
 abbrev pub left : Lent → Lent → Memories
 left im zm = holding im.exit zm.exit
-
--- what the two memories hold that are lent in one struct
-abbrev pub held_in : Both → Memories
-held_in m = holding m.i m.z

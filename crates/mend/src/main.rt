@@ -9,7 +9,7 @@ ghost use Rattle.std.specs.Prelude.{◌≤◌, length};
 ghost use Rattle.mend.specs.Mend.{Enough, Repairs};
 
 use console::args::count;
-use console::say::{fail, say, tell};
+use console::say::{fail, say_line, tell};
 use console::{recording, room, take};
 use mending::{Mended, dextolumen_mend};
 use say::{say_list, say_summary};
@@ -53,7 +53,7 @@ fn write_mended(rt: &(impl Print + Eprint), bytes: &[u8]) -> io::Result<()>
 // Mends the bytes that were read.
 fn mend(rt: &(impl Print + Eprint), bytes: &[u8]) {
     if 1048576 < bytes.len() {
-        say(rt, "mend: the recording is longer than 1048576 bytes");
+        say_line(rt, "mend: the recording is longer than 1048576 bytes");
         return;
     }
     tell(rt, "mend: standard output", write_mended(rt, bytes));
@@ -61,7 +61,7 @@ fn mend(rt: &(impl Print + Eprint), bytes: &[u8]) {
 
 fn main(rt: HostRuntime) {
     if 1 < count(&rt) {
-        say(&rt, "usage: mend < DAMAGED > RECORDING");
+        say_line(&rt, "usage: mend < DAMAGED > RECORDING");
         return;
     }
     let mut bytes = recording();

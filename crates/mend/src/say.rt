@@ -2,7 +2,7 @@
 ghost use Rattle.std.specs.Prelude.{◌≡◌, ◌<◌, length};
 ghost use Rattle.mend.specs.Mend.{Low};
 
-use console::say::{Ascii, say};
+use console::say::{Ascii, say_line};
 use listing::write::list;
 use mending::Mended;
 use stream::read::word;
@@ -15,7 +15,7 @@ fn say_dropped(rt: &impl Eprint, number: u8, index: u64, word: u32)
     // A line has 26 bytes, its end the last, so that it fits.
     let _ = list(index as u32, &[word], &mut line);
     let text = Ascii(&line[..25]);
-    say(rt, format_args!("refusal {number} {text}"));
+    say_line(rt, format_args!("refusal {number} {text}"));
 }
 
 // The lines of all words that were dropped.
@@ -30,7 +30,7 @@ pub(crate) fn say_list(rt: &impl Eprint, bytes: &[u8], indices: &[u64], numbers:
 
 // The last line: how many words were kept and dropped, how many bits were cut, and whether a half byte was cleared.
 pub(crate) fn say_summary(rt: &impl Eprint, kept: usize, told: Mended) {
-    say(
+    say_line(
         rt,
         format_args!(
             "kept {kept} dropped {} cut {} cleared {}",

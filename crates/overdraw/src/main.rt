@@ -11,7 +11,7 @@ ghost use Rattle.std.specs.Prelude.{◌≡◌, ◌≤◌, length};
 ghost use Rattle.overdraw.specs.Report.{Gathered, Printed};
 
 use console::args::count;
-use console::say::{say, tell};
+use console::say::{say_line, tell};
 use file::{Lost, find, say_unread};
 use page::Reached;
 use report::Page;
@@ -61,7 +61,7 @@ fn reported(rt: &(impl Files + Eprint), out: &mut [u8; 418474]) -> usize
 
 fn main(rt: HostRuntime) {
     if 1 < count(&rt) {
-        say(
+        say_line(
             &rt,
             "usage: overdraw, where the recordings 000, 001 and so on stand",
         );

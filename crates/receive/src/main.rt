@@ -6,7 +6,7 @@
 mod text;
 
 use console::args::count;
-use console::say::{fail, say, tell};
+use console::say::{fail, say_line, tell};
 use console::{piece, take};
 use instalments::{Intake, dextolumen_begin, dextolumen_feed};
 use text::put_received;
@@ -47,7 +47,7 @@ fn receive(rt: &(impl Input + Print + Eprint), im: &mut [u16; 8192], zm: &mut [u
 
 fn main(rt: HostRuntime) {
     if 1 < count(&rt) {
-        say(&rt, "usage: receive < RECORDING");
+        say_line(&rt, "usage: receive < RECORDING");
         return;
     }
     let mut im = [0u16; 8192];

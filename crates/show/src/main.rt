@@ -12,7 +12,7 @@ ghost use Rattle.std.specs.Prelude.{◌≤◌, ◌≡◌, unwrap_or};
 
 use arguments::asked;
 use console::args::{argument, count};
-use console::say::{fail, say, tell};
+use console::say::{fail, say_line, tell};
 use console::{blank, recording, take};
 use registers::Registers;
 use std::fmt;
@@ -79,7 +79,7 @@ fn show(rt: &(impl Print + Eprint), wanted: Wanted, bytes: &[u8])
     requires { unwrap_or wanted.places 1048576 ≤ 1048576 }
 {
     if 1048576 < bytes.len() {
-        say(rt, "show: the recording is longer than 1048576 bytes");
+        say_line(rt, "show: the recording is longer than 1048576 bytes");
         return;
     }
     let mut im = blank(0);
@@ -112,6 +112,6 @@ fn main(rt: HostRuntime) {
     );
     match wanted {
         Ok(wanted) => read(&rt, wanted),
-        Err(usage) => say(&rt, usage),
+        Err(usage) => say_line(&rt, usage),
     }
 }

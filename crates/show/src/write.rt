@@ -10,7 +10,7 @@ use crate::page::{page_rows, put_heading, put_page, rows_shown, whole_rows};
 use crate::reach::reach;
 use crate::{Memory, Wanted};
 use chip::run::{Ran, run};
-use console::say::{say, say_refused};
+use console::say::{say_line, say_refused};
 use ground::Refusal;
 use report::to_levels;
 use std::io;
@@ -24,7 +24,7 @@ fn is_of_whole(refusal: Refusal) -> bool {
 fn say_above(rt: &impl Eprint, places: usize, bytes: &[u8], count: usize) {
     if let Some(above) = reach(places, bytes, count) {
         let row = above.height - 1;
-        say(
+        say_line(
             rt,
             format_args!(
                 "show: a vertex lies in row {row}, and the memories have {} rows",
@@ -66,7 +66,7 @@ fn write_levels(
 {
     let kept = rows_shown(wanted.places.is_some(), line, rows, im, zm);
     if kept == 0 {
-        say(rt, "show: no image, since every place is as at the start");
+        say_line(rt, "show: no image, since every place is as at the start");
         return Ok(());
     }
     let n = kept * (line as usize);
@@ -85,7 +85,7 @@ fn write_shown(
 ) -> io::Result<()> {
     let rows = whole_rows(line, im.len());
     if rows == 0 {
-        say(
+        say_line(
             rt,
             "show: no image, since a row has more places than the memory",
         );
@@ -122,7 +122,7 @@ pub(crate) fn write_drawn(
     if let Err(refusal) = end.outcome {
         if is_of_whole(refusal) {
             let number = u64::from(refusal);
-            say(
+            say_line(
                 rt,
                 format_args!(
                     "show: refusal {number} of the whole recording, so that there is no image"
@@ -133,7 +133,7 @@ pub(crate) fn write_drawn(
         say_refused(rt, "show", u64::from(refusal), end.index);
     }
     if end.registers.started == 0 {
-        say(rt, "show: no image, since no INIT was accepted");
+        say_line(rt, "show: no image, since no INIT was accepted");
         return Ok(());
     }
     say_above(rt, im.len(), bytes, end.index as usize);

@@ -8,7 +8,7 @@ mod print;
 
 use arguments::asked;
 use console::args::{argument, count};
-use console::say::{fail, say};
+use console::say::{fail, say_line};
 use console::{recording, take};
 use print::print_trace;
 use std::fmt;
@@ -26,7 +26,9 @@ impl fmt::Display for Usage {
     }
 }
 
-// Traces all words, or those that have a pixel. One byte more than a recording may have is enough to tell that it is too long.
+// Traces all words, or those that have a pixel. One byte more than a recording may have is enough to tell that it is too long. (Not compiled into `main`, which would take
+// the stack of all that is traced before it has looked at the arguments.)
+#[inline(never)]
 fn trace(rt: &(impl Input + Print + Eprint), pixel: Option<Pixel>) {
     let mut bytes = recording();
     match take(rt, &mut bytes) {
@@ -45,6 +47,6 @@ fn main(rt: HostRuntime) {
     );
     match wanted {
         Ok(pixel) => trace(&rt, pixel),
-        Err(usage) => say(&rt, usage),
+        Err(usage) => say_line(&rt, usage),
     }
 }

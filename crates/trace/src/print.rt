@@ -2,7 +2,7 @@
 ghost use Rattle.report.specs.Calls.{OnPage};
 
 use chip::run::Ran;
-use console::say::{refuse, say, say_refused};
+use console::say::{refuse, say_line, say_refused};
 use console::{blank, piece};
 use registers::Registers;
 use report::Page;
@@ -93,7 +93,7 @@ fn print_stream(rt: &(impl Print + Eprint), pixel: Option<Pixel>, bytes: &[u8]) 
 // Traces the bytes that were read. `too long` is no line of a trace.
 pub(crate) fn print_trace(rt: &(impl Print + Eprint), pixel: Option<Pixel>, bytes: &[u8]) {
     if 1048576 < bytes.len() {
-        say(rt, "trace: the recording is longer than 1048576 bytes");
+        say_line(rt, "trace: the recording is longer than 1048576 bytes");
         tell(rt, rt.write_all(b"too long\n"));
         return;
     }

@@ -13,4 +13,4 @@ returns-in-Triangle c =
 
 pub returns-in-Segment : goal.returns-in-Segment
 returns-in-Segment c =
-    (c.segment.ensures.0, segment_drawn c.args.r c.args.m.now.i.now c.args.m.now.z.now c.pen-in-Segment.ensures c.style_of.ensures c.in-Segment.is c.segment.ensures.1)
+    (c.draw_segment.ensures.0, segment_drawn c.args.r c.args.m.now.i.now c.args.m.now.z.now c.pen-in-Segment.ensures c.style_of.ensures c.in-Segment.is c.draw_segment.ensures.1)

@@ -1,0 +1,13 @@
+-- `route::Route::is_inside` meets its contract. Assumes nothing.
+use Rattle.std.proofs.Common.{refl}
+use Rattle.std.proofs.Math.Bool.{and-true, and-false}
+use Rattle.line.specs.Field.{in_field}
+use Rattle.line.proofs.route.Route.is_inside.Goals as goal
+
+pub returns-then-memory : goal.returns-then-memory
+unfolding in_field
+returns-then-memory c = rw (c.if-memory.true, and-true) c.is_in_window.ensures
+
+pub returns-else-memory : goal.returns-else-memory
+unfolding in_field
+returns-else-memory c = rw (c.if-memory.false, and-false) refl
