@@ -8,6 +8,7 @@ use lib.Dec.{leb}
 use lib.ListN.{length}
 use lib.Seq.{sets, length-sets}
 use borrow.Author.Tests.{leb-true, leb-false, le-leb, lt-leb, not-true, not-false}
+use Rattle.report.specs.Text.{last_digits, is_base, digits_in}
 use Rattle.report.specs.Calls.{Put, Adds, Room, OnPage, fits, Laid, Lays}
 use Rattle.report.specs.declared.page.Page.{Page}
 
@@ -98,3 +99,16 @@ put_laid {text} {old} {new} {at} {next} h p =
 -- and so of a page
 pub put_lays : {text : List ℕ} {old new : Page} → Room (length text) old → Lays text old new → Adds text old new
 put_lays h p = record { put = put_laid h p.laid; same = p.same }
+
+-- ---- digits in any base
+
+module _ (base k n : ℕ) where
+  -- in a base they are the number's last digits
+  pub digits_in_base : is_base base ≡ true → digits_in base k n ≡ last_digits base k n
+  unfolding digits_in
+  digits_in_base e = rw e refl
+
+  -- in a number that is no base there are none
+  pub digits_in_none : is_base base ≡ false → digits_in base k n ≡ []
+  unfolding digits_in
+  digits_in_none e = rw e refl

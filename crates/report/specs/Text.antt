@@ -1,5 +1,5 @@
 -- The text of a run (document 01, "Examples", the drawing program): bytes in ASCII, of which 32 is a space and 10 ends a line.
-use Rattle.std.specs.Prelude.{ℕ, zero, suc, ◌+◌, ◌/◌, ◌%◌, cond, List, [], ◌∷◌, ◌++◌, length, get_or, ltb, eqb}
+use Rattle.std.specs.Prelude.{ℕ, zero, suc, ◌+◌, ◌/◌, ◌%◌, Bool, cond, ◌&&◌, List, [], ◌∷◌, ◌++◌, length, get_or, ltb, leb, eqb}
 use Rattle.report.specs.declared.number.Base.{Base}
 use Rattle.report.specs.declared.number.Base.TheVariants.{Ten, Sixteen}
 use Rattle.report.specs.declared.place.Place.{Place}
@@ -27,6 +27,14 @@ glyph d = cond (ltb d 10) (48 + d) (55 + d)
 unfoldable pub last_digits : ℕ → ℕ → ℕ → List ℕ
 last_digits base zero n = []
 last_digits base (suc k) n = last_digits base k (n / base) ++ (glyph (n % base) ∷ [])
+
+-- the bases that have digits, and a character for each: 1 to 16
+abbrev pub is_base : ℕ → Bool
+is_base base = ltb 0 base && leb base 16
+
+-- the last k digits of a number in such a base; in another there are none
+unfoldable pub digits_in : ℕ → ℕ → ℕ → List ℕ
+digits_in base k n = cond (is_base base) (last_digits base k n) []
 
 -- a base, as a number
 abbrev pub radix : Base → ℕ

@@ -3,21 +3,21 @@ use Rattle.report.proofs.Decimal.{length_digits}
 use Rattle.report.proofs.Laying.{has, lays_none, lays_put}
 use Rattle.report.proofs.page.Page.lay_digits.Goals as goal
 
-pub put_digits-requires-clause-count_in_bounds : goal.put_digits-requires-clause-count_in_bounds
-put_digits-requires-clause-count_in_bounds c = has c.args.self.now _ c.has_room.ensures c.if-has_room.true
+pub put_last_digits-requires-clause-count_in_bounds : goal.put_last_digits-requires-clause-count_in_bounds
+put_last_digits-requires-clause-count_in_bounds c = has c.args.self.now _ c.has_room.ensures c.if-has_room.true
 
-pub put_digits-requires-in-Sixteen-clause-count_in_bounds : goal.put_digits-requires-in-Sixteen-clause-count_in_bounds
-put_digits-requires-in-Sixteen-clause-count_in_bounds c = has c.args.self.now _ c.has_room.ensures c.if-has_room.true
+pub put_last_digits-requires-in-Sixteen-clause-count_in_bounds : goal.put_last_digits-requires-in-Sixteen-clause-count_in_bounds
+put_last_digits-requires-in-Sixteen-clause-count_in_bounds c = has c.args.self.now _ c.has_room.ensures c.if-has_room.true
 
 pub returns-in-Ten : goal.returns-in-Ten
 returns-in-Ten c =
     let a = c.args in
-    rw c.in-Ten.is (lays_put _ _ (length_digits 10 a.count a.n) c.has_room.ensures c.if-has_room.true c.put_digits.ensures)
+    rw c.in-Ten.is (lays_put _ _ (length_digits 10 a.count a.n) c.has_room.ensures c.if-has_room.true c.put_last_digits.ensures)
 
 pub returns-in-Sixteen : goal.returns-in-Sixteen
 returns-in-Sixteen c =
     let a = c.args in
-    rw c.in-Sixteen.is (lays_put _ _ (length_digits 16 a.count a.n) c.has_room.ensures c.if-has_room.true c.put_digits-in-Sixteen.ensures)
+    rw c.in-Sixteen.is (lays_put _ _ (length_digits 16 a.count a.n) c.has_room.ensures c.if-has_room.true c.put_last_digits-in-Sixteen.ensures)
 
 pub returns-else-has_room : goal.returns-else-has_room
 returns-else-has_room c =

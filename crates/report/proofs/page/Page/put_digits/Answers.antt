@@ -1,28 +1,23 @@
--- `page::Page::put_digits` meets its contract. The invariant of its loop: the digits of the rest are left to store. Assumes nothing.
-use Rattle.std.proofs.Common.{◌≡◌, ℕ, ◌+◌, ◌-◌, sym, ap, ◌∙◌, arith}
+-- `page::Page::put_digits` meets its contract: the digits are put where both tests pass, that of the base and that of the room. Assumes nothing.
+use Rattle.std.proofs.Common.{◌∙◌, sym}
 use Rattle.report.proofs.Decimal.{length_digits}
-use Rattle.report.proofs.Putting.{put_last, put_all}
+use Rattle.report.proofs.Laying.{digits_in_base, digits_in_none, lays_none, lays_nothing, lays_put}
 use Rattle.report.proofs.page.Page.put_digits.Goals as goal
+use Rattle.report.proofs.page.Page.put_digits.Goals.{else-is_base-via-then-is_base+else-has_room, else-is_base-via-else-is_base}
 
-pub loop-k-preserved : goal.loop-k-preserved
-loop-k-preserved c =
+pub returns-then-has_room-clause-lays : goal.returns-then-has_room-clause-lays
+returns-then-has_room-clause-lays c =
     let a = c.args in
-    let one : c.loop-k.k - 1 + 1 ≡ c.loop-k.k = omega arith in
-    let here = c.loop-k.invariant.at in
-    record {
-      put = rw here (rw one at (put_last a.base (c.loop-k.k - 1) c.loop-k.rest a.self.now.at c.loop-k.self.out.now c.character.ensures)) ∙ c.loop-k.invariant.put;
-      at = here;
-      same = c.loop-k.invariant.same;
-    }
+    let based = digits_in_base a.base a.count a.n (sym c.is_base.ensures ∙ c.if-is_base.true) in
+    rw based (lays_put _ _ (length_digits a.base a.count a.n) c.has_room.ensures c.if-has_room.true c.put_last_digits.ensures)
 
-pub returns : goal.returns
-returns c =
+pub returns-else-is_base-clause-lays : goal.returns-else-is_base-clause-lays
+returns-else-is_base-clause-lays c =
     let a = c.args in
-    let none : c.loop-k.k ≡ 0 = omega arith in
-    record {
-      put = record {
-        stands = sym (put_all a.base c.loop-k.rest a.self.now.at c.loop-k.self.out.now) ∙ rw none at c.loop-k.invariant.put;
-        ends = ap (λ (k : ℕ). k + a.count) c.loop-k.invariant.at ∙ ap (λ (k : ℕ). a.self.now.at + k) (sym (length_digits a.base a.count a.n));
-      };
-      same = c.loop-k.invariant.same;
-    }
+    elim c.else-is_base.branch [
+      | else-is_base-via-then-is_base+else-has_room w ↦
+          rw (digits_in_base a.base a.count a.n (sym c.is_base.ensures ∙ w.if-is_base.true))
+          (lays_none _ _ (length_digits a.base a.count a.n) w.has_room.ensures w.if-has_room.false)
+      | else-is_base-via-else-is_base w ↦
+          rw (digits_in_none a.base a.count a.n (sym c.is_base.ensures ∙ w.if-is_base.false)) (lays_nothing a.self.now)
+    ]
