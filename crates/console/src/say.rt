@@ -1,5 +1,5 @@
-// What is said to whoever started the program, on standard error, line by line but for `say`. Whether it is read no contract can say, so that nothing is answered. What is
-// said comes by value: a text, which lends its bytes by `&`, so that they stay by its type; bytes, as `Ascii`; or what `format_args!` puts together.
+// What is said to whoever started the program, on standard error. Whether it is read no contract can say, so that nothing is answered. `say` and `say_number` are lent bytes, which stay, and end no
+// line. All else says whole lines, and takes what is said by value: a text, which lends its bytes by `&`, so that they stay by its type; bytes, as `Ascii`; or what `format_args!` puts together.
 ghost use Rattle.std.specs.Prelude.{◌≡◌, ◌≤◌, length, Some, encode_utf8_all};
 
 use std::fmt::{Display, Write};

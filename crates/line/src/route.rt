@@ -167,7 +167,7 @@ impl Route {
 
     // Whether pixel (x, y) is inside the window and the memory, as `is_within` tells it of a segment's ends. Here the window is asked only where the memory has the pixel:
     // of all comparisons in one, LLVM makes some thirty instructions on vectors at each step.
-    fn is_inside(self, pen: Pen, x: u16, y: u16) -> bool
+    fn is_in_field(self, pen: Pen, x: u16, y: u16) -> bool
         ensures { result ≡ in_field pen self.rows x y }
     {
         let memory = (x < pen.frame.line) & ((y as usize) < self.rows);
@@ -181,7 +181,7 @@ impl Route {
         match way {
             Way::Rows | Way::Tiles => true,
             Way::Shares => self.part.has_place(at),
-            Way::Asked => self.is_inside(pen, column_of(at), row_of(at)),
+            Way::Asked => self.is_in_field(pen, column_of(at), row_of(at)),
         }
     }
 

@@ -1,8 +1,8 @@
--- `route::Route::is_inside` meets its contract. Assumes nothing.
+-- `route::Route::is_in_field` meets its contract: where the memory has the pixel the window decides. Assumes nothing.
 use Rattle.std.proofs.Common.{refl}
 use Rattle.std.proofs.Math.Bool.{and-true, and-false}
 use Rattle.line.specs.Field.{in_field}
-use Rattle.line.proofs.route.Route.is_inside.Goals as goal
+use Rattle.line.proofs.route.Route.is_in_field.Goals as goal
 
 pub returns-then-memory : goal.returns-then-memory
 unfolding in_field
